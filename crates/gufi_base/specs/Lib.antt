@@ -1,0 +1,9 @@
+pub mod Limits
+pub mod Words
+pub mod Names
+pub mod PathTexts
+pub mod Paths
+pub mod Numbers
+pub mod Rows
+pub mod Delimiters
+pub mod TraceRows

@@ -1,0 +1,5 @@
+pub mod Tree
+pub mod Stored
+pub mod Build
+pub mod Resolve
+pub mod Listed
