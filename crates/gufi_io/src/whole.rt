@@ -1,5 +1,5 @@
 //! Whole files and whole texts.
-ghost use Rattle.std.specs.Prelude.{◌≡◌, ◌≤◌, ◌<◌, ℕ, List, length, IfOk, IfErr, OnOk, OnErr, IsTrue};
+ghost use Rattle.std.specs.Prelude.{◌≡◌, ◌≤◌, ◌<◌, ℕ, List, length, vec_len, IfOk, IfErr, OnOk, OnErr, IsTrue};
 ghost use Rattle.std.specs.Io.KnownBytes.{Appends};
 ghost use Rattle.gufi_io.specs.Causes.{Rose};
 ghost use Rattle.gufi_io.specs.Files.{Holds, TakesFront};
@@ -68,7 +68,7 @@ pub fn read_all<F: Shelf>(
     ensures absents { F.absents shelf.old ≤ F.absents shelf.new }
 {
     shelf.open_file(name)?;
-    let mut buffer = vec![in alloc; 0; PIECE]?;
+    let mut buffer = piece_buffer(alloc)?;
     let room = buffer.as_mut_slice();
     let mut bytes = Vec::new(alloc);
     'pieces: while bytes.len() <= max as usize {
@@ -80,6 +80,13 @@ pub fn read_all<F: Shelf>(
         bytes.extend_from_slice(piece)?;
     }
     Err(ReadError::TooLong { bytes })
+}
+
+// A buffer for the pieces of a file.
+fn piece_buffer(alloc: Global) -> Result<Vec<u8>, AllocError>
+    ensures { IfOk result (λ buffer. 0 < vec_len buffer) }
+{
+    vec![in alloc; 0; PIECE]
 }
 
 /// The sink failed before it had taken all.
