@@ -1,24 +1,13 @@
 -- The principals that decide whether one directory covers another.
 use Rattle.std.specs.Prelude.{ℕ, Bool, not, ◌==◌, ◌&&◌, ◌||◌, if◌then◌else◌, [], ◌∷◌}
 use Rattle.gufi_access.specs.declared.class.Principal.{Principal}
-use Rattle.gufi_access.specs.Access.{Rights, Lists, can_list, principal}
+use Rattle.gufi_access.specs.Access.{Rights, can_list, principal}
 
 -- this principal may list c, if it may list d
-abbrev pub Keeps : Principal → Rights → Rights → Type 0
-Keeps who d c = Lists who d → Lists who c
-
--- so does each principal with this uid and some of the groups of d and c
-unfoldable pub KeepsFor : ℕ → Rights → Rights → Type 0
-KeepsFor uid d c =
-    Keeps (principal uid []) d c
-    × Keeps (principal uid (d.gid ∷ [])) d c
-    × Keeps (principal uid (c.gid ∷ [])) d c
-    × Keeps (principal uid (d.gid ∷ c.gid ∷ [])) d c
-
--- the same as tests
 abbrev pub keeps : Principal → Rights → Rights → Bool
 keeps who d c = not (can_list who d) || can_list who c
 
+-- so does each principal with this uid and some of the groups of d and c
 unfoldable pub keeps_for : ℕ → Rights → Rights → Bool
 keeps_for uid d c =
     keeps (principal uid []) d c

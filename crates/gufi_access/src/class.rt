@@ -1,4 +1,6 @@
 //! The class of a principal for a file, and what its bits grant.
+ghost use Rattle.std.specs.Prelude.{◌≡◌};
+ghost use Rattle.gufi_access.specs.Access.{rights, class_for, class_bits, is_granted, can_list, principal};
 
 use crate::groups::Groups;
 
@@ -23,4 +25,64 @@ pub enum Class {
     Owner,
     Group,
     Other,
+}
+
+/// The class that decides alone: the owner's, else the group's, else the others'. Goes through the groups once.
+pub fn class_of(who: &Principal, of: &Guard) -> Class
+    ensures { result ≡ class_for who.now (rights of.now) }
+{
+    class_as(who.uid, who.groups.as_slice(), of)
+}
+
+/// Whether every bit of `want` is granted, of read 4, write 2 and search 1. The uid 0 is granted all.
+pub fn granted(who: &Principal, of: &Guard, want: u8) -> bool
+    ensures { result ≡ is_granted who.now (rights of.now) want }
+{
+    granted_as(who.uid, who.groups.as_slice(), of, want)
+}
+
+/// Whether a directory may be listed: read and search are both granted.
+pub fn lists(who: &Principal, of: &Guard) -> bool
+    ensures { result ≡ can_list who.now (rights of.now) }
+{
+    lists_as(who.uid, who.groups.as_slice(), of)
+}
+
+#[tactic(auto, unfolding(crate::specs::Access::class_for))]
+fn class_as(uid: u32, groups: &[u32], of: &Guard) -> Class
+    ensures { result ≡ class_for (principal uid groups.now) (rights of.now) }
+{
+    if uid == of.uid {
+        Class::Owner
+    } else if groups.contains(&of.gid) {
+        Class::Group
+    } else {
+        Class::Other
+    }
+}
+
+// The three bits of a class.
+fn bits_of(class: Class, mode: u16) -> u8
+    ensures { result ≡ class_bits class mode }
+{
+    let shifted = match class {
+        Class::Owner => mode >> 6,
+        Class::Group => mode >> 3,
+        Class::Other => mode,
+    };
+    (shifted & 7) as u8
+}
+
+#[tactic(auto, unfolding(crate::specs::Access::is_granted))]
+fn granted_as(uid: u32, groups: &[u32], of: &Guard, want: u8) -> bool
+    ensures { result ≡ is_granted (principal uid groups.now) (rights of.now) want }
+{
+    uid == 0 || bits_of(class_as(uid, groups, of), of.mode) & want == want
+}
+
+#[tactic(auto, unfolding(crate::specs::Access::can_list))]
+pub(crate) fn lists_as(uid: u32, groups: &[u32], of: &Guard) -> bool
+    ensures { result ≡ can_list (principal uid groups.now) (rights of.now) }
+{
+    granted_as(uid, groups, of, 5)
 }

@@ -1,11 +1,16 @@
-//! Who may read and search a directory (POSIX.1-2017 XBD 4.5).
+//! Who may read and search a directory (POSIX.1-2017 XBD 4.5), and which directory covers which.
 //!
 //! Contracts see a principal as a uid and a list of groups, and a guard as the rights that it states.
 //! It stands on no crate of the index; trees, queries and sessions stand on it.
 #![tactic(auto)]
 
 mod class;
+mod cover;
 mod groups;
 
-pub use class::{Class, Guard, Principal};
+pub use class::{Class, Guard, Principal, class_of, granted, lists};
+pub use cover::covers;
 pub use groups::Groups;
+
+#[cfg(test)]
+mod tests;
