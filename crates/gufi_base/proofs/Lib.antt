@@ -1,0 +1,17 @@
+pub mod Below
+pub mod Blocks
+pub mod Cuts
+pub mod Decimals
+pub mod Digits
+pub mod GoesOn
+pub mod Names
+pub mod Orders
+pub mod Parts
+pub mod Permutations
+pub mod PlainTexts
+pub mod Prefixes
+pub mod SameRow
+pub mod SortedOnce
+pub mod Sorting
+pub mod SplitParts
+pub mod Texts

@@ -2,8 +2,11 @@ pub mod Limits
 pub mod Words
 pub mod Names
 pub mod PathTexts
+pub mod TextOrder
+pub mod PlainTexts
 pub mod Paths
 pub mod Numbers
+pub mod Kinds
 pub mod Rows
 pub mod Delimiters
 pub mod TraceRows

@@ -1,49 +1,15 @@
 -- Records and rows: one row for each directory and each entry.
-use Rattle.std.specs.Prelude.{◌≡◌, ℕ, ◌^◌, ℤ, pos, neg_ℤ, int_lt, int_le, ◌-◌, Bool, true, false, ◌==◌, ◌&&◌, nat_lt, nat_le, List, [], ◌∷◌, length, IsTrue, Option, Some, None, if◌then◌else◌}
+use Rattle.std.specs.Prelude.{◌≡◌, ℕ, ◌^◌, ℤ, pos, neg_ℤ, int_lt, int_le, ◌-◌, Bool, ◌&&◌, nat_lt, nat_le, List, length, IsTrue, if◌then◌else◌}
 use Rattle.std.specs.List.{list_all}
 use Rattle.std.specs.declared.cmp.Ordering.{Ordering}
-use Rattle.gufi_base.specs.declared.record.Kind.{Kind}
-use Rattle.gufi_base.specs.declared.record.Kind.TheVariants.{Block, Char, Dir, Link, Fifo, File, Socket}
 use Rattle.gufi_base.specs.declared.record.Rec.{Rec}
 use Rattle.gufi_base.specs.declared.record.Row.{Row}
 use Rattle.gufi_base.specs.declared.record.RowRef.{RowRef}
 use Rattle.gufi_base.specs.Limits.{max_link}
+pub use Rattle.gufi_base.specs.Kinds.{kind_letter, kind_of_letter, read_kind, is_dir, is_file, is_link}
 use Rattle.gufi_base.specs.Words.{sort_by}
 use Rattle.gufi_base.specs.Names.{is_name, is_path_byte}
 use Rattle.gufi_base.specs.Paths.{Components, path_cmp, parent_path, base_name, stem}
-
--- the letter of a type in a trace and in `-type`: b c d l p f s
-abbrev pub kind_letter : Kind → ℕ
-kind_letter Block = 98
-kind_letter Char = 99
-kind_letter Dir = 100
-kind_letter Link = 108
-kind_letter Fifo = 112
-kind_letter File = 102
-kind_letter Socket = 115
-
-abbrev pub kind_of_letter : ℕ → Option Kind
-kind_of_letter c =
-    if c == 98 then Some Block else if c == 99 then Some Char else if c == 100 then Some Dir else if c == 108 then Some Link
-    else if c == 112 then Some Fifo else if c == 102 then Some File else if c == 115 then Some Socket else None
-
--- the type that a one-byte text names
-abbrev pub read_kind : List ℕ → Option Kind
-read_kind [] = None
-read_kind (c ∷ []) = kind_of_letter c
-read_kind (c ∷ d ∷ rest) = None
-
-abbrev pub is_dir : Kind → Bool
-is_dir Dir = true
-is_dir _ = false
-
-abbrev pub is_file : Kind → Bool
-is_file File = true
-is_file _ = false
-
-abbrev pub is_link : Kind → Bool
-is_link Link = true
-is_link _ = false
 
 -- a mode of 12 bits, and a link of at most 4,096 bytes without 0x00 and newline
 abbrev pub is_well_formed : Rec → Bool

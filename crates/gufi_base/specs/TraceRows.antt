@@ -5,7 +5,7 @@ use Rattle.std.specs.List.{join_with_byte}
 use Rattle.gufi_base.specs.declared.record.Row.{Row}
 use Rattle.gufi_base.specs.Words.{line}
 use Rattle.gufi_base.specs.Paths.{Components, path_text}
-use Rattle.gufi_base.specs.Rows.{kind_letter}
+use Rattle.gufi_base.specs.Kinds.{kind_letter}
 
 abbrev pub row_fields : Components → Row → List (List ℕ)
 row_fields root row =

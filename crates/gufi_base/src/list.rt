@@ -1,5 +1,8 @@
 //! Lists that contracts see as lists.
 
+ghost use Rattle.std.specs.Prelude.{◌≡◌, IfOk, string_bytes};
+
+use std::alloc::{AllocError, Global};
 use std::marker::Model;
 
 /// Bytes.
@@ -16,6 +19,35 @@ impl Model for Bytes {
     ghost view = { λ a. a.items.items };
 }
 
+impl Bytes {
+    /// A copy of the bytes.
+    pub fn from_slice(alloc: Global, bytes: &[u8]) -> Result<Bytes, AllocError>
+        ensures { IfOk result (λ copy. copy ≡ bytes.now) }
+    {
+        let items = Vec::from_slice(alloc, bytes)?;
+        Ok(Bytes { items })
+    }
+
+    /// The bytes of the `Vec`.
+    pub fn of(items: Vec<u8>) -> Bytes
+        ensures { result ≡ items.items }
+    {
+        Bytes { items }
+    }
+
+    pub fn as_slice(&self) -> &[u8]
+        ensures { result.now ≡ self.now }
+    {
+        self.items.as_slice()
+    }
+
+    pub fn into_vec(self) -> Vec<u8>
+        ensures { result.items ≡ self }
+    {
+        self.items
+    }
+}
+
 /// A text, seen as its bytes.
 #[derive(Drop)]
 pub struct Text {
@@ -28,6 +60,20 @@ impl Model for Text {
     ghost Value = { List ℕ };
 
     ghost view = { λ a. string_bytes a.text };
+}
+
+impl Text {
+    pub fn of(text: String) -> Text
+        ensures { result ≡ string_bytes text }
+    {
+        Text { text }
+    }
+
+    pub fn as_str(&self) -> &str
+        ensures { result.now ≡ self.now }
+    {
+        self.text.as_str()
+    }
 }
 
 /// Numbers.
@@ -44,6 +90,26 @@ impl Model for Nums {
     ghost view = { λ a. a.items.items };
 }
 
+impl Nums {
+    pub fn of(items: Vec<u32>) -> Nums
+        ensures { result ≡ items.items }
+    {
+        Nums { items }
+    }
+
+    pub fn as_slice(&self) -> &[u32]
+        ensures { result.now ≡ self.now }
+    {
+        self.items.as_slice()
+    }
+
+    pub fn into_vec(self) -> Vec<u32>
+        ensures { result.items ≡ self }
+    {
+        self.items
+    }
+}
+
 /// Items of any type.
 #[derive(Drop)]
 pub struct Items<T: Drop> {
@@ -56,4 +122,24 @@ impl<T: Drop> Model for Items<T> {
     ghost Value = { List T };
 
     ghost view = { λ a. a.items.items };
+}
+
+impl<T: Drop> Items<T> {
+    pub fn of(items: Vec<T>) -> Items<T>
+        ensures { result ≡ items.items }
+    {
+        Items { items }
+    }
+
+    pub fn as_slice(&self) -> &[T]
+        ensures { result.now ≡ self.now }
+    {
+        self.items.as_slice()
+    }
+
+    pub fn into_vec(self) -> Vec<T>
+        ensures { result.items ≡ self }
+    {
+        self.items
+    }
 }

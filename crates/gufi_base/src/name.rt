@@ -1,5 +1,14 @@
 //! File names (POSIX.1-2017 XBD 3.170).
 
+ghost use Rattle.std.specs.Prelude.{◌≡◌, ◌&&◌, ◌||◌, not, nat_le, bytes_eq, length, IsTrue};
+ghost use Rattle.std.specs.List.{list_all};
+ghost use Rattle.std.specs.Ordering.{nat_cmp};
+ghost use Rattle.std.specs.Cmp.Lexicographic.{slice_cmp};
+ghost use Rattle.gufi_base.specs.Words.{GivesUnless, is_empty as has_no_element};
+ghost use Rattle.gufi_base.specs.Names.{name_of, is_name, is_name_byte, dot, dot_dot};
+
+use std::alloc::{AllocError, Global};
+use std::cmp::Ordering;
 use std::marker::Model;
 
 /// One component of a path: 1 to 255 bytes without 0x00, newline and `/`, neither `.` nor `..`.
@@ -25,4 +34,79 @@ pub enum NameFault {
     Bad,
     Long,
     Memory,
+}
+
+impl From<AllocError> for NameFault {
+    ghost use Rattle.std.specs.Prelude.{◌≡◌};
+    ghost use Rattle.gufi_base.specs.declared.name.NameFault.TheVariants.{Memory};
+
+    ghost from_gives = { λ _ e. e ≡ Memory };
+
+    fn from(_: AllocError) -> NameFault {
+        NameFault::Memory
+    }
+}
+
+fn are_name_bytes(bytes: &[u8]) -> bool
+    ensures { result ≡ list_all is_name_byte bytes.now }
+{
+    bytes.iter().all(|b| *b != 0 && *b != 10 && *b != 47)
+}
+
+fn has_name_length(bytes: &[u8]) -> bool
+    ensures { result ≡ not (has_no_element bytes.now) && nat_le (length bytes.now) 255 }
+{
+    !bytes.is_empty() && bytes.len() <= 255
+}
+
+fn is_dots(bytes: &[u8]) -> bool
+    ensures { result ≡ bytes_eq bytes.now dot || bytes_eq bytes.now dot_dot }
+{
+    bytes == b".".as_slice() || bytes == b"..".as_slice()
+}
+
+/// Whether the bytes are a name.
+pub(crate) fn is_name(bytes: &[u8]) -> bool
+    ensures { result ≡ is_name bytes.now }
+{
+    has_name_length(bytes) && are_name_bytes(bytes) && !is_dots(bytes)
+}
+
+impl Name {
+    /// The name that the bytes are.
+    pub fn of(alloc: Global, bytes: &[u8]) -> Result<Name, NameFault>
+        ensures { GivesUnless NameFault.Memory result (name_of bytes.now) }
+    {
+        if bytes.len() > 255 {
+            return Err(NameFault::Long);
+        }
+        if !is_name(bytes) {
+            return Err(NameFault::Bad);
+        }
+        let bytes = Vec::from_slice(alloc, bytes)?;
+        Ok(Name { bytes })
+    }
+
+    /// The name whose bytes a `Vec` holds.
+    pub(crate) fn of_bytes(bytes: Vec<u8>) -> Name
+        requires { IsTrue (is_name bytes.items) }
+        ensures { result ≡ bytes.items }
+    {
+        Name { bytes }
+    }
+
+    /// Its bytes.
+    pub fn as_slice(&self) -> &[u8]
+        ensures value { result.now ≡ self.now }
+        ensures name { IsTrue (is_name self.now) }
+    {
+        self.bytes.as_slice()
+    }
+}
+
+/// The order of names, which is that of their bytes.
+pub fn name_cmp(a: &Name, b: &Name) -> Ordering
+    ensures { result ≡ slice_cmp nat_cmp a.now b.now }
+{
+    a.as_slice().cmp(b.as_slice())
 }

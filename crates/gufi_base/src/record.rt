@@ -1,5 +1,8 @@
 //! Records of files, rows and lines.
 
+ghost use Rattle.std.specs.Prelude.{◌≡◌};
+ghost use Rattle.gufi_base.specs.Kinds.{is_dir, kind_letter, read_kind};
+
 use crate::list::Bytes;
 use crate::path::Path;
 
@@ -13,6 +16,45 @@ pub enum Kind {
     Fifo,
     File,
     Socket,
+}
+
+impl Kind {
+    pub fn is_dir(self) -> bool
+        ensures { result ≡ is_dir self }
+    {
+        matches!(self, Kind::Dir)
+    }
+
+    /// The letter of the type in a trace: `b c d l p f s`.
+    pub fn letter(self) -> u8
+        ensures { result ≡ kind_letter self }
+    {
+        match self {
+            Kind::Block => b'b',
+            Kind::Char => b'c',
+            Kind::Dir => b'd',
+            Kind::Link => b'l',
+            Kind::Fifo => b'p',
+            Kind::File => b'f',
+            Kind::Socket => b's',
+        }
+    }
+}
+
+/// The type that a text of one letter names.
+pub fn read_kind(text: &[u8]) -> Option<Kind>
+    ensures { result ≡ read_kind text.now }
+{
+    match text {
+        [b'b'] => Some(Kind::Block),
+        [b'c'] => Some(Kind::Char),
+        [b'd'] => Some(Kind::Dir),
+        [b'l'] => Some(Kind::Link),
+        [b'p'] => Some(Kind::Fifo),
+        [b'f'] => Some(Kind::File),
+        [b's'] => Some(Kind::Socket),
+        _ => None,
+    }
 }
 
 /// What a file system says of a file: sizes in bytes, blocks of 512 bytes, times in seconds since the epoch.

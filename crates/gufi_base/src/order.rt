@@ -1,0 +1,94 @@
+//! The order of paths, which takes no memory.
+
+ghost use Rattle.std.specs.Prelude.{◌≡◌, ◌≢◌, ◌+◌, ◌<◌, ◌≤◌, length, take, drop, slice_index, bytes_eq, IsTrue};
+ghost use Rattle.std.specs.Bool.{OnTrue};
+ghost use Rattle.std.specs.List.{list_all};
+ghost use Rattle.std.specs.Cmp.Lexicographic.{slice_cmp};
+ghost use Rattle.gufi_base.specs.Names.{is_name};
+ghost use Rattle.gufi_base.specs.Paths.{Components, path_cmp};
+ghost use Rattle.gufi_base.specs.PathTexts.{kept_text};
+ghost use Rattle.gufi_base.specs.TextOrder.{rank, slash_first};
+
+use crate::path::Path;
+use std::cmp::Ordering;
+use std::simd::prelude::*;
+
+/// Names end before they go on, so a slash is the least byte.
+fn rank(byte: u8) -> u16
+    ensures { result ≡ rank byte }
+{
+    if byte == b'/' { 0 } else { u16::from(byte) + 1 }
+}
+
+/// Whether two texts have the same sixteen bytes at a place.
+#[inline]
+fn same_block(a: &[u8], b: &[u8], at: usize) -> bool
+    requires in_a { at + 16 ≤ length a.now }
+    requires in_b { at + 16 ≤ length b.now }
+    ensures { OnTrue result (take 16 (drop at a.now) ≡ take 16 (drop at b.now)) }
+{
+    let left = u8x16::from_slice(&a[at..]);
+    let right = u8x16::from_slice(&b[at..]);
+    left.simd_eq(right).all()
+}
+
+/// How many bytes two texts begin with alike.
+fn common_front(a: &[u8], b: &[u8]) -> usize
+    ensures same { take result a.now ≡ take result b.now }
+    ensures within_a { result ≤ length a.now }
+    ensures within_b { result ≤ length b.now }
+    ensures most { result < length a.now → result < length b.now → slice_index a.now result ≢ slice_index b.now result }
+{
+    let mut same = 0;
+    'by_blocks: while same + 16 <= a.len() && same + 16 <= b.len() && same_block(a, b, same) {
+        same += 16;
+    }
+    'by_bytes: while same < a.len() && same < b.len() && a[same] == b[same] {
+        same += 1;
+    }
+    same
+}
+
+/// Whether two texts are the same.
+pub(crate) fn same_bytes(a: &[u8], b: &[u8]) -> bool
+    ensures { result ≡ bytes_eq a.now b.now }
+{
+    if a.len() != b.len() {
+        return false;
+    }
+    common_front(a, b) == a.len()
+}
+
+/// The order of texts in which a slash is the least byte.
+fn compare(a: &[u8], b: &[u8]) -> Ordering
+    ensures { result ≡ slice_cmp slash_first a.now b.now }
+{
+    let same = common_front(a, b);
+    if same == b.len() {
+        return if same == a.len() {
+            Ordering::Equal
+        } else {
+            Ordering::Greater
+        };
+    }
+    if same == a.len() {
+        return Ordering::Less;
+    }
+    rank(a[same]).cmp(&rank(b[same]))
+}
+
+/// The order of the paths whose kept texts these are.
+pub fn text_cmp(a: &[u8], b: &[u8]) -> Ordering
+    ensures bytes { result ≡ slice_cmp slash_first a.now b.now }
+    ensures paths { (p q : Components) → IsTrue (list_all is_name p) → IsTrue (list_all is_name q)
+        → a.now ≡ kept_text p → b.now ≡ kept_text q → result ≡ path_cmp p q }
+{
+    compare(a, b)
+}
+
+/// The order of paths: component by component, each by its bytes, a proper prefix first.
+pub fn path_cmp(a: &Path, b: &Path) -> Ordering
+    ensures { result ≡ path_cmp a.now b.now }
+{
+    text_cmp(a.text(), b.text())
+}
