@@ -1,0 +1,12 @@
+pub mod Built
+pub mod Faultless
+pub mod Placed
+pub mod Pushed
+pub mod Sets
+pub mod Rearranged
+pub mod Searched
+pub mod Homes
+pub mod Arranged
+pub mod Linked
+pub mod Resolving
+pub mod Apart

@@ -5,10 +5,10 @@ use Rattle.std.specs.Option.{option_or}
 use Rattle.gufi_base.specs.declared.record.Line.{Line}
 use Rattle.gufi_base.specs.Words.{is_empty, sort_by}
 use Rattle.gufi_base.specs.Paths.{Components, path_eq, parent_path, base_name}
-use Rattle.gufi_base.specs.Rows.{is_dir}
+use Rattle.gufi_base.specs.Kinds.{is_dir}
 use Rattle.gufi_tree.specs.declared.tree.Entry.{Entry}
-use Rattle.gufi_tree.specs.declared.build.TreeFault.{TreeFault}
-use Rattle.gufi_tree.specs.declared.build.TreeFault.TheVariants.{NoRoot, Duplicate, Orphan}
+use Rattle.gufi_tree.specs.declared.fault.TreeFault.{TreeFault}
+use Rattle.gufi_tree.specs.declared.fault.TreeFault.TheVariants.{NoRoot, Duplicate, Orphan}
 use Rattle.gufi_tree.specs.Tree.{Directory, dir_cmp, entry_cmp}
 
 abbrev pub is_dir_line : Line → Bool

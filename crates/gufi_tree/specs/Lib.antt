@@ -1,5 +1,10 @@
 pub mod Tree
 pub mod Stored
 pub mod Build
+pub mod Places
+pub mod Kept
+pub mod Gathered
+pub mod Texts
 pub mod Resolve
+pub mod Reached
 pub mod Listed

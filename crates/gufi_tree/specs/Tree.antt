@@ -1,5 +1,5 @@
 -- A tree is the list of its directories, in path order.
-use Rattle.std.specs.Prelude.{◌||◌, nat_lt, ℕ, Bool, not, ◌&&◌, List, [], ◌∷◌, ◌++◌, length, filter, map, find, position, sum_by, Option, bytes_eq}
+use Rattle.std.specs.Prelude.{◌||◌, nat_lt, ℕ, Bool, not, ◌&&◌, List, [], ◌∷◌, ◌++◌, length, filter, map, find, position, sum_by, Option, bytes_eq, IsTrue}
 use Rattle.std.specs.List.{list_any, list_all, flat_map}
 use Rattle.std.specs.declared.cmp.Ordering.{Ordering}
 use Rattle.std.specs.Ordering.{nat_cmp}
@@ -10,7 +10,8 @@ use Rattle.gufi_base.specs.Limits.{max_dirs, max_entries}
 use Rattle.gufi_base.specs.Words.{is_empty, ascends}
 use Rattle.gufi_base.specs.Names.{is_name}
 use Rattle.gufi_base.specs.Paths.{Components, path_cmp, path_eq, parent_path, base_name, is_prefix, is_child_of}
-use Rattle.gufi_base.specs.Rows.{is_dir, is_well_formed, home, sort_rows, row_fits_types}
+use Rattle.gufi_base.specs.Kinds.{is_dir}
+use Rattle.gufi_base.specs.Rows.{is_well_formed, home, sort_rows, row_fits_types}
 use Rattle.gufi_access.specs.declared.class.Principal.{Principal}
 use Rattle.gufi_access.specs.Access.{Rights, can_list}
 use Rattle.gufi_tree.specs.declared.tree.Entry.{Entry}
@@ -75,6 +76,20 @@ is_directory_of tree dir =
 -- The root is there and each parent; no two names in a directory are equal; records are sound.
 abbrev pub is_tree : List Directory → Bool
 is_tree tree = has_dir tree [] && ascends dir_cmp tree && list_all (is_directory_of tree) tree
+
+-- the directory's record is a directory's, and its entries' are not
+abbrev pub is_kinded : Directory → Bool
+is_kinded d = is_dir d.rec.meta.kind && list_all (λ (e : Entry). not (is_dir e.rec.meta.kind)) d.entries
+
+-- What is known of a tree that was built: the root and each parent are there, paths and names ascend, and no entry has the name of a
+-- subdirectory.
+pub record HasTreeShape (tree : List Directory) : Type 0 where
+  pub root : IsTrue (has_dir tree [])
+  pub order : IsTrue (ascends dir_cmp tree)
+  pub parents : IsTrue (list_all (λ dir. has_dir tree (parent_path dir.path)) tree)
+  pub entries : IsTrue (list_all (λ dir. ascends entry_cmp dir.entries) tree)
+  pub kinds : IsTrue (list_all is_kinded tree)
+  pub apart : IsTrue (list_all (λ dir. list_all (λ entry. not (has_dir tree (dir.path ++ entry.name ∷ []))) dir.entries) tree)
 
 -- one row for a directory and one for each entry; all rows in path order
 abbrev pub dir_row : Directory → Row

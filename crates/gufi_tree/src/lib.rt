@@ -4,10 +4,19 @@
 //! It stands on `gufi_base` and `gufi_access`; the trace reader and all queries stand on it.
 #![tactic(auto)]
 
-mod build;
+mod fault;
+mod gather;
+mod lines;
+mod link;
+mod place;
 mod resolve;
+mod sort;
 mod tree;
 
-pub use build::TreeFault;
+pub use fault::TreeFault;
+pub use lines::build;
 pub use resolve::Resolved;
 pub use tree::{DirId, Entry, Tree};
+
+#[cfg(test)]
+mod tests;

@@ -1,6 +1,17 @@
 //! Directories in path order.
 
-use gufi_base::{Name, Path, Rec};
+ghost use Rattle.std.specs.Prelude.{◌≡◌, ◌<◌, ◌^◌, List, length, slice_index_or, option_map, IsTrue, IfOk};
+ghost use Rattle.gufi_base.specs.Words.{ascends};
+ghost use Rattle.gufi_access.specs.Access.{rights};
+ghost use Rattle.gufi_tree.specs.Tree.{Directory, rights_of, entry_cmp, place_of, HasTreeShape};
+ghost use Rattle.gufi_tree.specs.Places.{dir_id, path_at, parent_id, child_ids};
+ghost use Rattle.gufi_tree.specs.Stored.{directories_of};
+
+use crate::link::{parents_of, subdirs_of};
+use crate::sort::find_text;
+use gufi_access::Guard;
+use gufi_base::{Memory, Name, Path, Rec};
+use std::alloc::{AllocError, Global};
 use std::marker::Model;
 
 /// A directory's place in path order; the root is 0.
@@ -14,17 +25,20 @@ pub struct Entry {
     pub rec: Rec,
 }
 
+/// A directory with its entries.
 #[derive(Drop)]
-struct Stored {
-    path: Path,
-    rec: Rec,
-    entries: Vec<Entry>,
+pub(crate) struct Stored {
+    pub(crate) path: Path,
+    pub(crate) rec: Rec,
+    pub(crate) entries: Vec<Entry>,
 }
 
 /// The directories in path order.
 #[derive(Drop)]
 pub struct Tree {
     stored: Vec<Stored>,
+    parents: Vec<u32>,
+    subdirs: Vec<Vec<DirId>>,
 }
 
 impl Model for Tree {
@@ -34,6 +48,123 @@ impl Model for Tree {
     ghost Value = { List Directory };
 
     ghost use Rattle.gufi_tree.specs.Stored.{directories_of};
+    ghost use Rattle.gufi_tree.specs.Kept.{IsKept};
 
     ghost view = { λ a. directories_of a.stored.items };
+
+    ghost invariant = { λ a. IsKept a.stored.items a.parents.items a.subdirs.items };
+}
+
+impl Tree {
+    /// The tree of directories in order.
+    pub(crate) fn of(alloc: Global, stored: Vec<Stored>) -> Result<Tree, AllocError>
+        requires few { length stored.items < 2 ^ 32 }
+        requires shape { HasTreeShape (directories_of stored.items) }
+        ensures { IfOk result (λ tree. tree ≡ directories_of stored.items) }
+    {
+        let parents = parents_of(alloc, stored.as_slice())?;
+        let subdirs = subdirs_of(alloc, parents.as_slice())?;
+        Ok(Tree {
+            stored,
+            parents,
+            subdirs,
+        })
+    }
+
+    /// How many directories there are.
+    pub fn dirs(&self) -> u32
+        ensures count { result ≡ length self.now }
+        ensures shape { HasTreeShape self.now }
+    {
+        self.stored.len() as u32
+    }
+
+    pub(crate) fn stored(&self) -> &[Stored]
+        ensures value { directories_of result.now ≡ self.now }
+        ensures shape { HasTreeShape self.now }
+        ensures few { length result.now < 2 ^ 32 }
+    {
+        self.stored.as_slice()
+    }
+
+    /// The record of a directory.
+    pub fn rec(&self, id: DirId) -> &Rec
+        requires { id.0 < length self.now }
+        ensures { (d : Directory) → result.now ≡ (slice_index_or self.now id.0 d).rec }
+    {
+        &self.stored[id.0 as usize].rec
+    }
+
+    /// What guards a directory.
+    pub fn guard(&self, id: DirId) -> Guard
+        requires { id.0 < length self.now }
+        ensures { (d : Directory) → rights result ≡ rights_of (slice_index_or self.now id.0 d).rec }
+    {
+        guard_of(self.rec(id))
+    }
+
+    /// The path of a directory, borrowed.
+    pub fn path(&self, id: DirId) -> &Path
+        requires { id.0 < length self.now }
+        ensures { result.now ≡ path_at self.now id.0 }
+    {
+        &self.stored[id.0 as usize].path
+    }
+
+    /// The path of a directory, in memory of its own.
+    pub fn path_of(&self, alloc: Global, id: DirId) -> Result<Path, Memory>
+        requires { id.0 < length self.now }
+        ensures { IfOk result (λ path. path ≡ path_at self.now id.0) }
+    {
+        let path = self.path(id).copy(alloc)?;
+        Ok(path)
+    }
+
+    /// The directory that a directory lies in; the root lies in none.
+    pub fn parent(&self, id: DirId) -> Option<DirId>
+        requires { id.0 < length self.now }
+        ensures { result ≡ parent_id self.now id.0 }
+    {
+        if id.0 == 0 {
+            return None;
+        }
+        Some(DirId(self.parents[id.0 as usize]))
+    }
+
+    /// The entries of a directory, in name order.
+    pub fn entries(&self, id: DirId) -> &[Entry]
+        requires { id.0 < length self.now }
+        ensures value { (d : Directory) → result.now ≡ (slice_index_or self.now id.0 d).entries }
+        ensures order { IsTrue (ascends entry_cmp result.now) }
+    {
+        self.stored[id.0 as usize].entries.as_slice()
+    }
+
+    /// The directories right below a directory, in path order.
+    pub fn subdirs(&self, id: DirId) -> &[DirId]
+        requires { id.0 < length self.now }
+        ensures { result.now ≡ child_ids self.now (path_at self.now id.0) }
+    {
+        self.subdirs[id.0 as usize].as_slice()
+    }
+
+    /// The directory with a path. `O(log n)` comparisons.
+    pub fn find(&self, path: &Path) -> Option<DirId>
+        ensures { result ≡ option_map dir_id (place_of self.now path.now) }
+    {
+        match find_text(self.stored(), path.text()) {
+            None => None,
+            Some(place) => Some(DirId(place as u32)),
+        }
+    }
+}
+
+pub(crate) fn guard_of(rec: &Rec) -> Guard
+    ensures { rights result ≡ rights_of rec.now }
+{
+    Guard {
+        uid: rec.meta.uid,
+        gid: rec.meta.gid,
+        mode: rec.meta.mode,
+    }
 }

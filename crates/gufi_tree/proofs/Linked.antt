@@ -1,0 +1,255 @@
+-- Where the parents and the subdirectories of directories are.
+use Rattle.std.proofs.Common.{◌≡◌, ℕ, zero, suc, ◌+◌, ◌^◌, ◌<◌, ◌≤◌, Bool, true, false, not, ◌&&◌, cond, eqb, List, [], ◌∷◌, ◌++◌, map, length, take, get_or, Option, Some, None, is_some, refl, sym, ap, ◌∙◌, arith, subst, ◌⊎◌, inl, inr, ⊎_elim}
+use Rattle.std.specs.declared.cmp.Ordering.TheVariants.{Less, Equal, Greater}
+use Rattle.std.specs.declared.cmp.Ordering.{Ordering}
+use Rattle.std.specs.Ordering.{is_lt}
+use Rattle.std.specs.List.{list_any, list_all, filter}
+use Rattle.std.proofs.lemmas.List.Sums.{length-filter, count_by-le-length}
+use Rattle.gufi_base.specs.declared.record.Line.{Line}
+use Rattle.gufi_tree.specs.Build.{is_dir_line, directory_of_line, directories_of_lines}
+use Rattle.gufi_tree.specs.Gathered.{IsArranged}
+use Rattle.std.proofs.lemmas.Bool.{and_parts, cases_eq, eq-eqb, eqb-true, ne_eqb, false≢true, or_cases}
+use Rattle.std.proofs.lemmas.Bool.Decides.{same_from_decides}
+use Rattle.std.proofs.lemmas.List.{get_or-map, length-map, get_or_push, get_or_append_left, take_more, length-take}
+use Rattle.std.proofs.lemmas.List.Folds.{Any-from_list_any}
+use Rattle.std.proofs.lemmas.List.Quantifiers.{position-Some}
+use Rattle.gufi_base.specs.Words.{is_empty, ascends, insert_by, sort_by}
+use Rattle.gufi_base.specs.Paths.{Components, path_cmp, path_eq, parent_path, is_child_of}
+use Rattle.gufi_tree.specs.declared.tree.DirId.{DirId}
+use Rattle.gufi_tree.specs.declared.tree.Stored.{Stored}
+use Rattle.gufi_tree.specs.Tree.{Directory, dir_cmp, entry_cmp, place_of, has_dir, is_at, HasTreeShape}
+use Rattle.gufi_tree.specs.Stored.{directory_of, directories_of, AreInOrder}
+use Rattle.gufi_tree.specs.Places.{dir_id, path_at, ids_from, child_ids}
+use Rattle.std.specs.Global.{Vec}
+use Rattle.gufi_base.specs.Names.{is_name}
+use Rattle.gufi_base.specs.PathTexts.{kept_text, names}
+use Rattle.gufi_base.proofs.Names.{names-kept_text}
+use Rattle.gufi_tree.specs.Kept.{HasParents, IsKept, ids_under}
+use Rattle.gufi_tree.proofs.Built.{path_eq-Decides}
+use Rattle.gufi_tree.proofs.Searched.{place_of-at, in_order}
+use Rattle.gufi_tree.proofs.Homes.{no_place}
+
+-- the place of a parent, from a child
+pub child_place : (stored : List Stored) (path : Components) (at : ℕ) → AreInOrder stored → at < length stored → ((d : Stored) → is_child_of (get_or stored at d).path path ≡ true)
+    → place_of (directories_of stored) (parent_path path) ≡ Some at
+child_place [] path at order lt child = absurd (omega arith)
+child_place (s ∷ stored) path at order lt child =
+    let both = and_parts (not (is_empty path)) (path_eq (get_or (s ∷ stored) at s).path (parent_path path)) (child s) in
+    let same : (get_or (s ∷ stored) at s).path ≡ parent_path path = (path_eq-Decides (get_or (s ∷ stored) at s).path (parent_path path)).0 both.1 in
+    place_of-at (directories_of (s ∷ stored)) (parent_path path) at (directory_of s) order (omega (arith, lt, length-map (s ∷ stored) directory_of))
+    (ap (λ (x : Directory). x.path) (get_or-map directory_of (s ∷ stored) at s (directory_of s) lt) ∙ same)
+
+pub place_within : (stored : List Stored) (path : Components) (at : ℕ) → place_of (directories_of stored) path ≡ Some at → at < length stored
+place_within [] path at e = cc
+place_within (s ∷ stored) path at e =
+    let h = (position-Some (is_at path) (directories_of (s ∷ stored)) at (directory_of s) e).0 in
+    omega (arith, h, length-map (s ∷ stored) directory_of)
+
+pub some_place : (tree : List Directory) (path : Components) → ascends dir_cmp tree ≡ true → has_dir tree path ≡ true → is_some (place_of tree path) ≡ true
+some_place tree path up h = by (place_of tree path) refl where
+  by : (o : Option ℕ) → place_of tree path ≡ o → is_some o ≡ true
+  by None e = absurd (false≢true (sym (no_place tree path up e) ∙ h))
+  by (Some k) e = refl
+
+pub list_all-get : {X : Type 0} (q : X → Bool) (xs : List X) (i : ℕ) (d : X) → list_all q xs ≡ true → i < length xs → q (get_or xs i d) ≡ true
+list_all-get q [] i d h l = absurd (omega arith)
+list_all-get q (x ∷ xs) zero d h l = (and_parts (q x) (list_all q xs) h).0
+list_all-get q (x ∷ xs) (suc i) d h l = list_all-get q xs i d (and_parts (q x) (list_all q xs) h).1 (omega arith)
+
+-- what holds of each directory holds of the one at a place
+pub at_place : (q : Directory → Bool) (stored : List Stored) (k : ℕ) (dir : Stored) → list_all q (directories_of stored) ≡ true → k < length stored → dir ≡ get_or stored k dir → q (directory_of dir) ≡ true
+at_place q stored k dir all lt is =
+    let h = list_all-get q (directories_of stored) k (directory_of dir) all (omega (arith, length-map stored directory_of)) in
+    let same : get_or (directories_of stored) k (directory_of dir) ≡ directory_of dir = get_or-map directory_of stored k dir (directory_of dir) lt ∙ ap directory_of (sym is) in
+    ap q (sym same) ∙ h
+
+-- the parent of the directory at a place is there
+pub parent_there_at : (stored : List Stored) (k : ℕ) (dir : Stored) → HasTreeShape (directories_of stored) → k < length stored → dir ≡ get_or stored k dir → has_dir (directories_of stored) (parent_path dir.path) ≡ true
+parent_there_at stored k dir shape lt is = at_place (λ (d : Directory). has_dir (directories_of stored) (parent_path d.path)) stored k dir shape.parents lt is
+
+pub entries_at : (stored : List Stored) (k : ℕ) (dir : Stored) → HasTreeShape (directories_of stored) → k < length stored → dir ≡ get_or stored k dir → ascends entry_cmp dir.entries.items ≡ true
+entries_at stored k dir shape lt is = at_place (λ (d : Directory). ascends entry_cmp d.entries) stored k dir shape.entries lt is
+
+-- a place in the list that is seen is one in the list that is kept
+pub within_stored : (stored : List Stored) (tree : List Directory) (k : ℕ) → directories_of stored ≡ tree → k < length tree → k < length stored
+within_stored stored tree k e lt = omega (arith, length-map stored directory_of, ap length e, lt)
+
+pub path_at-stored : (stored : List Stored) (k : ℕ) (d : Stored) → k < length stored → path_at (directories_of stored) k ≡ (get_or stored k d).path
+path_at-stored [] k d lt = absurd (omega arith)
+path_at-stored (s ∷ stored) zero d lt = refl
+path_at-stored (s ∷ stored) (suc k) d lt = path_at-stored stored k d (omega arith)
+
+-- one parent more
+pub parents_more : (stored : List Stored) (parents : List ℕ) (i at : ℕ) (dir : Stored) → length parents ≡ i → i < length stored → dir ≡ get_or stored i dir
+    → ((k : ℕ) → k < i → place_of (directories_of stored) (parent_path (path_at (directories_of stored) k)) ≡ Some (get_or parents k 0))
+    → place_of (directories_of stored) (parent_path dir.path) ≡ Some at
+    → (k : ℕ) → k < i + 1 → place_of (directories_of stored) (parent_path (path_at (directories_of stored) k)) ≡ Some (get_or (parents ++ at ∷ []) k 0)
+parents_more stored parents i at dir len lt is each here k within = by (cases_eq k i) where
+  by : (k ≡ i) ⊎ (k ≡ i → ⊥) → place_of (directories_of stored) (parent_path (path_at (directories_of stored) k)) ≡ Some (get_or (parents ++ at ∷ []) k 0)
+  by (inl same) =
+      ap (λ n. place_of (directories_of stored) (parent_path (path_at (directories_of stored) n))) same
+      ∙ ap (λ (p : Components). place_of (directories_of stored) (parent_path p)) (path_at-stored stored i dir lt ∙ ap (λ (s : Stored). s.path) (sym is))
+      ∙ here ∙ ap Some (sym (get_or_push parents at 0 k (len ∙ sym same)))
+  by (inr other) = each k (omega arith) ∙ ap Some (sym (get_or_append_left parents (at ∷ []) 0 k (omega arith)))
+
+pub parents_done : (stored : List Stored) (parents : List ℕ) (i : ℕ) → length parents ≡ i → i ≡ length stored
+    → ((k : ℕ) → k < i → place_of (directories_of stored) (parent_path (path_at (directories_of stored) k)) ≡ Some (get_or parents k 0))
+    → HasParents (directories_of stored) parents
+parents_done stored parents i len all each =
+    record { len = len ∙ all ∙ sym (length-map stored directory_of); each = λ k lt. each k (omega (arith, length-map stored directory_of, all, lt)) }
+
+-- a parent's place is that of a directory
+pub parents_within : (stored : List Stored) (parents : List ℕ) → HasParents (directories_of stored) parents → (k : ℕ) → k < length parents → get_or parents k 0 < length parents
+parents_within stored parents h k lt =
+    let within : k < length (directories_of stored) = omega (arith, h.len) in
+    let at = place_within stored (parent_path (path_at (directories_of stored) k)) (get_or parents k 0) (h.each k within) in
+    omega (arith, h.len, at, length-map stored directory_of)
+
+pub ids_under-push : (parent n p : ℕ) (ps : List ℕ) → ids_under parent n (ps ++ p ∷ []) ≡ ids_under parent n ps ++ ids_under parent (n + length ps) (p ∷ [])
+ids_under-push parent n p [] = ap (λ m. ids_under parent m (p ∷ [])) (omega arith)
+ids_under-push parent n p (q ∷ ps) =
+    let shift : n + 1 + length ps ≡ n + suc (length ps) = omega arith in
+    by (eqb q parent && not (eqb n 0)) (ids_under-push parent (n + 1) p ps ∙ ap (λ m. ids_under parent (n + 1) ps ++ ids_under parent m (p ∷ [])) shift) where
+      by : (b : Bool) → ids_under parent (n + 1) (ps ++ p ∷ []) ≡ ids_under parent (n + 1) ps ++ ids_under parent (n + suc (length ps)) (p ∷ [])
+          → cond b (dir_id n ∷ ids_under parent (n + 1) (ps ++ p ∷ [])) (ids_under parent (n + 1) (ps ++ p ∷ []))
+          ≡ cond b (dir_id n ∷ ids_under parent (n + 1) ps) (ids_under parent (n + 1) ps) ++ ids_under parent (n + suc (length ps)) (p ∷ [])
+      by true e = ap (λ (ids : List DirId). dir_id n ∷ ids) e
+      by false e = e
+
+pub ids_under-own : (place parent k : ℕ) → eqb place 0 ≡ false → k ≡ parent → dir_id place ∷ [] ≡ ids_under k place (parent ∷ [])
+ids_under-own place parent k some same = rw (eq-eqb parent k (sym same), some) refl
+
+pub ids_under-other : (place parent k : ℕ) → (k ≡ parent → ⊥) → [] ≡ ids_under k place (parent ∷ [])
+ids_under-other place parent k other = rw (ne_eqb parent k (λ e. other (sym e))) refl
+
+pub ids_under-root : (place parent k : ℕ) → eqb place 0 ≡ true → [] ≡ ids_under k place (parent ∷ [])
+ids_under-root place parent k root = rw root (by (eqb parent k)) where
+  by : (b : Bool) → [] ≡ cond (b && not true) (dir_id place ∷ []) []
+  by true = refl
+  by false = refl
+
+pub ids_under-more : (parents : List ℕ) (k i : ℕ) (p : ℕ) → i < length parents → p ≡ get_or parents i p → ids_under k 0 (take i parents) ++ ids_under k i (p ∷ []) ≡ ids_under k 0 (take (i + 1) parents)
+ids_under-more parents k i p lt is =
+    let len : 0 + length (take i parents) ≡ i = omega (arith, length-take i parents) in
+    sym (ap (ids_under k 0) (take_more parents i p lt) ∙ ids_under-push k 0 (get_or parents i p) (take i parents)
+    ∙ ap (λ n. ids_under k 0 (take i parents) ++ ids_under k n (get_or parents i p ∷ [])) len ∙ ap (λ q. ids_under k 0 (take i parents) ++ ids_under k i (q ∷ [])) (sym is))
+
+ids_same : (path : Components) (k n : ℕ) (ds : List Directory) (ps : List ℕ) → length ps ≡ length ds
+    → ((j : ℕ) (d : Directory) → j < length ds → (eqb (get_or ps j 0) k && not (eqb (n + j) 0)) ≡ is_child_of path (get_or ds j d).path)
+    → ids_under k n ps ≡ ids_from (λ dir. is_child_of path dir.path) n ds
+ids_same path k n [] [] e h = refl
+ids_same path k n [] (p ∷ ps) e h = absurd (omega (arith, e))
+ids_same path k n (d ∷ ds) [] e h = absurd (omega (arith, e))
+ids_same path k n (d ∷ ds) (p ∷ ps) e h =
+    let first : (eqb p k && not (eqb n 0)) ≡ is_child_of path d.path = ap (λ m. eqb p k && not (eqb m 0)) (let z : n ≡ n + 0 = omega arith in z) ∙ h 0 d (omega arith) in
+    let rest : ids_under k (n + 1) ps ≡ ids_from (λ dir. is_child_of path dir.path) (n + 1) ds =
+    ids_same path k (n + 1) ds ps (omega (arith, e)) (λ j c lt. ap (λ m. eqb (get_or ps j 0) k && not (eqb m 0)) (let z : n + 1 + j ≡ n + suc j = omega arith in z) ∙ h (suc j) c (omega arith)) in
+    ap (λ b. cond b (dir_id n ∷ ids_under k (n + 1) ps) (ids_under k (n + 1) ps)) first ∙ ap (λ (ids : List DirId). cond (is_child_of path d.path) (dir_id n ∷ ids) ids) rest
+
+not_before_root : (p : Components) → path_cmp p [] ≡ Less → ⊥
+not_before_root [] e = let no : Equal ≡ Less = e in cc
+not_before_root (n ∷ p) e = let no : Greater ≡ Less = e in cc
+
+-- the root is at place 0
+pub root_first : (tree : List Directory) → ascends dir_cmp tree ≡ true → has_dir tree [] ≡ true → path_at tree 0 ≡ []
+root_first [] up h = absurd (false≢true h)
+root_first (d ∷ ds) up h = ⊎_elim
+    (λ (own : path_eq [] d.path ≡ true). sym ((path_eq-Decides [] d.path).0 own))
+    (λ (other : list_any (is_at []) ds ≡ true).
+    let w = Any-from_list_any (is_at []) ds other in
+    let root : (get_or ds w.0 w.1).path ≡ [] = ap (λ (v : Directory). v.path) w.3 ∙ sym ((path_eq-Decides [] (w.1).path).0 w.4) in
+    let less : path_cmp d.path (get_or ds w.0 w.1).path ≡ Less = in_order (d ∷ ds) up 0 (suc w.0) w.1 (omega arith) (omega (arith, w.2)) in
+    absurd (not_before_root d.path (ap (path_cmp d.path) (sym root) ∙ less)))
+    (or_cases (path_eq [] d.path) (list_any (is_at []) ds) h)
+
+pub path_at-get : (tree : List Directory) (k : ℕ) (d : Directory) → k < length tree → path_at tree k ≡ (get_or tree k d).path
+path_at-get tree k d lt = get_or-map (λ (v : Directory). v.path) tree k d [] lt
+
+pub some_injective : (a b : ℕ) → Some a ≡ Some b → a ≡ b
+some_injective a b e = cc
+
+module _ (tree : List Directory) (parents : List ℕ) (shape : HasTreeShape tree) (h : HasParents tree parents) where
+  same_parent : (k j : ℕ) (d : Directory) → k < length tree → j < length tree → eqb (get_or parents j 0) k ≡ path_eq (path_at tree k) (parent_path (get_or tree j d).path)
+  same_parent k j d lt in' =
+      let e : place_of tree (parent_path (get_or tree j d).path) ≡ Some (get_or parents j 0) = ap (λ (p : Components). place_of tree (parent_path p)) (sym (path_at-get tree j d in')) ∙ h.each j in' in
+      same_from_decides (eqb (get_or parents j 0) k) (path_eq (path_at tree k) (parent_path (get_or tree j d).path)) (
+        (λ q.
+            let is : get_or parents j 0 ≡ k = eqb-true (get_or parents j 0) k q in
+            let found = (position-Some (is_at (parent_path (get_or tree j d).path)) tree k d (e ∙ ap Some is)).1 in
+            path_at-get tree k d lt ∙ sym ((path_eq-Decides (parent_path (get_or tree j d).path) (get_or tree k d).path).0 found)),
+        (λ p. eq-eqb (get_or parents j 0) k (some_injective (get_or parents j 0) k (sym e ∙ place_of-at tree (parent_path (get_or tree j d).path) k d shape.order lt (sym (path_at-get tree k d lt) ∙ p)))),
+      )
+      (path_eq-Decides (path_at tree k) (parent_path (get_or tree j d).path))
+
+  root_only : (j : ℕ) (d : Directory) → j < length tree → eqb j 0 ≡ is_empty (get_or tree j d).path
+  root_only j d lt = by (cases_eq j 0) where
+    root : (get_or tree 0 d).path ≡ []
+    root = sym (path_at-get tree 0 d (omega arith)) ∙ root_first tree shape.order shape.root
+
+    by : (j ≡ 0) ⊎ (j ≡ 0 → ⊥) → eqb j 0 ≡ is_empty (get_or tree j d).path
+    by (inl z) = eq-eqb j 0 z ∙ sym (ap (λ n. is_empty (get_or tree n d).path) z ∙ ap (λ (p : Components). is_empty p) root)
+    by (inr some) =
+        let less : path_cmp (get_or tree 0 d).path (get_or tree j d).path ≡ Less = in_order tree shape.order 0 j d (omega arith) lt in
+        ne_eqb j 0 some ∙ sym (not_root (get_or tree j d).path (ap (λ (p : Components). path_cmp p (get_or tree j d).path) (sym root) ∙ less)) where
+          not_root : (p : Components) → path_cmp [] p ≡ Less → is_empty p ≡ false
+          not_root [] e = let no : Equal ≡ Less = e in cc
+          not_root (n ∷ p) e = refl
+
+  and_flip : (a b : Bool) → (a && b) ≡ (b && a)
+  and_flip true true = refl
+  and_flip true false = refl
+  and_flip false true = refl
+  and_flip false false = refl
+
+  -- the places where a parent stands are those of its subdirectories
+  pub ids_under-children : (k : ℕ) → k < length tree → ids_under k 0 parents ≡ child_ids tree (path_at tree k)
+  ids_under-children k lt =
+      ids_same (path_at tree k) k 0 tree parents h.len (λ j d in'.
+      let z : 0 + j ≡ j = omega arith in
+      ap (λ m. eqb (get_or parents j 0) k && not (eqb m 0)) z
+      ∙ ap (λ b. b && not (eqb j 0)) (same_parent k j d lt in')
+      ∙ ap (λ b. path_eq (path_at tree k) (parent_path (get_or tree j d).path) && not b) (root_only j d in')
+      ∙ and_flip (path_eq (path_at tree k) (parent_path (get_or tree j d).path)) (not (is_empty (get_or tree j d).path)))
+
+-- no more directories than lines
+length-insert_by : {A : Type 0} (cmp : A → A → Ordering) (x : A) (ys : List A) → length (insert_by cmp x ys) ≡ suc (length ys)
+length-insert_by cmp x [] = refl
+length-insert_by cmp x (y ∷ ys) = by (is_lt (cmp y x)) (length-insert_by cmp x ys) where
+  by : (b : Bool) → length (insert_by cmp x ys) ≡ suc (length ys) → length (cond b (y ∷ insert_by cmp x ys) (x ∷ y ∷ ys)) ≡ suc (suc (length ys))
+  by true e = ap suc e
+  by false e = refl
+
+length-sort_by : {A : Type 0} (cmp : A → A → Ordering) (xs : List A) → length (sort_by cmp xs) ≡ length xs
+length-sort_by cmp [] = refl
+length-sort_by cmp (x ∷ xs) = length-insert_by cmp x (sort_by cmp xs) ∙ ap suc (length-sort_by cmp xs)
+
+pub few_directories : (lines : List Line) → length (directories_of_lines lines) ≤ length lines
+few_directories lines =
+    let kept = filter is_dir_line lines in
+    omega (arith, length-sort_by dir_cmp (map (directory_of_line lines) (filter is_dir_line lines)), length-map (filter is_dir_line lines) (directory_of_line lines), length-filter is_dir_line lines, count_by-le-length is_dir_line lines)
+
+pub few_stored : (lines : List Line) (stored : List Stored) (n : ℕ) → IsArranged lines stored → length lines < n → length stored < n
+few_stored lines stored n h few = omega (arith, few_directories lines, ap length h.tree, length-map stored directory_of, few)
+
+-- what is kept beside directories is theirs
+pub kept : (stored seen : List Stored) (parents given : List ℕ) (lists : List (Vec DirId)) → HasTreeShape (directories_of stored) → length stored < 2 ^ 32 → seen ≡ stored → HasParents (directories_of seen) parents → given ≡ parents
+    → length lists ≡ length given → ((k : ℕ) (d : Vec DirId) → k < length given → (get_or lists k d).items ≡ ids_under k 0 given) → IsKept stored parents lists
+kept stored seen parents given lists shape few is h same len each =
+    let Q : List Stored → Type 0 = λ s. HasParents (directories_of s) parents in
+    let places : HasParents (directories_of stored) parents = subst Q is h in
+    record {
+      shape = shape;
+      few = few;
+      parents = places;
+      subdirs = record {
+        len = len ∙ ap length same ∙ places.len;
+        each = λ k d lt.
+            each k d (omega (arith, ap length same, places.len, lt)) ∙ ap (ids_under k 0) same ∙ ids_under-children (directories_of stored) parents shape places k lt;
+      };
+    }
+
+-- a search of a kept text is one of its path
+pub found_place : (seen : List Stored) (tree : List Directory) (path : Components) (text : List ℕ) (o : Option ℕ) → directories_of seen ≡ tree → text ≡ kept_text path → list_all is_name path ≡ true
+    → o ≡ place_of (directories_of seen) (names text) → o ≡ place_of tree path
+found_place seen tree path text o is same named e =
+    e ∙ ap (λ (t : List Directory). place_of t (names text)) is ∙ ap (place_of tree) (ap names same ∙ names-kept_text path named)

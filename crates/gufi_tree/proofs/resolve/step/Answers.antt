@@ -1,0 +1,42 @@
+use Rattle.std.proofs.Common.{◌∙◌, sym, ap, arith}
+use Rattle.gufi_base.specs.Paths.{Components}
+use Rattle.gufi_access.specs.Access.{is_granted}
+use Rattle.gufi_tree.specs.Stored.{directories_of}
+use Rattle.gufi_tree.specs.Tree.{place_of}
+use Rattle.gufi_tree.specs.Resolve.{resolve_from}
+use Rattle.gufi_tree.proofs.Linked.{place_within}
+use Rattle.gufi_tree.proofs.Resolving.{depth_stored, step_denied, step_on, step_missing, place_path}
+use Rattle.gufi_tree.proofs.resolve.step.Goals as goal
+
+pub denied-requires : goal.denied-requires
+denied-requires c =
+    let h = depth_stored c.args.stored.now c.args.who.now c.requires.shape c.args.place c.index-stored-place.result c.requires.within c.index-stored-place.is in
+    omega (arith, h, c.requires.within, c.requires.few)
+
+pub missing-requires : goal.missing-requires
+missing-requires c =
+    let h = depth_stored c.args.stored.now c.args.who.now c.requires.shape c.args.place c.index-stored-place.result c.requires.within c.index-stored-place.is in
+    omega (arith, h, c.requires.within, c.requires.few)
+
+pub returns-then-not-granted : goal.returns-then-not-granted
+returns-then-not-granted c = λ rest.
+    c.denied.ensures ∙ step_denied c.args.stored.now c.args.who.now c.requires.shape c.args.place c.index-stored-place.result c.requires.within c.index-stored-place.is c.args.name.now rest
+    (ap (λ r. is_granted c.args.who.now r 1) (sym c.guard_of.ensures) ∙ sym c.granted.ensures ∙ c.if-not-granted.true)
+
+pub returns-in-Some : goal.returns-in-Some
+returns-in-Some c =
+    let found = sym c.in-Some.ensures in (
+      place_within c.args.stored.now _ c.in-Some.at found,
+      place_path (directories_of c.args.stored.now) _ c.in-Some.at found,
+      λ rest.
+          step_on c.args.stored.now c.args.who.now c.requires.shape c.args.place c.index-stored-place.result c.requires.within c.index-stored-place.is c.args.name.now rest
+          (ap (λ r. is_granted c.args.who.now r 1) (sym c.guard_of.ensures) ∙ sym c.granted.ensures ∙ c.if-not-granted.false)
+          ∙ ap (λ (p : Components). resolve_from (directories_of c.args.stored.now) c.args.who.now p rest) (sym c.requires.name),
+    )
+
+pub returns-in-None : goal.returns-in-None
+returns-in-None c = λ rest.
+    let none = ap (place_of (directories_of c.args.stored.now)) (sym c.requires.name) ∙ sym c.in-None.ensures in
+    c.missing.ensures ∙ step_missing c.args.stored.now c.args.who.now c.requires.shape c.args.place c.index-stored-place.result c.requires.within c.index-stored-place.is c.args.name.now rest none
+    ∙ sym (step_on c.args.stored.now c.args.who.now c.requires.shape c.args.place c.index-stored-place.result c.requires.within c.index-stored-place.is c.args.name.now rest
+    (ap (λ r. is_granted c.args.who.now r 1) (sym c.guard_of.ensures) ∙ sym c.granted.ensures ∙ c.if-not-granted.false))
