@@ -11,13 +11,14 @@ use Rattle.gufi_base.specs.Limits.{max_dirs, max_entries, max_link}
 use Rattle.gufi_base.specs.Words.{is_empty, part_at, split, all_but_last, last_of, result_map_err, ◌>>=◌, ◌>>◌, refuse}
 use Rattle.gufi_base.specs.Numbers.{read_u32, read_u64, read_i64}
 use Rattle.gufi_base.specs.Paths.{Components, read_path, is_prefix, is_child_of}
-use Rattle.gufi_base.specs.Rows.{read_kind, is_dir}
-use Rattle.gufi_tree.specs.declared.build.TreeFault.{TreeFault}
-use Rattle.gufi_tree.specs.declared.build.TreeFault.TheVariants as trees
+use Rattle.gufi_base.specs.Kinds.{read_kind, is_dir}
+use Rattle.gufi_tree.specs.declared.fault.TreeFault.{TreeFault}
+use Rattle.gufi_tree.specs.declared.fault.TreeFault.TheVariants as trees
 use Rattle.gufi_tree.specs.Tree.{Directory}
 use Rattle.gufi_tree.specs.Build.{is_dir_line, tree_of}
 use Rattle.gufi_trace.specs.declared.fault.TraceKind.{TraceKind}
 use Rattle.gufi_trace.specs.declared.fault.TraceKind.TheVariants.{Short, BadPath, LongName, BadType, BadNumber, NotUnderRoot, WrongStanza, TooMany, CutLine}
+use Rattle.gufi_trace.specs.declared.fault.TraceFault.{TraceFault}
 use Rattle.gufi_trace.specs.declared.fault.TraceError.{TraceError}
 use Rattle.gufi_trace.specs.declared.fault.TraceError.TheVariants.{Fault, Memory}
 
@@ -136,8 +137,11 @@ trace_kind_text WrongStanza = codes "WrongStanza"
 trace_kind_text (TooMany limit) = codes "TooMany " ++ decimal limit
 trace_kind_text CutLine = codes "CutLine"
 
+abbrev pub fault_text : TraceFault → List ℕ
+fault_text fault = decimal fault.line ++ codes " " ++ trace_kind_text fault.kind
+
 abbrev pub failure_text : TraceFailure → List ℕ
-failure_text (of_line (Fault fault)) = decimal fault.line ++ codes " " ++ trace_kind_text fault.kind
+failure_text (of_line (Fault fault)) = fault_text fault
 failure_text (of_line Memory) = []
 failure_text (of_tree trees.NoRoot) = codes "0 NoRoot"
 failure_text (of_tree (trees.Duplicate line)) = decimal line ++ codes " Duplicate"

@@ -4,8 +4,19 @@
 //! It stands on `gufi_base` and `gufi_tree`; the top call and sessions stand on it.
 #![tactic(auto)]
 
+mod content;
 mod fault;
+mod fields;
+mod lines;
+mod reader;
+mod row;
+mod text;
 mod writer;
 
 pub use fault::{TraceError, TraceFault, TraceKind};
-pub use writer::WriteTraceFault;
+pub use reader::{TraceReader, read_pieces, read_trace};
+pub use text::put_tree_fault;
+pub use writer::{WriteTraceFault, write_trace, written_traces_read_back};
+
+#[cfg(test)]
+mod tests;

@@ -1,9 +1,189 @@
 //! The trace of a tree.
 
+ghost use Rattle.std.specs.Prelude.{◌≡◌, ◌+◌, ◌^◌, ◌<◌, ◌++◌, ◌||◌, length, IsTrue, OnOk};
+ghost use Rattle.std.specs.List.{flat_map, list_any};
+ghost use Rattle.gufi_base.specs.declared.record.Rec.{Rec};
+ghost use Rattle.gufi_base.specs.Delimiters.{may_delimit};
+ghost use Rattle.gufi_base.specs.Paths.{is_too_long};
+ghost use Rattle.gufi_tree.specs.Tree.{own_rows};
+ghost use Rattle.gufi_trace.specs.TraceWriting.{holds_byte, row_holds, trace_text, written_trace, TraceReadsBack};
+ghost use Rattle.gufi_trace.specs.Writing.{directory, own_holds, own_too_long, own_text, is_over as passes_limits, GivesText};
+
+use crate::row::{put_directory, put_entry};
+use gufi_base::{Memory, Path, Rec};
+use gufi_tree::{DirId, Entry, Tree};
+use std::alloc::Global;
+use thiserror::Error;
+
 /// Why a tree isn't written as a trace.
-#[derive(Clone, Copy, Debug, PartialEq, Eq)]
+#[derive(Clone, Copy, Debug, PartialEq, Eq, Error)]
 pub enum WriteTraceFault {
+    #[error("a name or a link holds the delimiter")]
     DelimUsed,
+    #[error("a path is too long")]
     TooLong,
+    #[error("out of memory")]
     Memory,
 }
+
+fn holds(bytes: &[u8], delim: u8) -> bool
+    ensures { result ≡ holds_byte delim bytes.now }
+{
+    bytes.iter().any(|b| *b == delim)
+}
+
+fn path_holds(path: &Path, delim: u8) -> bool
+    requires { IsTrue (may_delimit delim) }
+    ensures { result ≡ list_any (holds_byte delim) path.now }
+{
+    holds(path.text(), delim)
+}
+
+fn entry_holds(entry: &Entry, delim: u8) -> bool
+    ensures { result ≡ (holds_byte delim entry.now.name || holds_byte delim entry.now.rec.link) }
+{
+    holds(entry.name.as_slice(), delim) || holds(entry.rec.link.as_slice(), delim)
+}
+
+fn any_entry_holds(entries: &[Entry], delim: u8) -> bool
+    ensures { result ≡ list_any (λ entry. holds_byte delim entry.name || holds_byte delim entry.rec.link) entries.now }
+{
+    entries.iter().any(|entry| entry_holds(entry, delim))
+}
+
+/// Whether a row of a directory holds the delimiter.
+fn directory_holds(path: &Path, rec: &Rec, entries: &[Entry], delim: u8) -> bool
+    requires { IsTrue (may_delimit delim) }
+    ensures { result ≡ own_holds delim (directory path.now rec.now entries.now) }
+{
+    let in_path = path_holds(path, delim);
+    let in_link = holds(rec.link.as_slice(), delim);
+    let in_entry = any_entry_holds(entries, delim);
+    in_path || in_link || in_entry
+}
+
+fn is_over(names: u128, bytes: u128) -> bool
+    ensures { result ≡ passes_limits names bytes }
+{
+    names > 256 || bytes > 4096
+}
+
+fn entry_is_over(names: u128, bytes: u128, entry: &Entry) -> bool
+    requires few { names < 2 ^ 100 }
+    requires short { bytes < 2 ^ 100 }
+    ensures { result ≡ passes_limits (names + 1) (bytes + (1 + length entry.now.name)) }
+{
+    is_over(names + 1, bytes + (1 + entry.name.as_slice().len() as u128))
+}
+
+fn any_entry_is_over(names: u128, bytes: u128, entries: &[Entry]) -> bool
+    requires few { names < 2 ^ 100 }
+    requires short { bytes < 2 ^ 100 }
+    ensures { result ≡ list_any (λ entry. passes_limits (names + 1) (bytes + (1 + length entry.name))) entries.now }
+{
+    entries
+        .iter()
+        .any(|entry| entry_is_over(names, bytes, entry))
+}
+
+/// Whether a row of a directory is too long below the root.
+fn directory_is_too_long(root: &Path, path: &Path, rec: &Rec, entries: &[Entry]) -> bool
+    ensures { result ≡ own_too_long root.now (directory path.now rec.now entries.now) }
+{
+    let names = root.depth() as u128 + path.depth() as u128;
+    let bytes = root.text().len() as u128 + path.text().len() as u128 - 2;
+    let own = is_over(names, bytes);
+    let entry = any_entry_is_over(names, bytes, entries);
+    own || entry
+}
+
+fn is_delim_used(tree: &Tree, delim: u8) -> bool
+    requires { IsTrue (may_delimit delim) }
+    ensures { result ≡ list_any (row_holds delim) (flat_map own_rows tree.now) }
+{
+    for number in 0..tree.dirs() {
+        let id = DirId(number);
+        if directory_holds(tree.path(id), tree.rec(id), tree.entries(id), delim) {
+            return true;
+        }
+    }
+    false
+}
+
+fn is_any_too_long(tree: &Tree, root: &Path) -> bool
+    ensures { result ≡ list_any (λ row. is_too_long (root.now ++ row.path)) (flat_map own_rows tree.now) }
+{
+    for number in 0..tree.dirs() {
+        let id = DirId(number);
+        if directory_is_too_long(root, tree.path(id), tree.rec(id), tree.entries(id)) {
+            return true;
+        }
+    }
+    false
+}
+
+/// The stanza of a directory.
+fn put_stanza(
+    out: &mut Vec<u8>,
+    root: &Path,
+    delim: u8,
+    path: &Path,
+    rec: &Rec,
+    entries: &[Entry],
+) -> Result<(), Memory>
+    ensures { OnOk result (out.new.items ≡ out.old.items ++ own_text delim root.now (directory path.now rec.now entries.now)) }
+{
+    put_directory(out, root, delim, path, rec)?;
+    for entry in entries {
+        put_entry(out, root, delim, path, &entry.name, &entry.rec)?;
+    }
+    Ok(())
+}
+
+fn put_tree(out: &mut Vec<u8>, tree: &Tree, root: &Path, delim: u8) -> Result<(), Memory>
+    ensures { OnOk result (out.new.items ≡ out.old.items ++ trace_text tree.now root.now delim) }
+{
+    for number in 0..tree.dirs() {
+        let id = DirId(number);
+        put_stanza(
+            out,
+            root,
+            delim,
+            tree.path(id),
+            tree.rec(id),
+            tree.entries(id),
+        )?;
+    }
+    Ok(())
+}
+
+/// The trace of a tree: a stanza for each directory, in path order, with the root's names before each path.
+///
+/// `DelimUsed` where a name of the tree or the root, or a link, holds the delimiter; else `TooLong` where a path so
+/// written has more than 256 names or 4,096 bytes.
+pub fn write_trace(
+    alloc: Global,
+    tree: &Tree,
+    root: &Path,
+    delim: u8,
+) -> Result<Vec<u8>, WriteTraceFault>
+    requires { IsTrue (may_delimit delim) }
+    ensures { GivesText result (written_trace tree.now root.now delim) }
+{
+    if path_holds(root, delim) || is_delim_used(tree, delim) {
+        return Err(WriteTraceFault::DelimUsed);
+    }
+    if is_any_too_long(tree, root) {
+        return Err(WriteTraceFault::TooLong);
+    }
+    let mut out = Vec::new(alloc);
+    match put_tree(&mut out, tree, root, delim) {
+        Ok(()) => Ok(out),
+        Err(Memory) => Err(WriteTraceFault::Memory),
+    }
+}
+
+/// The law of written traces: what is written of a tree is read again to the same tree.
+pub fn written_traces_read_back()
+    ensures { TraceReadsBack }
+{}

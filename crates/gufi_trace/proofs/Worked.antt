@@ -1,0 +1,90 @@
+-- Traces at worked values.
+use Rattle.std.proofs.Common.{◌≡◌, ℕ, List, [], ◌∷◌, ◌++◌, refl}
+use Rattle.std.specs.Prelude.{Ok, Err, pos, codes, Result}
+use Rattle.std.specs.Fmt.{digits}
+use Rattle.gufi_base.specs.declared.record.Meta.{Meta}
+use Rattle.gufi_base.specs.declared.record.Kind.{Kind}
+use Rattle.gufi_base.specs.declared.record.Kind.TheVariants.{Dir, File}
+use Rattle.gufi_base.specs.Paths.{read_path}
+use Rattle.gufi_tree.specs.Tree.{Directory}
+use Rattle.gufi_tree.specs.Build.{tree_of}
+use Rattle.gufi_trace.specs.TraceText.{trace_means, trace_lines, read_line, read_lines, read_meta, read_line_path, TraceFailure, failure_text}
+use Rattle.gufi_trace.specs.TraceWriting.{trace_text}
+
+abbrev a1 : List ℕ
+a1 = codes "/r|d|1|493|2|101|100|4096|4096|8|10|20|30|\n"
+
+abbrev b_text : List ℕ
+b_text = codes "/r|d|1|493|3|101|100|4096|4096|8|10|20|30|\n/r/c|d|2|45|2|102|200|4096|4096|8|10|22|30|\n/r/c/x|f|3|420|1|102|200|7|4096|8|10|21|30|\n"
+
+abbrev meta : Kind → ℕ → ℕ → ℕ → ℕ → ℕ → ℕ → ℕ → ℕ → Meta
+meta kind inode mode nlink uid gid size blocks mtime = record { kind = kind; inode = inode; mode = mode; nlink = nlink; uid = uid; gid = gid; size = size; blksize = 4096; blocks = blocks; atime = pos 10; mtime = pos mtime; ctime = pos 30 }
+
+abbrev tree_a : List Directory
+tree_a = record { path = []; rec = record { meta = meta Dir 1 493 2 101 100 4096 8 20; link = [] }; entries = [] } ∷ []
+
+abbrev tree_b : List Directory
+tree_b =
+    record { path = []; rec = record { meta = meta Dir 1 493 3 101 100 4096 8 20; link = [] }; entries = [] }
+    ∷ record {
+      path = codes "c" ∷ [];
+      rec = record { meta = meta Dir 2 45 2 102 200 4096 8 22; link = [] };
+      entries = record { name = codes "x"; rec = record { meta = meta File 3 420 1 102 200 7 8 21; link = [] } } ∷ [];
+    }
+    ∷ []
+
+one_directory : trace_means 124 a1 ≡ Ok tree_a
+unfolding trace_means trace_lines read_lines read_line read_line_path read_meta read_path tree_of
+one_directory = refl
+
+entry_of_a_directory : trace_means 124 b_text ≡ Ok tree_b
+unfolding trace_means trace_lines read_lines read_line read_line_path read_meta read_path tree_of
+entry_of_a_directory = refl
+
+two_bad_lines : List ℕ
+two_bad_lines = a1 ++ codes "/r/a|f|2|420|1|101|100|0|4096|0|10|20|30|\n/r/b|f|2|420|1|101|100|0|4096|0|10|20|30|\n/r/c|f|2|420|1|101|100|0|4096|0|10|20|30\n/r/d|f|2|420|1|101|100|0|4096|0|10|20|30|\n/r/d|f|2|420|x|101|100|0|4096|0|10|20|30|\n"
+
+abbrev failure : Result (List Directory) TraceFailure → List ℕ
+failure (Ok tree) = []
+failure (Err d) = failure_text d
+
+least_bad_line : failure (trace_means 124 two_bad_lines) ≡ codes "4 Short"
+unfolding trace_means trace_lines read_lines read_line read_line_path read_meta read_path tree_of two_bad_lines digits
+least_bad_line = refl
+
+d1 : List ℕ
+d1 = codes "/r|d|1|493|3|101|100|4096|4096|8|10|20|30|\n"
+
+d2 : List ℕ
+d2 = codes "/r/a|d|2|493|3|101|100|4096|4096|8|10|20|30|\n"
+
+d3 : List ℕ
+d3 = codes "/r/a/b|d|3|493|2|101|100|4096|4096|8|10|20|30|\n"
+
+stanzas_in_any_order : trace_means 124 (d1 ++ d3 ++ d2) ≡ trace_means 124 (d1 ++ d2 ++ d3)
+unfolding trace_means trace_lines read_lines read_line read_line_path read_meta read_path tree_of d1 d2 d3
+stanzas_in_any_order = refl
+
+line_twice : failure (trace_means 124 (d1 ++ d2 ++ d2 ++ d3)) ≡ codes "3 Duplicate"
+unfolding trace_means trace_lines read_lines read_line read_line_path read_meta read_path tree_of d1 d2 d3 digits
+line_twice = refl
+
+cut_line_is_named : failure (trace_means 124 (codes "/r|d|1|493|2|101|100|4096|4096|8|10|20|30|")) ≡ codes "1 CutLine"
+unfolding trace_means trace_lines read_lines read_line read_line_path read_meta read_path tree_of digits
+cut_line_is_named = refl
+
+orphan_is_named : failure (trace_means 124 (d1 ++ d3)) ≡ codes "2 Orphan"
+unfolding trace_means trace_lines read_lines read_line read_line_path read_meta read_path tree_of d1 d3 digits
+orphan_is_named = refl
+
+no_lines : failure (trace_means 124 []) ≡ codes "0 NoRoot"
+unfolding trace_means trace_lines read_lines read_line read_line_path read_meta read_path tree_of
+no_lines = refl
+
+bad_size_is_named : failure (trace_means 124 (a1 ++ codes "/r/w|f|1|493|2|101|100|x|4096|8|10|20|30|\n")) ≡ codes "2 BadNumber 8"
+unfolding trace_means trace_lines read_lines read_line read_line_path read_meta read_path tree_of digits
+bad_size_is_named = refl
+
+written : trace_text tree_b (codes "r" ∷ []) 124 ≡ b_text
+unfolding digits
+written = refl

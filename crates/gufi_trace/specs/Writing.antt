@@ -1,0 +1,63 @@
+-- The parts of a written line.
+use Rattle.std.specs.Prelude.{◌≡◌, ◌≢◌, ℕ, Bool, ◌||◌, List, [], ◌∷◌, ◌++◌, decimal, nat_lt, Result, Ok, Err, ℤ}
+use Rattle.std.specs.Fmt.{signed_decimal}
+use Rattle.std.specs.Global.{Vec}
+use Rattle.std.specs.List.{flat_map, list_any}
+use Rattle.gufi_base.specs.declared.record.Meta.{Meta}
+use Rattle.gufi_base.specs.declared.record.Rec.{Rec}
+use Rattle.gufi_base.specs.Kinds.{kind_letter}
+use Rattle.gufi_base.specs.Paths.{Components, is_too_long}
+use Rattle.gufi_base.specs.TraceRows.{row_line}
+use Rattle.gufi_tree.specs.declared.tree.Entry.{Entry}
+use Rattle.gufi_tree.specs.Tree.{Directory, own_rows}
+use Rattle.gufi_trace.specs.declared.writer.WriteTraceFault.{WriteTraceFault}
+use Rattle.gufi_trace.specs.declared.writer.WriteTraceFault.TheVariants.{Memory}
+use Rattle.gufi_trace.specs.TraceWriting.{row_holds}
+
+abbrev pub number_text : ℕ → ℕ → List ℕ
+number_text delim n = delim ∷ decimal n
+
+abbrev pub signed_text : ℕ → ℤ → List ℕ
+signed_text delim z = delim ∷ signed_decimal z
+
+-- fields 2 to 7, 8 to 10 and 11 to 13, each behind a delimiter
+abbrev pub owner_text : ℕ → Meta → List ℕ
+owner_text delim m =
+    (delim ∷ kind_letter m.kind ∷ []) ++ (number_text delim m.inode ++ (number_text delim m.mode ++ (number_text delim m.nlink ++ (number_text delim m.uid ++ number_text delim m.gid))))
+
+abbrev pub size_text : ℕ → Meta → List ℕ
+size_text delim m = number_text delim m.size ++ (number_text delim m.blksize ++ number_text delim m.blocks)
+
+abbrev pub times_text : ℕ → Meta → List ℕ
+times_text delim m = signed_text delim m.atime ++ (signed_text delim m.mtime ++ signed_text delim m.ctime)
+
+-- the link and the line's end
+abbrev pub end_text : ℕ → List ℕ → List ℕ
+end_text delim link = delim ∷ link ++ 10 ∷ []
+
+-- what follows the path in a line
+unfoldable pub rec_text : ℕ → Rec → List ℕ
+rec_text delim rec = owner_text delim rec.meta ++ (size_text delim rec.meta ++ (times_text delim rec.meta ++ end_text delim rec.link))
+
+-- the directory of these parts
+abbrev pub directory : Components → Rec → List Entry → Directory
+directory path rec entries = record { path = path; rec = rec; entries = entries }
+
+-- a row of the directory holds the delimiter, and one is too long; its lines
+abbrev pub own_holds : ℕ → Directory → Bool
+own_holds delim dir = list_any (row_holds delim) (own_rows dir)
+
+abbrev pub own_too_long : Components → Directory → Bool
+own_too_long root dir = list_any (λ row. is_too_long (root ++ row.path)) (own_rows dir)
+
+abbrev pub own_text : ℕ → Components → Directory → List ℕ
+own_text delim root dir = flat_map (row_line delim root) (own_rows dir)
+
+-- a path of so many names and bytes
+abbrev pub is_over : ℕ → ℕ → Bool
+is_over names bytes = nat_lt 256 names || nat_lt 4096 bytes
+
+-- the text that a call gave is that of the definition, unless memory ran out
+abbrev pub GivesText : Result (Vec ℕ) WriteTraceFault → Result (List ℕ) WriteTraceFault → Type 0
+GivesText (Ok out) given = given ≡ Ok out.items
+GivesText (Err e) given = e ≢ Memory → given ≡ Err e

@@ -1,0 +1,139 @@
+//! The fields of a line.
+
+ghost use Rattle.std.specs.Prelude.{◌≡◌, ◌+◌, ◌<◌, ◌==◌, length, drop, option_map, position};
+ghost use Rattle.std.specs.Iterator.{YieldsFirstRef};
+ghost use Rattle.gufi_base.specs.Words.{split};
+ghost use Rattle.gufi_trace.specs.Reading.{Gives};
+ghost use Rattle.gufi_trace.specs.Fields.{texts, fields_of, fields_in};
+
+use crate::fault::{Refused, TraceKind};
+use memchr::memchr_iter;
+use std::marker::Model;
+
+fn end_of(text: &[u8], delim: u8) -> Option<usize>
+    ensures { result ≡ position (λ b. b == delim) text.now }
+{
+    memchr_iter(delim, text).next()
+}
+
+fn behind(text: &[u8], at: usize) -> &[u8]
+    requires { at < length text.now }
+    ensures { result.now ≡ drop (at + 1) text.now }
+{
+    &text[at + 1..]
+}
+
+/// The parts of a line round each delimiter, in order. Fields are short, so their ends are looked for 32 bytes at a time.
+#[derive(Drop)]
+pub(crate) struct Parts<'a> {
+    rest: &'a [u8],
+    delim: u8,
+    is_done: bool,
+}
+
+impl<'a> Model for Parts<'a> {
+    ghost use Rattle.std.specs.Prelude.{ℕ, List, [], if◌then◌else◌};
+    ghost use Rattle.gufi_base.specs.Words.{split};
+
+    ghost Value = { List (List ℕ) };
+
+    ghost view = { λ p. if p.is_done then [] else split p.delim p.rest.now };
+}
+
+impl<'a> Parts<'a> {
+    pub(crate) fn of(text: &'a [u8], delim: u8) -> Parts<'a>
+        ensures { result ≡ split delim text.now }
+    {
+        Parts {
+            rest: text,
+            delim,
+            is_done: false,
+        }
+    }
+
+    /// The next part, where there is one.
+    pub(crate) fn next_part(&mut self) -> Option<&'a [u8]>
+        ensures { YieldsFirstRef (λ parts. parts) self.old result self.new }
+    {
+        if self.is_done {
+            return None;
+        }
+        let rest = self.rest;
+        match end_of(rest, self.delim) {
+            Some(at) => {
+                self.rest = behind(rest, at);
+                Some(&rest[..at])
+            }
+            None => {
+                self.is_done = true;
+                Some(rest)
+            }
+        }
+    }
+}
+
+/// The first fourteen fields of a line.
+#[derive(Clone, Copy)]
+pub(crate) struct Fields<'a> {
+    pub path: &'a [u8],
+    pub kind: &'a [u8],
+    pub inode: &'a [u8],
+    pub mode: &'a [u8],
+    pub nlink: &'a [u8],
+    pub uid: &'a [u8],
+    pub gid: &'a [u8],
+    pub size: &'a [u8],
+    pub blksize: &'a [u8],
+    pub blocks: &'a [u8],
+    pub atime: &'a [u8],
+    pub mtime: &'a [u8],
+    pub ctime: &'a [u8],
+    pub link: &'a [u8],
+}
+
+#[tactic(auto, unfolding(crate::specs::Fields::fields_of))]
+fn next_fields<'a>(parts: &mut Parts<'a>) -> Option<Fields<'a>>
+    ensures { option_map texts result ≡ fields_of parts.old }
+{
+    let path = parts.next_part()?;
+    let kind = parts.next_part()?;
+    let inode = parts.next_part()?;
+    let mode = parts.next_part()?;
+    let nlink = parts.next_part()?;
+    let uid = parts.next_part()?;
+    let gid = parts.next_part()?;
+    let size = parts.next_part()?;
+    let blksize = parts.next_part()?;
+    let blocks = parts.next_part()?;
+    let atime = parts.next_part()?;
+    let mtime = parts.next_part()?;
+    let ctime = parts.next_part()?;
+    let link = parts.next_part()?;
+    Some(Fields {
+        path,
+        kind,
+        inode,
+        mode,
+        nlink,
+        uid,
+        gid,
+        size,
+        blksize,
+        blocks,
+        atime,
+        mtime,
+        ctime,
+        link,
+    })
+}
+
+/// The fields of a line, where it has fourteen; further ones are skipped unread.
+pub(crate) fn read_fields(text: &[u8], delim: u8) -> Result<Fields<'_>, Refused>
+    ensures { Gives texts result (fields_in delim text.now) }
+{
+    let mut parts = Parts::of(text, delim);
+    match next_fields(&mut parts) {
+        Some(fields) => Ok(fields),
+        None => Err(Refused::Fault(TraceKind::Short)),
+    }
+}

@@ -1,0 +1,128 @@
+//! A line of a written trace.
+
+ghost use Rattle.std.specs.Prelude.{◌≡◌, ◌∷◌, [], ◌++◌, OnOk, decimal};
+ghost use Rattle.std.specs.Fmt.{signed_decimal};
+ghost use Rattle.gufi_base.specs.declared.record.Row.{Row};
+ghost use Rattle.gufi_base.specs.Paths.{path_text, slashed_text};
+ghost use Rattle.gufi_base.specs.TraceRows.{row_line};
+ghost use Rattle.gufi_trace.specs.Writing.{number_text, signed_text, owner_text, size_text, times_text, end_text, rec_text};
+
+use crate::text::put;
+use gufi_base::{Memory, Meta, Name, Path, Rec, put_i64, put_u64};
+
+fn put_number(out: &mut Vec<u8>, delim: u8, number: u64) -> Result<(), Memory>
+    ensures { OnOk result (out.new.items ≡ out.old.items ++ number_text delim number) }
+{
+    put(out, &[delim])?;
+    put_u64(out, number)
+}
+
+fn put_signed(out: &mut Vec<u8>, delim: u8, number: i64) -> Result<(), Memory>
+    ensures { OnOk result (out.new.items ≡ out.old.items ++ signed_text delim number) }
+{
+    put(out, &[delim])?;
+    put_i64(out, number)
+}
+
+fn put_owner(out: &mut Vec<u8>, delim: u8, meta: &Meta) -> Result<(), Memory>
+    ensures { OnOk result (out.new.items ≡ out.old.items ++ owner_text delim meta.now) }
+{
+    put(out, &[delim, meta.kind.letter()])?;
+    put_number(out, delim, meta.inode)?;
+    put_number(out, delim, u64::from(meta.mode))?;
+    put_number(out, delim, meta.nlink)?;
+    put_number(out, delim, u64::from(meta.uid))?;
+    put_number(out, delim, u64::from(meta.gid))
+}
+
+fn put_size(out: &mut Vec<u8>, delim: u8, meta: &Meta) -> Result<(), Memory>
+    ensures { OnOk result (out.new.items ≡ out.old.items ++ size_text delim meta.now) }
+{
+    put_number(out, delim, meta.size)?;
+    put_number(out, delim, meta.blksize)?;
+    put_number(out, delim, meta.blocks)
+}
+
+fn put_times(out: &mut Vec<u8>, delim: u8, meta: &Meta) -> Result<(), Memory>
+    ensures { OnOk result (out.new.items ≡ out.old.items ++ times_text delim meta.now) }
+{
+    put_signed(out, delim, meta.atime)?;
+    put_signed(out, delim, meta.mtime)?;
+    put_signed(out, delim, meta.ctime)
+}
+
+fn put_end(out: &mut Vec<u8>, delim: u8, link: &[u8]) -> Result<(), Memory>
+    ensures { OnOk result (out.new.items ≡ out.old.items ++ end_text delim link.now) }
+{
+    put(out, &[delim])?;
+    put(out, link)?;
+    put(out, b"\n")
+}
+
+/// What follows the path.
+#[tactic(auto, unfolding(crate::specs::Writing::rec_text))]
+fn put_rec(out: &mut Vec<u8>, delim: u8, rec: &Rec) -> Result<(), Memory>
+    ensures { OnOk result (out.new.items ≡ out.old.items ++ rec_text delim rec.now) }
+{
+    put_owner(out, delim, &rec.meta)?;
+    put_size(out, delim, &rec.meta)?;
+    put_times(out, delim, &rec.meta)?;
+    put_end(out, delim, rec.link.as_slice())
+}
+
+fn put_slashed(out: &mut Vec<u8>, path: &Path) -> Result<(), Memory>
+    ensures { OnOk result (out.new.items ≡ out.old.items ++ slashed_text path.now) }
+{
+    if path.is_root() {
+        return Ok(());
+    }
+    put(out, path.printed())
+}
+
+fn put_path(out: &mut Vec<u8>, root: &Path, path: &Path) -> Result<(), Memory>
+    ensures { OnOk result (out.new.items ≡ out.old.items ++ path_text (root.now ++ path.now)) }
+{
+    if root.is_root() && path.is_root() {
+        return put(out, b"/");
+    }
+    put_slashed(out, root)?;
+    put_slashed(out, path)
+}
+
+fn put_entry_path(out: &mut Vec<u8>, root: &Path, path: &Path, name: &Name) -> Result<(), Memory>
+    ensures { OnOk result (out.new.items ≡ out.old.items ++ path_text (root.now ++ (path.now ++ name.now ∷ []))) }
+{
+    put_slashed(out, root)?;
+    put_slashed(out, path)?;
+    put(out, b"/")?;
+    put(out, name.as_slice())
+}
+
+/// The line of a directory.
+pub(crate) fn put_directory(
+    out: &mut Vec<u8>,
+    root: &Path,
+    delim: u8,
+    path: &Path,
+    rec: &Rec,
+) -> Result<(), Memory>
+    ensures { OnOk result (out.new.items ≡ out.old.items ++ row_line delim root.now (record { path = path.now; rec = rec.now })) }
+{
+    put_path(out, root, path)?;
+    put_rec(out, delim, rec)
+}
+
+/// The line of an entry of a directory.
+pub(crate) fn put_entry(
+    out: &mut Vec<u8>,
+    root: &Path,
+    delim: u8,
+    path: &Path,
+    name: &Name,
+    rec: &Rec,
+) -> Result<(), Memory>
+    ensures { OnOk result (out.new.items ≡ out.old.items ++ row_line delim root.now (record { path = path.now ++ name.now ∷ []; rec = rec.now })) }
+{
+    put_entry_path(out, root, path, name)?;
+    put_rec(out, delim, rec)
+}
