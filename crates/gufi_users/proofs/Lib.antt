@@ -1,0 +1,5 @@
+pub mod LineLemmas
+pub mod PlaceLemmas
+pub mod ReadLemmas
+pub mod RowLemmas
+pub mod TableLemmas

@@ -1,0 +1,4 @@
+pub mod Entries
+pub mod Users
+pub mod Places
+pub mod Rows

@@ -1,0 +1,22 @@
+//! The users and groups of passwd and group files, and who a USER word names.
+//!
+//! Contracts see a passwd file as its rows in file order, a group file likewise, and `Users` as both tables.
+//! It stands on names and access rules; the words of `find`, listings and sessions stand on it.
+#![tactic(auto)]
+
+mod fault;
+mod group;
+mod line;
+mod passwd;
+mod place;
+mod row;
+mod users;
+mod word;
+
+pub use fault::{UserError, UserKind};
+pub use group::{Groups, read_group};
+pub use passwd::{Passwd, read_passwd};
+pub use users::Users;
+
+#[cfg(test)]
+mod tests;

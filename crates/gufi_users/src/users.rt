@@ -1,0 +1,122 @@
+//! Both tables together: who a USER word names, and names by number.
+ghost use Rattle.std.specs.Prelude.{◌≡◌, Some, None, option_map, slice_get, IfOk, MatchOption};
+ghost use Rattle.gufi_users.specs.Users.{groups_of, name_of_gid, name_of_uid, gid_of, uid_of, principal_of};
+
+use crate::group::Groups;
+use crate::passwd::{Account, Passwd};
+use crate::place::{distinct_numbers, first_places, place_in};
+use crate::word::numbered;
+use gufi_access::Principal;
+use gufi_base::Memory;
+use std::alloc::{AllocError, Global};
+use std::collections::HashMap;
+use std::marker::Model;
+
+/// The users and the groups, by name and by number.
+#[derive(Drop)]
+pub struct Users {
+    passwd: Passwd,
+    groups: Groups,
+    uids: HashMap<u32, usize>,
+    gids: HashMap<u32, usize>,
+}
+
+impl Model for Users {
+    ghost use Rattle.gufi_users.specs.Entries.{UserTables};
+
+    ghost Value = { UserTables };
+
+    ghost use Rattle.gufi_users.specs.Places.{AreIndexed};
+
+    ghost view = { λ u. record { users = u.passwd; groups = u.groups } };
+
+    ghost invariant = { λ u. AreIndexed u.passwd u.groups u.uids u.gids };
+}
+
+impl Users {
+    ghost use Rattle.gufi_users.specs.Entries.{UserTables};
+
+    /// Both files, with tables by number that give the first row in file order.
+    pub fn of(alloc: Global, passwd: Passwd, groups: Groups) -> Result<Users, Memory>
+        ensures { IfOk result (λ users. users ≡ record { users = passwd; groups = groups }) }
+    {
+        let numbers = passwd.uids(alloc)?;
+        let uids = first_places(alloc, &numbers)?;
+        let numbers = groups.gids(alloc)?;
+        let gids = first_places(alloc, &numbers)?;
+        Ok(Users {
+            passwd,
+            groups,
+            uids,
+            gids,
+        })
+    }
+
+    /// The name of a uid: the first in file order. Two look-ups.
+    pub fn name_of_uid(&self, uid: u32) -> Option<&[u8]>
+        ensures { MatchOption result
+            (name_of_uid self.now uid ≡ None)
+            (λ name. name_of_uid self.now uid ≡ Some name.now) }
+    {
+        match place_in(&self.uids, uid) {
+            Some(place) => self.passwd.name_at(place),
+            None => None,
+        }
+    }
+
+    /// The name of a gid: the first in file order. Two look-ups.
+    pub fn name_of_gid(&self, gid: u32) -> Option<&[u8]>
+        ensures { MatchOption result
+            (name_of_gid self.now gid ≡ None)
+            (λ name. name_of_gid self.now gid ≡ Some name.now) }
+    {
+        match place_in(&self.gids, gid) {
+            Some(place) => self.groups.name_at(place),
+            None => None,
+        }
+    }
+
+    /// The uid of a name. One look-up.
+    pub fn uid_of(&self, name: &[u8]) -> Option<u32>
+        ensures { result ≡ uid_of self.now name.now }
+    {
+        match self.passwd.account_of(name) {
+            Some(account) => Some(account.uid),
+            None => None,
+        }
+    }
+
+    /// The gid of a name. One look-up.
+    pub fn gid_of(&self, name: &[u8]) -> Option<u32>
+        ensures { result ≡ gid_of self.now name.now }
+    {
+        self.groups.gid_named(name)
+    }
+
+    /// Who a word names: a user of that name, or else the numbers that it writes, as `UID`, `UID:` or `UID:GID,GID`.
+    ///
+    /// A named user has his passwd gid and the groups that list him, in file order and without repeats.
+    #[tactic(auto, unfolding(crate::specs::Users::principal_of))]
+    pub fn principal(&self, alloc: Global, word: &[u8]) -> Result<Option<Principal>, Memory>
+        ensures { IfOk result (λ who. who ≡ principal_of self.now word.now) }
+    {
+        match self.passwd.account_of(word) {
+            Some(account) => {
+                let groups = self.gids_of(alloc, word, account)?;
+                Ok(Some(Principal {
+                    uid: account.uid,
+                    groups: gufi_access::Groups::of(groups),
+                }))
+            }
+            None => Ok(numbered(alloc, word)?),
+        }
+    }
+
+    // The gids of a named user.
+    fn gids_of(&self, alloc: Global, name: &[u8], account: Account) -> Result<Vec<u32>, AllocError>
+        ensures { IfOk result (λ gids. gids.items ≡ groups_of self.now (record { name = name.now; uid = account.uid; gid = account.gid })) }
+    {
+        let others = self.groups.gids_with(alloc, name)?;
+        distinct_numbers(alloc, account.gid, &others)
+    }
+}
