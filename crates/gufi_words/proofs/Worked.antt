@@ -1,0 +1,67 @@
+-- Words that were worked out by hand.
+use Rattle.std.proofs.Common.{◌≡◌, [], ◌∷◌, refl}
+use Rattle.std.specs.Prelude.{None, Some, Ok, Err, codes, false, true}
+use Rattle.gufi_base.specs.Paths.{read_path}
+use Rattle.gufi_words.specs.declared.word.WordError.TheVariants.{Refused}
+use Rattle.gufi_words.specs.declared.command.Command.TheVariants as commands
+use Rattle.gufi_words.specs.WordOptions.{read_options, step_at, step_free}
+use Rattle.gufi_words.specs.CommandNames.{command_named, option_named}
+use Rattle.gufi_words.specs.CommandWords.{read_words, common_of, walk_of, rollup_of, find_of, ls_of, session_of, gen_of}
+
+walk_by_number : read_words (codes "walk" ∷ codes "A" ∷ codes "102" ∷ codes "-" ∷ codes "|" ∷ []) ≡ Ok (commands.Walk (codes "A") 102 [] 124)
+unfolding read_words command_named walk_of read_options step_at step_free
+walk_by_number = refl
+
+walk_behind_end : read_words (codes "walk" ∷ codes "--" ∷ codes "A" ∷ codes "102" ∷ codes "-" ∷ codes "|" ∷ []) ≡ Ok (commands.Walk (codes "A") 102 [] 124)
+unfolding read_words command_named walk_of read_options step_at step_free
+walk_behind_end = refl
+
+uid_of_33_bits : read_words (codes "walk" ∷ codes "A" ∷ codes "4294967296" ∷ codes "-" ∷ []) ≡ Err (Refused 3)
+unfolding read_words command_named walk_of read_options step_at step_free
+uid_of_33_bits = refl
+
+no_uid : read_words (codes "walk" ∷ codes "A" ∷ []) ≡ Err (Refused 3)
+unfolding read_words command_named walk_of read_options step_at step_free
+no_uid = refl
+
+no_option_of_gen : read_words (codes "gen" ∷ codes "--limit=3" ∷ codes "5" ∷ []) ≡ Err (Refused 2)
+unfolding read_words command_named option_named gen_of read_options step_at step_free
+no_option_of_gen = refl
+
+bad_value_in_two_words : read_words (codes "find" ∷ codes "--workers" ∷ codes "33" ∷ codes "A" ∷ codes "102" ∷ codes "/" ∷ []) ≡ Err (Refused 3)
+unfolding read_words command_named option_named find_of read_options step_at step_free
+bad_value_in_two_words = refl
+
+no_words : read_words [] ≡ Err (Refused 1)
+unfolding read_words
+no_words = refl
+
+no_such_option : read_words (codes "ls" ∷ codes "-z" ∷ codes "A" ∷ codes "102" ∷ codes "/" ∷ []) ≡ Err (Refused 2)
+unfolding read_words command_named option_named ls_of read_options step_at step_free
+no_such_option = refl
+
+words_of_find : read_words (codes "find" ∷ codes "--delim=|" ∷ codes "E" ∷ codes "102" ∷ codes "/p" ∷ codes "-size" ∷ codes "1" ∷ [])
+    ≡ Ok (commands.Find (record { passwd = None; group = None; delim = 124; limit = 0; workers = 1; index = codes "E"; user = codes "102"; user_at = 4; start = codes "p" ∷ [] }) None (codes "-size" ∷ codes "1" ∷ []))
+unfolding read_words command_named option_named find_of common_of read_options step_at step_free read_path
+words_of_find = refl
+
+flags_of_ls : read_words (codes "ls" ∷ codes "--delim=|" ∷ codes "--passwd=P" ∷ codes "--group=G" ∷ codes "-l" ∷ codes "H" ∷ codes "ana" ∷ codes "/" ∷ [])
+    ≡ Ok (commands.Ls (record { passwd = Some (codes "P"); group = Some (codes "G"); delim = 124; limit = 0; workers = 1; index = codes "H"; user = codes "ana"; user_at = 7; start = [] }) true false)
+unfolding read_words command_named option_named ls_of common_of read_options step_at step_free read_path
+flags_of_ls = refl
+
+no_limit : read_words (codes "rollup" ∷ codes "A" ∷ []) ≡ Err (Refused 3)
+unfolding read_words command_named rollup_of read_options step_at step_free
+no_limit = refl
+
+extra_before_no_limit : read_words (codes "rollup" ∷ codes "A" ∷ codes "B" ∷ []) ≡ Err (Refused 3)
+unfolding read_words command_named rollup_of read_options step_at step_free
+extra_before_no_limit = refl
+
+limit_without_value : read_words (codes "rollup" ∷ codes "--limit" ∷ []) ≡ Err (Refused 3)
+unfolding read_words command_named option_named rollup_of read_options step_at step_free
+limit_without_value = refl
+
+option_twice : read_words (codes "session" ∷ codes "--now=1" ∷ codes "--now" ∷ codes "x" ∷ codes "s" ∷ []) ≡ Err (Refused 3)
+unfolding read_words command_named option_named session_of read_options step_at step_free
+option_twice = refl

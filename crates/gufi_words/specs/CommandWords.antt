@@ -1,0 +1,130 @@
+-- The words of a command: its name, options, then positionals; or the first word that can't be taken.
+use Rattle.std.specs.Prelude.{ℕ, ◌+◌, List, length, drop, Result, Ok}
+use Rattle.std.specs.Option.{ok_or}
+use Rattle.gufi_base.specs.Delimiters.{default_delimiter}
+use Rattle.gufi_base.specs.Words.{◌>>=◌, ◌>>◌}
+use Rattle.gufi_base.specs.Numbers.{read_u32}
+use Rattle.gufi_words.specs.WordNumbers.{number_at, refused_at}
+use Rattle.gufi_words.specs.WordValues.{Word, read_delimiter, read_count, read_report, read_file, read_start, read_gids, read_any}
+use Rattle.gufi_words.specs.CommandNames.{command_named}
+use Rattle.gufi_words.specs.WordOptions.{delim_or_default, limit_or_default, workers_or_default, start, read_options}
+use Rattle.gufi_words.specs.WordPositionals.{needed, perhaps, no_more}
+use Rattle.gufi_words.specs.declared.word.WordError.{WordError}
+use Rattle.gufi_words.specs.declared.name.CommandName.{CommandName}
+use Rattle.gufi_words.specs.declared.name.CommandName.TheVariants.{Walk, Trace2index, Rollup, Query, Find, Ls, Stat, Stats, Session, Gen}
+use Rattle.gufi_words.specs.declared.option.Options.{Options}
+use Rattle.gufi_words.specs.declared.option.Arguments.{Arguments}
+use Rattle.gufi_words.specs.declared.command.Common.{Common}
+use Rattle.gufi_words.specs.declared.command.Command.{Command}
+use Rattle.gufi_words.specs.declared.command.Command.TheVariants as commands
+
+-- INDEX USER START, from a place on
+unfoldable pub common_of : List Word → ℕ → Options → Result Common WordError
+common_of words place options = do
+  index ← needed read_file words place
+  user ← needed read_any words (place + 1)
+  path ← needed read_start words (place + 2)
+  Ok (record {
+    passwd = options.passwd;
+    group = options.group;
+    delim = delim_or_default options;
+    limit = limit_or_default options;
+    workers = workers_or_default options;
+    index = index;
+    user = user;
+    user_at = number_at (place + 1);
+    start = path;
+  })
+
+-- TRACE UID GIDS and perhaps DELIM
+unfoldable pub walk_of : List Word → Arguments → Result Command WordError
+walk_of words arguments = do
+  trace ← needed read_file words arguments.first
+  uid ← needed read_u32 words (arguments.first + 1)
+  gids ← needed read_gids words (arguments.first + 2)
+  delim ← perhaps read_delimiter default_delimiter words (arguments.first + 3)
+  no_more words (arguments.first + 4)
+  Ok (commands.Walk trace uid gids delim)
+
+-- TRACE
+unfoldable pub trace2index_of : List Word → Arguments → Result Command WordError
+trace2index_of words arguments = do
+  trace ← needed read_file words arguments.first
+  no_more words (arguments.first + 1)
+  Ok (commands.Trace2index trace (delim_or_default arguments.options))
+
+-- INDEX, with a limit, without which the words are too few
+unfoldable pub rollup_of : List Word → Arguments → Result Command WordError
+rollup_of words arguments = do
+  index ← needed read_file words arguments.first
+  no_more words (arguments.first + 1)
+  limit ← ok_or arguments.options.limit (refused_at (length words))
+  Ok (commands.Rollup index (delim_or_default arguments.options) limit)
+
+-- INDEX USER START TEXT
+unfoldable pub query_of : List Word → Arguments → Result Command WordError
+query_of words arguments = do
+  common ← common_of words arguments.first arguments.options
+  text ← needed read_any words (arguments.first + 3)
+  no_more words (arguments.first + 4)
+  Ok (commands.Query common text)
+
+-- INDEX USER START and any further words
+unfoldable pub find_of : List Word → Arguments → Result Command WordError
+find_of words arguments = do
+  common ← common_of words arguments.first arguments.options
+  Ok (commands.Find common arguments.options.time (drop (arguments.first + 3) words))
+
+-- INDEX USER START
+unfoldable pub ls_of : List Word → Arguments → Result Command WordError
+ls_of words arguments = do
+  common ← common_of words arguments.first arguments.options
+  no_more words (arguments.first + 3)
+  Ok (commands.Ls common arguments.options.long arguments.options.all)
+
+-- INDEX USER START
+unfoldable pub stat_of : List Word → Arguments → Result Command WordError
+stat_of words arguments = do
+  common ← common_of words arguments.first arguments.options
+  no_more words (arguments.first + 3)
+  Ok (commands.Stat common)
+
+-- INDEX USER START REPORT
+unfoldable pub stats_of : List Word → Arguments → Result Command WordError
+stats_of words arguments = do
+  common ← common_of words arguments.first arguments.options
+  report ← needed read_report words (arguments.first + 3)
+  no_more words (arguments.first + 4)
+  Ok (commands.Stats common report)
+
+-- SCRIPT
+unfoldable pub session_of : List Word → Arguments → Result Command WordError
+session_of words arguments = do
+  script ← needed read_file words arguments.first
+  no_more words (arguments.first + 1)
+  Ok (commands.Session arguments.options.passwd arguments.options.group (delim_or_default arguments.options) (workers_or_default arguments.options) arguments.options.time script)
+
+-- N
+unfoldable pub gen_of : List Word → Arguments → Result Command WordError
+gen_of words arguments = do
+  n ← needed read_count words arguments.first
+  no_more words (arguments.first + 1)
+  Ok (commands.Gen n (delim_or_default arguments.options) (workers_or_default arguments.options) arguments.options.summary)
+
+abbrev pub command_of : CommandName → List Word → Arguments → Result Command WordError
+command_of Walk = walk_of
+command_of Trace2index = trace2index_of
+command_of Rollup = rollup_of
+command_of Query = query_of
+command_of Find = find_of
+command_of Ls = ls_of
+command_of Stat = stat_of
+command_of Stats = stats_of
+command_of Session = session_of
+command_of Gen = gen_of
+
+unfoldable pub read_words : List Word → Result Command WordError
+read_words words = do
+  name ← needed command_named words 0
+  arguments ← read_options name start 1 (drop 1 words)
+  command_of name words arguments

@@ -1,0 +1,87 @@
+//! Commands.
+
+use gufi_base::{Items, Nums, Path, Text};
+
+/// The report that `stats` is asked for.
+#[derive(Clone, Copy, Debug, PartialEq, Eq)]
+pub enum ReportWord {
+    Levels,
+    Uids,
+    Gids,
+    Leaves,
+}
+
+/// What each command has that asks an index.
+#[derive(Drop)]
+pub struct Common {
+    /// The file of users, as those below is; none stands for an empty file.
+    pub passwd: Option<Text>,
+    pub group: Option<Text>,
+    /// The byte between the fields of a trace.
+    pub delim: u8,
+    /// How many rows may be rolled up into one store.
+    pub limit: u64,
+    pub workers: u32,
+    pub index: Text,
+    pub user: Text,
+    /// The number of the word USER.
+    pub user_at: u32,
+    pub start: Path,
+}
+
+/// A command. No user, no text of a query and no word of an expression is judged yet.
+#[derive(Drop)]
+pub enum Command {
+    Walk {
+        trace: Text,
+        uid: u32,
+        gids: Nums,
+        delim: u8,
+    },
+    Trace2index {
+        trace: Text,
+        delim: u8,
+    },
+    Rollup {
+        index: Text,
+        delim: u8,
+        limit: u64,
+    },
+    Query {
+        common: Common,
+        text: Text,
+    },
+    Find {
+        common: Common,
+        /// In seconds.
+        now: Option<i64>,
+        words: Items<Text>,
+    },
+    Ls {
+        common: Common,
+        long: bool,
+        all: bool,
+    },
+    Stat {
+        common: Common,
+    },
+    Stats {
+        common: Common,
+        report: ReportWord,
+    },
+    Session {
+        passwd: Option<Text>,
+        group: Option<Text>,
+        delim: u8,
+        workers: u32,
+        /// In seconds.
+        now: Option<i64>,
+        script: Text,
+    },
+    Gen {
+        n: u32,
+        delim: u8,
+        workers: u32,
+        summary: bool,
+    },
+}
