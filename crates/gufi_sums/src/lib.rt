@@ -1,0 +1,15 @@
+//! Sums of rows: how many of each kind, their bytes, and the least and greatest of their values.
+//!
+//! Contracts see a `Summary` as its fields; `total` is the sum of a list of rows, and sums join in any order and grouping.
+//! A `Skip` tells by a sum alone that none of its rows can meet a query.
+//! It stands on `gufi_base`; walks that count and stores that keep sums stand on it.
+#![tactic(auto)]
+
+mod skip;
+mod summary;
+
+pub use skip::{NoSkip, Skip};
+pub use summary::Summary;
+
+#[cfg(test)]
+mod tests;

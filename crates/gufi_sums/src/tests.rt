@@ -1,0 +1,52 @@
+//! Sums worked by hand.
+use crate::{NoSkip, Skip, Summary};
+use gufi_base::{Kind, Meta};
+
+fn meta(kind: Kind, size: u64, mtime: i64, uid: u32, gid: u32) -> Meta {
+    Meta {
+        kind,
+        inode: 1,
+        mode: 0o644,
+        nlink: 1,
+        uid,
+        gid,
+        size,
+        blksize: 4096,
+        blocks: 8,
+        atime: 0,
+        mtime,
+        ctime: 0,
+    }
+}
+
+#[test]
+fn sums_join(rt: HostRuntime) {
+    let mut left = Summary::empty();
+    left.add(&meta(Kind::File, 7, -5, 30, 7));
+    left.add(&meta(Kind::Dir, 4096, 9, 20, 9));
+    let mut right = Summary::empty();
+    right.add(&meta(Kind::File, 3, 2, 40, 8));
+    right.add(&meta(Kind::Socket, 1, 3, 10, 8));
+    left.join(&right);
+    let by_hand = Summary {
+        dirs: 1,
+        files: 2,
+        links: 0,
+        others: 1,
+        bytes: 10,
+        size: Some((3, 7)),
+        mtime: Some((-5, 9)),
+        uid: Some((10, 40)),
+        gid: Some((7, 9)),
+    };
+    assert_eq!(rt; left, by_hand);
+}
+
+fn is_passed_over<S: Skip>(skip: &S, sum: &Summary) -> bool {
+    skip.none_match(sum)
+}
+
+#[test]
+fn nothing_is_passed_over(rt: HostRuntime) {
+    assert!(rt; !is_passed_over(&NoSkip, &Summary::empty()));
+}
