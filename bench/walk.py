@@ -1,0 +1,68 @@
+#!/usr/bin/env python3
+"""Processor time, peak memory and instructions of `gufi walk` over a trace, beside another program's where one is named.
+
+  python3 walk.py TRACE [--program ../gufi] [--uid 2007] [--gids 5001,5002] [--runs 5] [--instructions] [--peer 'COMMAND ..']
+
+Runs are interleaved, output goes to /dev/null, files are warm, times are medians of user and system time. The peer is a
+command line that reads the same trace. Instructions are counted by valgrind's callgrind. Nothing here is a test.
+"""
+import argparse
+import os
+import resource
+import shlex
+import statistics
+import subprocess
+import sys
+
+
+def once(command):
+    """The seconds of processor time and the peak memory in MB of one run."""
+    with open(os.devnull, "w") as sink:
+        child = subprocess.Popen(command, stdout=sink)
+        _, status, usage = os.wait4(child.pid, 0)
+    if status:
+        sys.exit("%s ended with %d" % (command, status))
+    return usage.ru_utime + usage.ru_stime, usage.ru_maxrss / 1024
+
+
+def instructions(command):
+    tool = ["valgrind", "--tool=callgrind", "--callgrind-out-file=/dev/null"]
+    run = subprocess.run(tool + command, stdout=subprocess.DEVNULL, stderr=subprocess.PIPE, text=True)
+    return next(int(line.split(":")[1]) for line in run.stderr.splitlines() if "Collected" in line)
+
+
+def main():
+    here = os.path.dirname(os.path.abspath(__file__))
+    parser = argparse.ArgumentParser()
+    parser.add_argument("trace")
+    parser.add_argument("--program", default=os.path.join(here, "..", "gufi"))
+    parser.add_argument("--uid", default="2007")
+    parser.add_argument("--gids", default="5001,5002")
+    parser.add_argument("--runs", type=int, default=5)
+    parser.add_argument("--instructions", action="store_true")
+    parser.add_argument("--peer")
+    given = parser.parse_args()
+    with open(given.trace, "rb") as file:
+        rows = sum(piece.count(b"\n") for piece in iter(lambda: file.read(1 << 20), b""))
+    commands = {
+        "walk as %s" % given.uid: [given.program, "walk", given.trace, given.uid, given.gids],
+        "walk as root": [given.program, "walk", given.trace, "0", "-"],
+    }
+    if given.peer:
+        commands["peer"] = shlex.split(given.peer)
+    seen = {name: [] for name in commands}
+    for _ in range(given.runs + 1):
+        for name, command in commands.items():
+            seen[name].append(once(command))
+    print("%d rows" % rows)
+    for name, runs in seen.items():
+        time = statistics.median(seconds for seconds, _ in runs[1:])
+        peak = max(memory for _, memory in runs)
+        text = "%-16s %8.3f s  %7.0f ns/row  %6.0f MB" % (name, time, 1e9 * time / rows, peak)
+        if given.instructions:
+            text += "  %6.0f instructions/row" % (instructions(commands[name]) / rows)
+        print(text)
+
+
+if __name__ == "__main__":
+    main()

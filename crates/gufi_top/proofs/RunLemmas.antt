@@ -1,0 +1,116 @@
+-- Lemmas on how a run ends.
+use Rattle.std.proofs.Common.{◌≡◌, ℕ, List, [], refl, inl}
+use Rattle.std.specs.Prelude.{Option, Some, None, Result, Ok, Err, Vec}
+use Rattle.std.specs.declared.alloc.Global.{Global}
+use Rattle.std.specs.Io.KnownBytes.{Appends}
+use Rattle.std.proofs.KnownBytes.{Appends-nil}
+use Rattle.gufi_io.specs.Files.{Files}
+use Rattle.gufi_base.specs.Words.{◌>>=◌, result_map_err}
+use Rattle.gufi_words.specs.declared.command.Command.{Command}
+use Rattle.gufi_words.specs.declared.word.WordError.{WordError}
+use Rattle.gufi_words.specs.declared.word.WordError.TheVariants as word_errors
+use Rattle.gufi_tree.specs.Tree.{Directory}
+use Rattle.gufi_top.specs.Reasons.{Reason, word_refused, words_reason, trace_in}
+use Rattle.gufi_top.specs.Verdict.{Verdict, writes, opened, verdict, command_in, walked, walk_over}
+use Rattle.gufi_top.specs.Calls.{Gives, GivesOver}
+use Rattle.gufi_top.specs.Views.{text_view}
+use Rattle.gufi_top.specs.Ends.{BreaksOff, MayEnd, MayBreakOff, MayBeCut, TakesNote, Ended, BrokenOff, TextEnds, WriteFaulted}
+use Rattle.gufi_top.specs.declared.halt.Text.{Text}
+use Rattle.gufi_top.specs.declared.halt.Halt.{Halt}
+use Rattle.gufi_top.specs.declared.halt.Halt.TheVariants as halts
+use Rattle.gufi_top.specs.declared.words.Walk.{Walk}
+
+-- ---- one step after another
+
+fails_on : {A B : Type 0} (e : Halt) (step : Result A Reason) (next : A → Result B Reason) → Gives {A = A} (λ x. x) (Err e) step → Gives {A = B} (λ x. x) (Err e) (step >>= next)
+fails_on (halts.Refused status note) step next is = rw is refl
+fails_on halts.ReadFault step next is = tt
+fails_on halts.Memory step next is = tt
+
+pub walk_ok : (told : Option Files) (walk : Walk) (tree : List Directory) (r : Result Text Halt)
+    → GivesOver {A = List Directory} told (λ t. t) (Ok tree) (trace_in walk.delim walk.trace) → Gives text_view r (walked walk.who tree) → GivesOver told text_view r (walk_over walk)
+unfolding walk_over
+walk_ok None walk tree r read text = tt
+walk_ok (Some files) walk tree r read text = rw read text
+
+pub walk_err : (told : Option Files) (walk : Walk) (e : Halt)
+    → GivesOver {A = List Directory} told (λ t. t) (Err e) (trace_in walk.delim walk.trace) → GivesOver told text_view (Err e) (walk_over walk)
+unfolding walk_over
+walk_err None walk e read = tt
+walk_err (Some files) walk e read = fails_on e (trace_in walk.delim walk.trace files) (walked walk.who) read
+
+pub answer_ok : (told : Option Files) (words : List (List ℕ)) (walk : Walk) (r : Result Text Halt)
+    → Gives {A = Walk} (λ w. w) (Ok walk) (command_in words) → GivesOver told text_view r (walk_over walk) → GivesOver told text_view r (verdict words)
+unfolding verdict
+answer_ok None words walk r command given = tt
+answer_ok (Some files) words walk r command given = rw command given
+
+pub answer_err : (told : Option Files) (words : List (List ℕ)) (e : Halt)
+    → Gives {A = Walk} (λ w. w) (Err e) (command_in words) → GivesOver told text_view (Err e) (verdict words)
+unfolding verdict
+answer_err None words e command = tt
+answer_err (Some files) words e command = fails_on e (command_in words) (λ walk. walk_over walk files) command
+
+pub ruleset chaining = (walk_ok, walk_err, answer_ok, answer_err)
+
+-- ---- the words
+
+pub command_ok : (words : Result Command WordError) (command : Command) (r : Result Walk Halt) → words ≡ Ok command → Gives (λ w. w) r (opened command)
+    → Gives (λ w. w) r (result_map_err words_reason words >>= opened)
+command_ok words command r is given = rw is given
+
+pub command_err : (words : Result Command WordError) (word : ℕ) (note : Vec ℕ Global) → words ≡ Err (word_errors.Refused word) → note.items ≡ (word_refused word).note
+    → Gives {A = Walk} (λ w. w) (Err (halts.Refused 2 note)) (result_map_err words_reason words >>= opened)
+command_err words word note is told = rw (is, told) refl
+
+pub ruleset commands = (command_ok, command_err)
+
+-- ---- ends
+
+pub MayEnd-refused : (told : Option Files) (words : List (List ℕ)) (status : ℕ) (note : Vec ℕ Global)
+    → GivesOver told text_view (Err (halts.Refused status note)) (verdict words) → MayEnd told words status [] [] note.items
+MayEnd-refused None words status note given = tt
+MayEnd-refused (Some files) words status note given = rw given (refl, refl, refl, refl)
+
+pub MayEnd-written : (told : Option Files) (words : List (List ℕ)) (text : Text)
+    → GivesOver told text_view (Ok text) (verdict words) → MayEnd told words 0 [] text.out.items text.notes.items
+MayEnd-written None words text given = tt
+MayEnd-written (Some files) words text given = rw given (refl, refl, refl, refl)
+
+pub MayBeCut-written : (told : Option Files) (words : List (List ℕ)) (text : Text)
+    → GivesOver told text_view (Ok text) (verdict words) → MayBeCut told words [] text.out.items text.notes.items
+MayBeCut-written None words text given = tt
+MayBeCut-written (Some files) words text given = rw given (refl, refl, refl)
+
+breaks_off : (v : Result Verdict Reason) → BreaksOff v [] []
+breaks_off (Err why) = (refl, refl)
+breaks_off (Ok (writes whole)) = (refl, refl)
+
+pub MayBreakOff-nothing : (told : Option Files) (words : List (List ℕ)) → MayBreakOff told words [] []
+MayBreakOff-nothing None words = tt
+MayBreakOff-nothing (Some files) words = breaks_off (verdict words files)
+
+pub Ended-refused : (told : Option Files) (words : List (List ℕ)) (status : ℕ) (numbers : List ℕ) (out notes notes' : Option (List ℕ)) (faults faults' : ℕ) (note : Vec ℕ Global)
+    → GivesOver told text_view (Err (halts.Refused status note)) (verdict words) → numbers ≡ [] → TakesNote notes notes' faults faults' note.items
+    → Ended told words status numbers out out notes notes' faults faults'
+Ended-refused told words status numbers out notes notes' faults faults' note given none noted =
+    rw none (record { text = []; note = note.items; answer = MayEnd-refused told words status note given; taken = Appends-nil out; noted = noted })
+
+pub Ended-written : (told : Option Files) (words : List (List ℕ)) (status : ℕ) (numbers : List ℕ) (out out' notes notes' : Option (List ℕ)) (faults faults' : ℕ) (text : Text)
+    → GivesOver told text_view (Ok text) (verdict words) → numbers ≡ [] → status ≡ 0 → Appends out out' text.out.items → Appends notes notes' text.notes.items
+    → Ended told words status numbers out out' notes notes' faults faults'
+Ended-written told words status numbers out out' notes notes' faults faults' text given none good taken noted =
+    rw (none, good) (record { text = text.out.items; note = text.notes.items; answer = MayEnd-written told words text given; taken = taken; noted = inl noted })
+
+pub BrokenOff-nothing : (told : Option Files) (words : List (List ℕ)) (numbers : List ℕ) (out notes notes' : Option (List ℕ)) (faults faults' : ℕ) (note : List ℕ)
+    → numbers ≡ [] → TakesNote notes notes' faults faults' note → BrokenOff told words numbers out out notes notes' faults faults' note
+BrokenOff-nothing told words numbers out notes notes' faults faults' note none noted =
+    rw none (record { text = []; answer = MayBreakOff-nothing told words; taken = Appends-nil out; noted = noted })
+
+pub WriteFaulted-written : (told : Option Files) (words : List (List ℕ)) (numbers : List ℕ) (out out' notes notes' : Option (List ℕ)) (out_faults out_faults' faults faults' : ℕ) (text : Text)
+    → GivesOver told text_view (Ok text) (verdict words) → numbers ≡ [] → TextEnds out out' notes notes' out_faults out_faults' faults faults' text.out.items text.notes.items
+    → WriteFaulted told words numbers out out' notes notes' out_faults out_faults' faults faults'
+WriteFaulted-written told words numbers out out' notes notes' out_faults out_faults' faults faults' text given none ends =
+    rw none (record { text = text.out.items; report = text.notes.items; answer = MayBeCut-written told words text given; ends = ends })
+
+pub ruleset ending = (Ended-refused, Ended-written, BrokenOff-nothing, WriteFaulted-written)

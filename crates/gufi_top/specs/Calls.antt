@@ -1,0 +1,47 @@
+-- What the program's own calls give: the value of a step, or the reason for which it gives none.
+use Rattle.std.specs.Prelude.{◌≡◌, ◌≢◌, ℕ, ⊤, Option, Some, None, Result, Ok, Err}
+use Rattle.gufi_io.specs.Files.{Files}
+use Rattle.gufi_io.specs.Causes.{Rose}
+use Rattle.gufi_top.specs.declared.halt.Halt.{Halt}
+use Rattle.gufi_top.specs.declared.halt.Halt.TheVariants as halts
+use Rattle.gufi_top.specs.Reasons.{Reason}
+use Rattle.gufi_top.specs.Ends.{IsVerdictStatus}
+
+abbrev pub Fails : {B : Type 0} → Halt → Result B Reason → Type 0
+Fails (halts.Refused status note) step = step ≡ Err (record { status = status; note = note.items })
+Fails halts.ReadFault step = ⊤
+Fails halts.Memory step = ⊤
+
+-- what a call returned, seen by view, is what the step gives, unless reading failed or memory ran out
+abbrev pub Gives : {A B : Type 0} → (A → B) → Result A Halt → Result B Reason → Type 0
+Gives view (Ok x) step = step ≡ Ok (view x)
+Gives view (Err e) step = Fails e step
+
+-- the same of a step over the files, where the shelf tells them
+abbrev pub GivesOver : {A B : Type 0} → Option Files → (A → B) → Result A Halt → (Files → Result B Reason) → Type 0
+GivesOver None view call step = ⊤
+GivesOver (Some files) view call step = Gives view call (step files)
+
+-- each reason comes only where its count rose
+abbrev pub HaltHasCause : ℕ → ℕ → ℕ → ℕ → Halt → Type 0
+HaltHasCause faults faults' absents absents' (halts.Refused status note) = IsVerdictStatus status × (status ≡ 8 → Rose absents absents')
+HaltHasCause faults faults' absents absents' halts.ReadFault = Rose faults faults'
+HaltHasCause faults faults' absents absents' halts.Memory = ⊤
+
+-- a reason that no shelf causes
+abbrev pub IsOfBytes : Halt → Type 0
+IsOfBytes (halts.Refused status note) = IsVerdictStatus status × (status ≢ 8)
+IsOfBytes halts.ReadFault = ⊥
+IsOfBytes halts.Memory = ⊤
+
+-- a reason that isn't of the words
+abbrev pub IsPastWords : Halt → Type 0
+IsPastWords (halts.Refused status note) = status ≢ 2
+IsPastWords halts.ReadFault = ⊤
+IsPastWords halts.Memory = ⊤
+
+-- a reason of the words comes only where P
+abbrev pub OfWordsOnlyIf : Type 0 → Halt → Type 0
+OfWordsOnlyIf P (halts.Refused status note) = status ≡ 2 → P
+OfWordsOnlyIf P halts.ReadFault = ⊤
+OfWordsOnlyIf P halts.Memory = ⊤

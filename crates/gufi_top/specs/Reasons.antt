@@ -1,0 +1,113 @@
+-- Why a command is refused, and what its files mean or are refused for.
+use Rattle.std.specs.Prelude.{ℕ, nat_lt, List, ◌++◌, length, Option, Some, None, ok_or, Result, Ok, Err, codes, decimal}
+use Rattle.gufi_io.specs.Files.{Files}
+use Rattle.gufi_base.specs.Limits.{max_trace}
+use Rattle.gufi_base.specs.Words.{line, ◌>>=◌, ◌>>◌, refuse, result_map_err}
+use Rattle.gufi_access.specs.declared.class.Class.{Class}
+use Rattle.gufi_access.specs.declared.class.Class.TheVariants.{Owner, Group, Other}
+use Rattle.gufi_tree.specs.Tree.{Directory}
+use Rattle.gufi_tree.specs.declared.resolve.Resolved.{Resolved}
+use Rattle.gufi_tree.specs.declared.resolve.Resolved.TheVariants.{Found, Denied, NoSuch, NotDir}
+use Rattle.gufi_trace.specs.declared.fault.TraceKind.{TraceKind}
+use Rattle.gufi_trace.specs.declared.fault.TraceKind.TheVariants as kinds
+use Rattle.gufi_trace.specs.declared.fault.TraceError.TheVariants as errors
+use Rattle.gufi_words.specs.declared.word.WordError.{WordError}
+use Rattle.gufi_words.specs.declared.word.WordError.TheVariants as word_errors
+use Rattle.gufi_trace.specs.TraceText.{trace_means, TraceFailure, of_line, of_tree, failure_text}
+
+-- a status other than 0, and its note
+pub record Reason : Type 0 where
+  pub status : ℕ
+  pub note : List ℕ
+
+abbrev pub reason : ℕ → List ℕ → Reason
+reason status text = record { status = status; note = line (codes "gufi: " ++ text) }
+
+-- the word of that number, from 1
+abbrev pub word_refused : ℕ → Reason
+word_refused k = reason 2 (codes "word " ++ decimal k ++ codes " refused")
+
+-- what no definition gives: a reader's error of memory
+abbrev pub no_memory : Reason
+no_memory = reason 7 (codes "no memory")
+
+abbrev pub words_reason : WordError → Reason
+words_reason (word_errors.Refused k) = word_refused k
+words_reason word_errors.Memory = no_memory
+
+abbrev pub not_found : List ℕ → Reason
+not_found file = reason 8 (file ++ codes " not found")
+
+abbrev pub past_limit : List ℕ → ℕ → Reason
+past_limit file limit = reason 6 (file ++ codes " limit " ++ decimal limit)
+
+abbrev pub line_refused : List ℕ → List ℕ → Reason
+line_refused file text = reason 5 (file ++ codes " line " ++ text)
+
+-- a fault that is a limit passed has its own status
+abbrev pub limit_or : List ℕ → Reason → Option ℕ → Reason
+limit_or file other None = other
+limit_or file other (Some limit) = past_limit file limit
+
+-- ---- a trace's faults
+
+abbrev pub trace_limit : TraceKind → Option ℕ
+trace_limit kinds.Short = None
+trace_limit kinds.BadPath = None
+trace_limit kinds.LongName = None
+trace_limit kinds.BadType = None
+trace_limit (kinds.BadNumber field) = None
+trace_limit kinds.NotUnderRoot = None
+trace_limit kinds.WrongStanza = None
+trace_limit (kinds.TooMany limit) = Some limit
+trace_limit kinds.CutLine = None
+
+abbrev pub failure_limit : TraceFailure → Option ℕ
+failure_limit (of_line (errors.Fault fault)) = trace_limit fault.kind
+failure_limit (of_line errors.Memory) = None
+failure_limit (of_tree fault) = None
+
+unfoldable pub trace_reason : List ℕ → TraceFailure → Reason
+trace_reason file failure = limit_or file (line_refused file (failure_text failure)) (failure_limit failure)
+
+-- ---- a start that can't be walked from
+
+abbrev pub class_text : Class → List ℕ
+class_text Owner = codes "owner"
+class_text Group = codes "group"
+class_text Other = codes "other"
+
+abbrev pub denied : ℕ → Class → Reason
+denied depth class = reason 1 (codes "denied at depth " ++ decimal depth ++ codes " class " ++ class_text class)
+
+abbrev pub no_such : ℕ → Reason
+no_such depth = reason 1 (codes "no such at depth " ++ decimal depth)
+
+abbrev pub not_dir : ℕ → Reason
+not_dir depth = reason 1 (codes "not a directory at depth " ++ decimal depth)
+
+-- the value where the start is found, or the refusal of the start
+abbrev pub found_or : {A : Type 0} → Resolved → A → Result A Reason
+found_or (Found id) x = Ok x
+found_or (Denied depth class) x = Err (denied depth class)
+found_or (NoSuch depth) x = Err (no_such depth)
+found_or (NotDir depth) x = Err (not_dir depth)
+
+-- ---- files
+
+abbrev pub held : Files → List ℕ → Result (List ℕ) Reason
+held files file = ok_or (files file) (not_found file)
+
+abbrev pub file_within : List ℕ → ℕ → List ℕ → Result (List ℕ) Reason
+file_within file limit bytes = refuse (nat_lt limit (length bytes)) (past_limit file limit) >> Ok bytes
+
+-- the bytes of a file that the words name, which are at most so many
+unfoldable pub file_in : ℕ → List ℕ → Files → Result (List ℕ) Reason
+file_in limit file files = held files file >>= λ bytes. file_within file limit bytes
+
+-- the tree that the bytes of a trace mean
+unfoldable pub tree_within : ℕ → List ℕ → List ℕ → Result (List Directory) Reason
+tree_within delim file bytes = result_map_err (trace_reason file) (trace_means delim bytes)
+
+unfoldable pub trace_in : ℕ → List ℕ → Files → Result (List Directory) Reason
+trace_in delim file files = file_in max_trace file files >>= tree_within delim file

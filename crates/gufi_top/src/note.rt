@@ -1,0 +1,109 @@
+//! The notes of refusals.
+ghost use Rattle.std.specs.Prelude.{◌≡◌, IfOk};
+ghost use Rattle.gufi_top.specs.Reasons.{word_refused, not_found, past_limit, line_refused, denied, no_such, not_dir, class_text};
+ghost use Rattle.gufi_top.specs.Ends.{read_fault_note, write_fault_note, memory_note};
+ghost use Rattle.gufi_trace.specs.TraceText.{fault_text, failure_text, of_tree};
+ghost use Rattle.std.specs.Prelude.{◌++◌, codes};
+ghost use Rattle.gufi_base.specs.Words.{line};
+
+use gufi_access::Class;
+use gufi_trace::{TraceFault, put_tree_fault};
+use gufi_tree::TreeFault;
+use std::alloc::{AllocError, Global};
+
+fn class_word(class: Class) -> &'static [u8]
+    ensures { result.now ≡ class_text class }
+{
+    match class {
+        Class::Owner => b"owner",
+        Class::Group => b"group",
+        Class::Other => b"other",
+    }
+}
+
+pub(crate) fn not_found(alloc: Global, file: &str) -> Result<Vec<u8>, AllocError>
+    ensures { IfOk result (λ note. note.items ≡ (not_found file.now).note) }
+{
+    Ok(format!(in alloc; "gufi: {file} not found\n")?.into_bytes())
+}
+
+pub(crate) fn past_limit(alloc: Global, file: &str, limit: u32) -> Result<Vec<u8>, AllocError>
+    ensures { IfOk result (λ note. note.items ≡ (past_limit file.now limit).note) }
+{
+    Ok(format!(in alloc; "gufi: {file} limit {limit}\n")?.into_bytes())
+}
+
+pub(crate) fn denied(alloc: Global, depth: u32, class: Class) -> Result<Vec<u8>, AllocError>
+    ensures { IfOk result (λ note. note.items ≡ (denied depth class).note) }
+{
+    let mut note = format!(in alloc; "gufi: denied at depth {depth} class ")?.into_bytes();
+    note.extend_from_slice(class_word(class))?;
+    note.push(b'\n')?;
+    Ok(note)
+}
+
+pub(crate) fn no_such(alloc: Global, depth: u32) -> Result<Vec<u8>, AllocError>
+    ensures { IfOk result (λ note. note.items ≡ (no_such depth).note) }
+{
+    Ok(format!(in alloc; "gufi: no such at depth {depth}\n")?.into_bytes())
+}
+
+pub(crate) fn not_dir(alloc: Global, depth: u32) -> Result<Vec<u8>, AllocError>
+    ensures { IfOk result (λ note. note.items ≡ (not_dir depth).note) }
+{
+    Ok(format!(in alloc; "gufi: not a directory at depth {depth}\n")?.into_bytes())
+}
+
+pub(crate) fn word_refused(alloc: Global, word: u32) -> Result<Vec<u8>, AllocError>
+    ensures { IfOk result (λ note. note.items ≡ (word_refused word).note) }
+{
+    let mut note = format!(in alloc; "gufi: word {word} refused")?.into_bytes();
+    note.push(b'\n')?;
+    Ok(note)
+}
+
+pub(crate) fn read_fault() -> &'static [u8]
+    ensures { result.now ≡ read_fault_note }
+{
+    b"gufi: read fault\n"
+}
+
+pub(crate) fn write_fault() -> &'static [u8]
+    ensures { result.now ≡ write_fault_note }
+{
+    b"gufi: write fault\n"
+}
+
+pub(crate) fn memory() -> &'static [u8]
+    ensures { result.now ≡ memory_note }
+{
+    b"gufi: no memory\n"
+}
+
+/// The line of a trace that is at fault, and its fault.
+pub(crate) fn trace_line(
+    alloc: Global,
+    file: &str,
+    fault: &TraceFault,
+) -> Result<Vec<u8>, AllocError>
+    ensures { IfOk result (λ note. note.items ≡ (line_refused file.now (fault_text fault.now)).note) }
+{
+    let mut note = format!(in alloc; "gufi: {file} line ")?.into_bytes();
+    if fault.put(&mut note).is_err() {
+        return Err(AllocError);
+    }
+    note.push(b'\n')?;
+    Ok(note)
+}
+
+/// The line of a trace that is no tree, and its fault.
+pub(crate) fn tree_line(alloc: Global, file: &str, fault: TreeFault) -> Result<Vec<u8>, AllocError>
+    ensures { IfOk result (λ note. note.items ≡ (line_refused file.now (failure_text (of_tree fault))).note) }
+{
+    let mut note = format!(in alloc; "gufi: {file} line ")?.into_bytes();
+    if put_tree_fault(&mut note, fault).is_err() {
+        return Err(AllocError);
+    }
+    note.push(b'\n')?;
+    Ok(note)
+}

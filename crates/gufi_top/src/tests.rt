@@ -1,0 +1,264 @@
+//! Worked runs over files in memory.
+use crate::{Outcome, gufi_run};
+use gufi_io::{MemShelf, MemSink, NoGate, names_differ};
+use std::alloc::{AllocError, Global};
+use std::process::Abort;
+use std::sync::Wait;
+use std::test::Fail;
+use std::thread::Threads;
+
+// One readable directory.
+const A: &[u8] = b"/r|d|1|493|2|101|100|4096|4096|8|10|20|30|\n";
+
+// A directory whose owner's class denies its owner, with a file.
+const B: &[u8] = b"/r|d|1|493|3|101|100|4096|4096|8|10|20|30|
+/r/c|d|2|45|2|102|200|4096|4096|8|10|22|30|
+/r/c/x|f|3|420|1|102|200|7|4096|8|10|21|30|
+";
+
+const D: &[u8] = b"/r|d|1|493|3|101|100|4096|4096|8|10|20|30|
+/r/a|d|2|493|3|101|100|4096|4096|8|10|20|30|
+/r/a/b|d|3|493|2|101|100|4096|4096|8|10|20|30|
+";
+
+// D with its last lines exchanged.
+const D_EXCHANGED: &[u8] = b"/r|d|1|493|3|101|100|4096|4096|8|10|20|30|
+/r/a/b|d|3|493|2|101|100|4096|4096|8|10|20|30|
+/r/a|d|2|493|3|101|100|4096|4096|8|10|20|30|
+";
+
+// D with its line 2 also as line 3.
+const D_TWICE: &[u8] = b"/r|d|1|493|3|101|100|4096|4096|8|10|20|30|
+/r/a|d|2|493|3|101|100|4096|4096|8|10|20|30|
+/r/a|d|2|493|3|101|100|4096|4096|8|10|20|30|
+/r/a/b|d|3|493|2|101|100|4096|4096|8|10|20|30|
+";
+
+// D without its line 2.
+const D_ORPHANED: &[u8] = b"/r|d|1|493|3|101|100|4096|4096|8|10|20|30|
+/r/a/b|d|3|493|2|101|100|4096|4096|8|10|20|30|
+";
+
+// Thirteen fields on line 4, and a bad number on line 6.
+const SHORT: &[u8] = b"/r|d|1|493|3|101|100|4096|4096|8|10|20|30|
+/r/a|d|2|493|3|101|100|4096|4096|8|10|20|30|
+/r/a/b|d|3|493|2|101|100|4096|4096|8|10|20|30|
+/r/a/c|d|4|493|2|101|100|4096|4096|8|10|20|30
+/r/a/d|d|5|493|2|101|100|4096|4096|8|10|20|30|
+/r/a/e|d|x|493|2|101|100|4096|4096|8|10|20|30|
+";
+
+// Root may list a directory of mode 0, and search it.
+const LOCKED: &[u8] = b"/r|d|1|0|2|101|100|4096|4096|8|10|20|30|
+/r/x|f|2|420|1|101|100|0|4096|0|10|20|30|
+";
+
+const DENIES_OTHERS: &[u8] = b"/r|d|1|448|2|101|100|4096|4096|8|10|20|30|\n";
+
+const DENIES_GROUP: &[u8] = b"/r|d|1|453|2|101|100|4096|4096|8|10|20|30|\n";
+
+const UNENDED: &[u8] = b"/r|d|1|493|2|101|100|4096|4096|8|10|20|30|";
+
+const WALK: &[&str] = &["walk", "t", "102", "-", "|"];
+
+fn shelf_of<R: AllocGlobal + Abort>(
+    rt: &R,
+    name: &str,
+    bytes: Vec<u8>,
+    bad_reads: &[u64],
+) -> Result<MemShelf, Fail> {
+    let alloc = rt.alloc();
+    let mut files = Vec::new(alloc);
+    files.push((String::from_str(alloc, name)?, bytes))?;
+    assert!(rt; names_differ(&files));
+    Ok(MemShelf::new(files, 65_536, Vec::new(alloc), bad_reads.to_vec(alloc)?))
+}
+
+fn sink_of(alloc: Global, bad_writes: &[u64]) -> Result<MemSink, AllocError> {
+    let room = vec![in alloc; 0; 100]?;
+    Ok(MemSink::new(room, 5, bad_writes.to_vec(alloc)?))
+}
+
+fn words_of(alloc: Global, words: &[&str]) -> Result<Vec<String>, AllocError> {
+    let mut all = Vec::with_capacity(alloc, words.len())?;
+    for word in words {
+        all.push(String::from_str(alloc, word)?)?;
+    }
+    Ok(all)
+}
+
+// A run over one file: the calls of read and write that fail, and what is wanted.
+#[derive(Clone, Copy)]
+struct Case<'a> {
+    words: &'a [&'a str],
+    bad_reads: &'a [u64],
+    bad_writes: &'a [u64],
+    status: u8,
+    text: &'a [u8],
+    note: &'a [u8],
+}
+
+fn check<R: AllocGlobal + Abort + Threads + Wait>(
+    rt: &R,
+    name: &str,
+    bytes: Vec<u8>,
+    case: &Case<'_>,
+) -> Result<(), Fail> {
+    let alloc = rt.alloc();
+    let words = words_of(alloc, case.words)?;
+    let mut shelf = shelf_of(rt, name, bytes, case.bad_reads)?;
+    let mut out = sink_of(alloc, case.bad_writes)?;
+    let mut notes = sink_of(alloc, &[])?;
+    let Outcome { status, numbers } = gufi_run(
+        rt, alloc, &words, &mut shelf, &mut out, &mut notes, &NoGate,
+    );
+    assert_eq!(rt; notes.taken(), case.note);
+    assert_eq!(rt; out.taken(), case.text);
+    assert_eq!(rt; status, case.status);
+    assert!(rt; numbers.is_empty());
+    Ok(())
+}
+
+fn check_run<R: AllocGlobal + Abort + Threads + Wait>(
+    rt: &R,
+    bytes: &[u8],
+    words: &[&str],
+    status: u8,
+    text: &[u8],
+    note: &[u8],
+) -> Result<(), Fail> {
+    let case = Case {
+        words,
+        bad_reads: &[],
+        bad_writes: &[],
+        status,
+        text,
+        note,
+    };
+    check(rt, "t", bytes.to_vec(rt.alloc())?, &case)
+}
+
+#[test]
+fn walks_show_what_may_be_listed(rt: HostRuntime) -> Result<(), Fail> {
+    check_run(&rt, A, WALK, 0, b"/\n", b"")?;
+    check_run(
+        &rt,
+        A,
+        &["walk", "--", "t", "102", "-", "|"],
+        0,
+        b"/\n",
+        b"",
+    )?;
+    check_run(&rt, B, WALK, 0, b"/\n", b"")?;
+    check_run(
+        &rt,
+        B,
+        &["walk", "t", "103", "-", "|"],
+        0,
+        b"/\n/c\n/c/x\n",
+        b"",
+    )?;
+    check_run(
+        &rt,
+        LOCKED,
+        &["walk", "t", "0", "-", "|"],
+        0,
+        b"/\n/x\n",
+        b"",
+    )?;
+    check_run(&rt, D_EXCHANGED, WALK, 0, b"/\n/a\n/a/b\n", b"")?;
+    check_run(&rt, D, WALK, 0, b"/\n/a\n/a/b\n", b"")
+}
+
+#[test]
+fn refusals_name_their_causes(rt: HostRuntime) -> Result<(), Fail> {
+    for (bytes, group, note) in [
+        (
+            DENIES_OTHERS,
+            "-",
+            b"gufi: denied at depth 0 class other\n".as_slice(),
+        ),
+        (
+            DENIES_GROUP,
+            "100",
+            b"gufi: denied at depth 0 class group\n".as_slice(),
+        ),
+    ] {
+        check_run(&rt, bytes, &["walk", "t", "102", group, "|"], 1, b"", note)?;
+    }
+    for (bytes, note) in [
+        (b"".as_slice(), b"gufi: t line 0 NoRoot\n".as_slice()),
+        (SHORT, b"gufi: t line 4 Short\n".as_slice()),
+        (D_TWICE, b"gufi: t line 3 Duplicate\n".as_slice()),
+        (UNENDED, b"gufi: t line 1 CutLine\n".as_slice()),
+        (D_ORPHANED, b"gufi: t line 2 Orphan\n".as_slice()),
+    ] {
+        check_run(&rt, bytes, WALK, 5, b"", note)?;
+    }
+    for (words, note) in [
+        (
+            ["find", "--workers", "33", "t", "102", "/"].as_slice(),
+            b"gufi: word 3 refused\n".as_slice(),
+        ),
+        ([].as_slice(), b"gufi: word 1 refused\n".as_slice()),
+        (
+            ["ls", "-z", "t", "102", "/"].as_slice(),
+            b"gufi: word 2 refused\n".as_slice(),
+        ),
+        (
+            ["walk", "t", "4294967296", "-", "|"].as_slice(),
+            b"gufi: word 3 refused\n".as_slice(),
+        ),
+    ] {
+        check_run(&rt, A, words, 2, b"", note)?;
+    }
+    Ok(())
+}
+
+#[test]
+fn faults_have_causes(rt: HostRuntime) -> Result<(), Fail> {
+    let read = Case {
+        words: WALK,
+        bad_reads: &[1],
+        bad_writes: &[],
+        status: 3,
+        text: b"",
+        note: b"gufi: read fault\n",
+    };
+    check(&rt, "t", A.to_vec(rt.alloc())?, &read)?;
+    let absent = Case {
+        words: WALK,
+        bad_reads: &[],
+        bad_writes: &[],
+        status: 8,
+        text: b"",
+        note: b"gufi: t not found\n",
+    };
+    check(&rt, "A", A.to_vec(rt.alloc())?, &absent)?;
+    let written = Case {
+        words: WALK,
+        bad_reads: &[],
+        bad_writes: &[1],
+        status: 4,
+        text: b"",
+        note: b"gufi: write fault\n",
+    };
+    check(&rt, "t", A.to_vec(rt.alloc())?, &written)
+}
+
+#[test]
+fn one_directory_too_many(rt: HostRuntime) -> Result<(), Fail> {
+    let mut bytes = Vec::with_capacity(rt.alloc(), 262_145 * A.len())?;
+    for _ in 0..262_145u32 {
+        bytes.extend_from_slice(A)?;
+    }
+    let case = Case {
+        words: WALK,
+        bad_reads: &[],
+        bad_writes: &[],
+        status: 6,
+        text: b"",
+        note: b"gufi: t limit 262144\n",
+    };
+    check(&rt, "t", bytes, &case)
+}
