@@ -1,2 +1,4 @@
 pub mod Texts
 pub mod Pieces
+pub mod Listings
+pub mod Columns

@@ -1,13 +1,17 @@
-//! What is printed of a directory's record and of sums.
+//! What is printed of a directory's record, of sums and of listed rows.
 //!
-//! Contracts see a printed text as its bytes: `stat_text` and `total_text` say which.
-//! It stands on `gufi_base` and `gufi_sums`; the calls that print stand on it.
+//! Contracts see a printed text as its bytes: `stat_text`, `total_text`, `mode_text` and `ls_text` say which.
+//! It stands on `gufi_base`, `gufi_sums` and `gufi_users`; the calls that print stand on it.
 #![tactic(auto)]
 
+mod listing;
+mod mode;
 mod put;
 mod record;
 mod total;
 
+pub use listing::ls_text;
+pub use mode::mode_text;
 pub use record::stat_text;
 pub use total::total_text;
 

@@ -1,7 +1,9 @@
 //! Texts written by hand.
-use crate::{stat_text, total_text};
+use crate::{ls_text, stat_text, total_text};
 use gufi_base::{Bytes, Kind, Meta, Path, Rec, Row};
 use gufi_sums::Summary;
+use gufi_users::{Users, read_group, read_passwd};
+use std::alloc::Global;
 use std::test::Fail;
 
 const STAT: &[u8] = b"path /
@@ -56,5 +58,59 @@ fn no_rows_are_printed(rt: HostRuntime) -> Result<(), Fail> {
     let by_hand =
         b"dirs 0 files 0 links 0 others 0 bytes 0 size - - mtime - - uid - - gid - -".as_slice();
     assert_eq!(rt; text.as_slice(), by_hand);
+    Ok(())
+}
+
+const PASSWD: &[u8] = b"ana:x:1001:1001:Ana:/home/ana:/bin/sh\n";
+
+const GROUP: &[u8] = b"ana:x:1001:\nlab:x:500:ana,bob\n";
+
+const LISTED: &[u8] = b"drwx------ 2 ana ana 4096 1700000000 ana
+drwxrws--- 2 0 lab 4096 1700000000 proj
+";
+
+fn listed(alloc: Global, path: &[u8], mode: u16, uid: u32, gid: u32) -> Result<Row, Fail> {
+    let meta = Meta {
+        kind: Kind::Dir,
+        inode: 2,
+        mode,
+        nlink: 2,
+        uid,
+        gid,
+        size: 4096,
+        blksize: 4096,
+        blocks: 8,
+        atime: 1_700_000_000,
+        mtime: 1_700_000_000,
+        ctime: 1_700_000_000,
+    };
+    Ok(Row {
+        path: Path::read(alloc, path)?,
+        rec: Rec {
+            meta,
+            link: Bytes::from_slice(alloc, b"")?,
+        },
+    })
+}
+
+fn example(alloc: Global) -> Result<Users, Fail> {
+    let passwd = read_passwd(alloc, PASSWD)?;
+    let groups = read_group(alloc, GROUP)?;
+    Ok(Users::of(alloc, passwd, groups)?)
+}
+
+fn two_rows(alloc: Global) -> Result<Vec<Row>, Fail> {
+    let mut rows = Vec::new(alloc);
+    rows.push(listed(alloc, b"/ana", 0o700, 1001, 1001)?)?;
+    rows.push(listed(alloc, b"/proj", 0o2770, 0, 500)?)?;
+    Ok(rows)
+}
+
+#[test]
+fn directories_are_listed(rt: HostRuntime) -> Result<(), Fail> {
+    let users = example(rt.alloc())?;
+    let rows = two_rows(rt.alloc())?;
+    let text = ls_text(rt.alloc(), &rows, &users, true, false)?;
+    assert_eq!(rt; text.as_slice(), LISTED);
     Ok(())
 }

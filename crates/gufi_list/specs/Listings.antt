@@ -1,0 +1,74 @@
+-- The mode string, and the texts of ls.
+use Rattle.std.specs.Prelude.{ℕ, ◌+◌, Bool, not, ◌==◌, ◌&&◌, ◌||◌, List, [], ◌∷◌, ◌++◌, filter, if◌then◌else◌, codes, decimal}
+use Rattle.std.specs.Fmt.{signed_decimal}
+use Rattle.std.specs.Int.{bit_at}
+use Rattle.std.specs.List.{flat_map, join_with_byte, starts_with}
+use Rattle.std.specs.Option.{unwrap_or}
+use Rattle.std.specs.Bool.{nat_eq}
+use Rattle.gufi_base.specs.declared.record.Kind.{Kind}
+use Rattle.gufi_base.specs.declared.record.Meta.{Meta}
+use Rattle.gufi_base.specs.declared.record.Row.{Row}
+use Rattle.gufi_base.specs.Kinds.{kind_letter, is_file, is_link}
+use Rattle.gufi_base.specs.Paths.{base_name}
+use Rattle.gufi_base.specs.Words.{line}
+use Rattle.gufi_users.specs.Entries.{UserTables}
+use Rattle.gufi_users.specs.Users.{name_of_uid, name_of_gid}
+
+-- ---- the mode string
+
+abbrev pub has_bit : ℕ → ℕ → Bool
+has_bit mode bit = bit_at mode bit == 1
+
+abbrev pub list_letter : Kind → ℕ
+list_letter kind = if is_file kind then 45 else kind_letter kind
+
+-- the letter where the bit is set, and else '-'
+abbrev pub flag : ℕ → ℕ → ℕ → ℕ
+flag mode bit letter = if has_bit mode bit then letter else 45
+
+-- the execute place: its bit, a special bit, and the special letters with execute and without
+abbrev pub execute : ℕ → ℕ → ℕ → ℕ → ℕ → ℕ
+execute mode bit special with without =
+    if has_bit mode special then (if has_bit mode bit then with else without) else flag mode bit 120
+
+abbrev pub triple : ℕ → ℕ → ℕ → ℕ → ℕ → List ℕ
+triple mode low special with without =
+    flag mode (low + 2) 114 ∷ flag mode (low + 1) 119 ∷ execute mode low special with without ∷ []
+
+unfoldable pub mode_text : Meta → List ℕ
+mode_text meta =
+    list_letter meta.kind ∷ triple meta.mode 6 11 115 83 ++ triple meta.mode 3 10 115 83 ++ triple meta.mode 0 9 116 84
+
+-- ---- ls
+
+abbrev pub owner_text : UserTables → ℕ → List ℕ
+owner_text tables uid = unwrap_or (name_of_uid tables uid) (decimal uid)
+
+abbrev pub group_text : UserTables → ℕ → List ℕ
+group_text tables gid = unwrap_or (name_of_gid tables gid) (decimal gid)
+
+abbrev pub target_text : Row → List ℕ
+target_text row = if is_link row.rec.meta.kind then codes " -> " ++ row.rec.link else []
+
+abbrev pub long_text : UserTables → Row → List ℕ
+long_text tables row =
+    let m = row.rec.meta in
+    join_with_byte 32 (mode_text m ∷ decimal m.nlink ∷ owner_text tables m.uid ∷ group_text tables m.gid ∷ decimal m.size ∷ signed_decimal m.mtime ∷ base_name row.path ∷ [])
+    ++ target_text row
+
+abbrev pub ls_line : UserTables → Bool → Row → List ℕ
+ls_line tables long row = line (if long then long_text tables row else base_name row.path)
+
+-- names that begin with a dot only where all are wanted
+abbrev pub is_hidden : List ℕ → Bool
+is_hidden name = starts_with nat_eq name (codes ".")
+
+abbrev pub is_shown : Bool → Row → Bool
+is_shown all row = all || not (is_hidden (base_name row.path))
+
+abbrev pub ls_text : List Row → UserTables → Bool → Bool → List ℕ
+ls_text rows tables long all = flat_map (ls_line tables long) (filter (is_shown all) rows)
+
+-- what ls asks of a row: one level below the start, and shown
+abbrev pub ls_asks : Bool → Row → ℕ → Bool
+ls_asks all row depth = depth == 1 && is_shown all row

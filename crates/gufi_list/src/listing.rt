@@ -1,0 +1,141 @@
+//! The lines of `ls`.
+
+ghost use Rattle.std.specs.Prelude.{◌≡◌, ◌++◌, IfOk, OnOk};
+ghost use Rattle.gufi_base.specs.Kinds.{is_link};
+ghost use Rattle.gufi_base.specs.Words.{line};
+ghost use Rattle.gufi_list.specs.Columns.{links_column, owners_column, sizes_column, meta_columns, shown_line};
+ghost use Rattle.gufi_list.specs.Listings.{owner_text, group_text, target_text, long_text, ls_line, is_hidden, is_shown, ls_text};
+
+use crate::mode::mode_text;
+use crate::put::{put_named, put_signed, put_word};
+use gufi_base::{Kind, Memory, Meta, Row, put_u64};
+use gufi_users::Users;
+use std::alloc::Global;
+
+fn put_user(out: &mut Vec<u8>, users: &Users, uid: u32) -> Result<(), Memory>
+    ensures { OnOk result (out.new.items ≡ out.old.items ++ owner_text users.now uid) }
+{
+    match users.name_of_uid(uid) {
+        Some(name) => put_word(out, name),
+        None => put_u64(out, u64::from(uid)),
+    }
+}
+
+fn put_group(out: &mut Vec<u8>, users: &Users, gid: u32) -> Result<(), Memory>
+    ensures { OnOk result (out.new.items ≡ out.old.items ++ group_text users.now gid) }
+{
+    match users.name_of_gid(gid) {
+        Some(name) => put_word(out, name),
+        None => put_u64(out, u64::from(gid)),
+    }
+}
+
+fn put_links(out: &mut Vec<u8>, meta: &Meta) -> Result<(), Memory>
+    ensures { OnOk result (out.new.items ≡ out.old.items ++ links_column meta.now) }
+{
+    put_word(out, &mode_text(meta))?;
+    put_named(out, b" ", meta.nlink)
+}
+
+fn put_owners(out: &mut Vec<u8>, users: &Users, meta: &Meta) -> Result<(), Memory>
+    ensures { OnOk result (out.new.items ≡ out.old.items ++ owners_column users.now meta.now) }
+{
+    put_word(out, b" ")?;
+    put_user(out, users, meta.uid)?;
+    put_word(out, b" ")?;
+    put_group(out, users, meta.gid)
+}
+
+fn put_sizes(out: &mut Vec<u8>, meta: &Meta) -> Result<(), Memory>
+    ensures { OnOk result (out.new.items ≡ out.old.items ++ sizes_column meta.now) }
+{
+    put_named(out, b" ", meta.size)?;
+    put_signed(out, b" ", meta.mtime)?;
+    put_word(out, b" ")
+}
+
+/// What stands before the name, and a space.
+fn put_columns(out: &mut Vec<u8>, users: &Users, meta: &Meta) -> Result<(), Memory>
+    ensures { OnOk result (out.new.items ≡ out.old.items ++ meta_columns users.now meta.now) }
+{
+    put_links(out, meta)?;
+    put_owners(out, users, meta)?;
+    put_sizes(out, meta)
+}
+
+fn is_link(kind: Kind) -> bool
+    ensures { result ≡ is_link kind }
+{
+    matches!(kind, Kind::Link)
+}
+
+fn put_target(out: &mut Vec<u8>, row: &Row) -> Result<(), Memory>
+    ensures { OnOk result (out.new.items ≡ out.old.items ++ target_text row.now) }
+{
+    if !is_link(row.rec.meta.kind) {
+        return Ok(());
+    }
+    put_word(out, b" -> ")?;
+    put_word(out, row.rec.link.as_slice())
+}
+
+fn put_long(out: &mut Vec<u8>, users: &Users, row: &Row) -> Result<(), Memory>
+    ensures { OnOk result (out.new.items ≡ out.old.items ++ long_text users.now row.now) }
+{
+    put_columns(out, users, &row.rec.meta)?;
+    put_word(out, row.path.base_name())?;
+    put_target(out, row)
+}
+
+fn put_line(out: &mut Vec<u8>, users: &Users, long: bool, row: &Row) -> Result<(), Memory>
+    ensures { OnOk result (out.new.items ≡ out.old.items ++ ls_line users.now long row.now) }
+{
+    if long {
+        put_long(out, users, row)?;
+    } else {
+        put_word(out, row.path.base_name())?;
+    }
+    put_word(out, b"\n")
+}
+
+fn is_hidden(name: &[u8]) -> bool
+    ensures { result ≡ is_hidden name.now }
+{
+    name.starts_with(b".")
+}
+
+fn is_shown(all: bool, row: &Row) -> bool
+    ensures { result ≡ is_shown all row.now }
+{
+    all || !is_hidden(row.path.base_name())
+}
+
+/// The line of a row that is shown.
+fn put_row(out: &mut Vec<u8>, users: &Users, long: bool, all: bool, row: &Row) -> Result<(), Memory>
+    ensures { OnOk result (out.new.items ≡ out.old.items ++ shown_line users.now long all row.now) }
+{
+    if !is_shown(all, row) {
+        return Ok(());
+    }
+    put_line(out, users, long, row)
+}
+
+/// What `ls` prints of rows, in the order given: a line each, and none for a name that begins with a dot unless `all`.
+///
+/// A line is the name, and where `long` before it the mode string, links, owner, group, size and mtime, and behind the
+/// name of a link ` -> ` and its target. Owner and group are names, or numbers where there is none.
+pub fn ls_text(
+    alloc: Global,
+    rows: &[Row],
+    users: &Users,
+    long: bool,
+    all: bool,
+) -> Result<Vec<u8>, Memory>
+    ensures { IfOk result (λ text. text.items ≡ ls_text rows.now users.now long all) }
+{
+    let mut text = Vec::new(alloc);
+    for row in rows {
+        put_row(&mut text, users, long, all, row)?;
+    }
+    Ok(text)
+}
