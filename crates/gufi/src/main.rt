@@ -4,6 +4,8 @@
 //! `--help` and a lone `--version` are answered here.
 #![tactic(auto)]
 
+ghost use Rattle.std.specs.Prelude.{◌≡◌, length, IsSome};
+
 use gufi_io::{FileShelf, NoGate, StdSink};
 use gufi_top::gufi_run;
 use std::process::ExitCode;
@@ -34,7 +36,9 @@ fn show(rt: &HostRuntime, text: &str) -> ExitCode {
 }
 
 // The pages that the program answers itself, where one is asked for.
-fn page(words: &[String]) -> Option<&'static str> {
+fn page(words: &[String]) -> Option<&'static str>
+    ensures lone { IsSome result → length words.now ≡ 1 }
+{
     if words.len() != 1 {
         return None;
     }

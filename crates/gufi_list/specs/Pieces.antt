@@ -13,8 +13,8 @@ ranges_text s = codes " size " ++ pair_text decimal s.size ++ codes " mtime " ++
 abbrev pub type_text : Meta → List ℕ
 type_text m = codes "type " ++ kind_letter m.kind ∷ codes " mode " ++ octal_text m.mode
 
-abbrev pub owner_text : Meta → List ℕ
-owner_text m = codes " links " ++ decimal m.nlink ++ codes " uid " ++ decimal m.uid ++ codes " gid " ++ decimal m.gid
+abbrev pub links_and_owners_text : Meta → List ℕ
+links_and_owners_text m = codes " links " ++ decimal m.nlink ++ codes " uid " ++ decimal m.uid ++ codes " gid " ++ decimal m.gid
 
 abbrev pub size_text : Meta → List ℕ
 size_text m = codes "size " ++ decimal m.size ++ codes " blksize " ++ decimal m.blksize ++ codes " blocks " ++ decimal m.blocks ++ codes " inode " ++ decimal m.inode

@@ -3,7 +3,7 @@
 ghost use Rattle.std.specs.Prelude.{◌≡◌, ◌≤◌, ◌++◌, IfOk, OnOk, codes};
 ghost use Rattle.gufi_base.specs.Paths.{path_text};
 ghost use Rattle.gufi_base.specs.Words.{line};
-ghost use Rattle.gufi_list.specs.Pieces.{type_text, owner_text, size_text, early_times_text, times_text};
+ghost use Rattle.gufi_list.specs.Pieces.{type_text, links_and_owners_text, size_text, early_times_text, times_text};
 ghost use Rattle.gufi_list.specs.Texts.{octal_text, record_text, stat_text, total_text};
 
 use crate::put::{put_named, put_signed, put_word};
@@ -33,7 +33,7 @@ fn put_type(out: &mut Vec<u8>, meta: &Meta) -> Result<(), Memory>
 }
 
 fn put_owner(out: &mut Vec<u8>, meta: &Meta) -> Result<(), Memory>
-    ensures { OnOk result (out.new.items ≡ out.old.items ++ owner_text meta.now) }
+    ensures { OnOk result (out.new.items ≡ out.old.items ++ links_and_owners_text meta.now) }
 {
     put_named(out, b" links ", meta.nlink)?;
     put_named(out, b" uid ", u64::from(meta.uid))?;
@@ -72,7 +72,7 @@ fn put_path_line(out: &mut Vec<u8>, path: &Path) -> Result<(), Memory>
 }
 
 fn put_type_line(out: &mut Vec<u8>, meta: &Meta) -> Result<(), Memory>
-    ensures { OnOk result (out.new.items ≡ out.old.items ++ line (type_text meta.now ++ owner_text meta.now)) }
+    ensures { OnOk result (out.new.items ≡ out.old.items ++ line (type_text meta.now ++ links_and_owners_text meta.now)) }
 {
     put_type(out, meta)?;
     put_owner(out, meta)?;
