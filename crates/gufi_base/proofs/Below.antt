@@ -76,6 +76,11 @@ Below-text root path rest p q e =
 pub prefix-text : (root path rest : List ℕ) → IsText root → IsText path → path ≡ root ++ rest → true ≡ is_prefix (names root) (names path)
 prefix-text root path rest p q e = sym (Below-text root path rest p q e).prefix
 
+-- a path behind a root
+pub is_prefix-append : (root path : Components) → is_prefix root (root ++ path) ≡ true
+is_prefix-append [] path = refl
+is_prefix-append (name ∷ root) path = and_from _ _ ((bytes_eq-Decides name name).1 refl) (is_prefix-append root path)
+
 prefix_case : (root path : List ℕ) (b : Bool) → IsText root → IsText path → ((rest : List ℕ) → path ≡ root ++ rest → ⊥) → is_prefix (names root) (names path) ≡ b → false ≡ b
 prefix_case root path true p q never e =
     let h : path ≡ root ++ closed_names (drop (length (names root)) (names path)) =

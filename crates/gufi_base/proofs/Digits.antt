@@ -1,13 +1,17 @@
 -- Reading the digits of a number from the left.
-use Rattle.std.proofs.Common.{◌≡◌, ℕ, ◌+◌, ◌*◌, ◌^◌, ◌<◌, ◌≤◌, false, cond, List, [], ◌∷◌, length, Some, None, refl, sym, ap, ◌∙◌, arith}
-use Rattle.std.specs.Prelude.{not, nat_lt}
+use Rattle.std.proofs.Common.{◌≡◌, ℕ, suc, ◌+◌, ◌*◌, ◌^◌, ◌<◌, ◌≤◌, true, false, cond, eqb, List, [], ◌∷◌, ◌++◌, length, get_or, take, drop, Option, Some, None, pos, neg_ℤ, refl, sym, ap, ◌∙◌, arith, ⊎_elim}
+use Rattle.std.specs.Prelude.{not, nat_lt, option_map}
 use Rattle.std.specs.List.{list_all}
 use Rattle.std.specs.Char.{is_digit, digit_value}
-use Rattle.std.specs.Str.Parse.{digits_value, digits_value_after}
-use Rattle.std.proofs.Math.Nat.{mul-le-mul_left, pow-le-pow_right}
-use Rattle.std.proofs.lemmas.Bool.{lt-ltb, le-ltb, and_right, and_from}
-use Rattle.gufi_base.specs.Words.{is_empty}
-use Rattle.gufi_base.specs.Numbers.{read_below}
+use Rattle.std.specs.Str.Parse.{digits_value, digits_value_after, starts_with_minus}
+use Rattle.std.proofs.Math.Nat.{mul-le-mul_left, pow-le-pow_right, pow-suc}
+use Rattle.std.proofs.lemmas.Bool.{cond-false, lt-ltb, le-ltb, and_right, and_from, and_parts, not_from_false, cases_Bool, eqb-true, false≢true}
+use Rattle.std.proofs.lemmas.List.{take-append-drop, drop_more, get_or-take, length-take}
+use Rattle.std.proofs.lemmas.List.Folds.{list_all_more}
+use Rattle.std.proofs.lemmas.Int.Digits.{digits_value_more}
+use Rattle.gufi_base.specs.Words.{is_empty, split}
+use Rattle.gufi_base.specs.Numbers.{is_numeral, read_below, read_i64, NumberBefore}
+use Rattle.gufi_base.proofs.Parts.{has_no, split_first}
 
 -- n is what the digits before the rest write
 pub record Reads (radix : ℕ) (bytes : List ℕ) (n : ℕ) (rest : List ℕ) : Type 0 where
@@ -41,3 +45,68 @@ pub room : (n i : ℕ) → n < 10 ^ i → i < 19 → n < 10 ^ 18
 room n i small few =
     let ten : 0 < 10 = omega arith in
     let most : 10 ^ i ≤ 10 ^ 18 = (let le : i ≤ 18 = omega arith in pow-le-pow_right ten le) in omega arith
+
+-- n is what the first so many bytes write
+pub record ReadsFront (text : List ℕ) (n at : ℕ) : Type 0 where
+  pub worth : n ≡ digits_value 10 (take at text)
+  pub tested : list_all (λ c. is_digit c 10) (take at text) ≡ true
+  pub small : n < 10 ^ at
+
+more_power : (at : ℕ) → 10 ^ (at + 1) ≡ 10 ^ at * 10
+more_power at = let one : at + 1 ≡ suc at = omega arith in ap (λ k. 10 ^ k) one ∙ pow-suc 10 at
+
+more_small : (n power digit : ℕ) → n < power → digit < 10 → n * 10 + digit < power * 10
+more_small n power digit h d = omega arith
+
+-- a place of the first bytes is that of the text
+pub near_place : (text near : List ℕ) (at : ℕ) → near ≡ take 19 text → at < length near → (at < 19) × (at < length text) × (get_or near at 0 ≡ get_or text at 0)
+near_place text near at e lt =
+    let low : at < 19 = omega (arith, ap length e, length-take 19 text) in
+    (low, omega (arith, ap length e, length-take 19 text), ap (λ (t : List ℕ). get_or t at 0) e ∙ get_or-take 19 text at 0 low)
+
+pub ReadsFront-more : (text : List ℕ) (n at b digit : ℕ) → at < length text → b ≡ get_or text at 0 → ReadsFront text n at → is_digit b 10 ≡ true → digit ≡ digit_value b → digit < 10 → ReadsFront text (n * 10 + digit) (at + 1)
+ReadsFront-more text n at b digit within here h test d small =
+    record {
+      worth = omega (arith, h.worth, digits_value_more 10 text at within, d, ap digit_value here);
+      tested = list_all_more (λ c. is_digit c 10) text at 0 within ∙ and_from _ _ h.tested (ap (λ c. is_digit c 10) (sym here) ∙ test);
+      small = let power : 10 ^ (at + 1) ≡ 10 ^ at * 10 = more_power at in omega (arith, power, more_small n (10 ^ at) digit h.small small);
+    }
+
+digits_have_no : (s : ℕ) (part : List ℕ) → is_digit s 10 ≡ false → list_all (λ c. is_digit c 10) part ≡ true → has_no s part ≡ true
+digits_have_no s [] other h = refl
+digits_have_no s (b ∷ part) other h =
+    let both = and_parts _ _ h in
+    let apart : eqb b s ≡ false =
+    ⊎_elim (λ (t : eqb b s ≡ true). absurd (false≢true (sym other ∙ ap (λ c. is_digit c 10) (sym (eqb-true b s t)) ∙ both.0))) (λ f. f) (cases_Bool (eqb b s)) in
+    and_from _ _ (not_from_false _ apart) (digits_have_no s part other both.1)
+
+cut_at : (text : List ℕ) (at : ℕ) → at < length text → text ≡ take at text ++ get_or text at 0 ∷ drop (at + 1) text
+cut_at text at lt = sym (take-append-drop at text) ∙ ap (λ (t : List ℕ). take at text ++ t) (drop_more text at 0 lt)
+
+pub ReadsFront-done : (s : ℕ) (text : List ℕ) (n at b : ℕ) → at < 19 → at < length text → b ≡ get_or text at 0 → ReadsFront text n at → is_digit b 10 ≡ false → b ≡ s → 0 < at → NumberBefore s text n at
+ReadsFront-done s text n at b low within is h other end some =
+    let here : get_or text at 0 ≡ s = sym is ∙ end in
+    let power : 10 ^ at ≤ 10 ^ 18 = (let ten : 0 < 10 = omega arith in let le : at ≤ 18 = omega arith in pow-le-pow_right ten le) in
+    record {
+      numeral = and_from _ _ (not_from_false _ (some_digits (take at text) (omega (arith, length-take at text)))) h.tested;
+      value = h.worth;
+      small = omega (arith, h.small, power);
+      first = ap (split s) (cut_at text at within ∙ ap (λ k. take at text ++ k ∷ drop (at + 1) text) here) ∙ split_first s (take at text) (drop (at + 1) text) (digits_have_no s (take at text) (ap (λ c. is_digit c 10) (sym end) ∙ other) h.tested);
+      within = within;
+    }
+
+pub numeral_below : (bytes : List ℕ) (n limit : ℕ) → is_numeral 10 bytes ≡ true → n ≡ digits_value 10 bytes → n < limit → read_below 10 limit bytes ≡ Some n
+numeral_below bytes n limit numeral value small =
+    let test = and_from _ _ numeral (ap (λ k. nat_lt k limit) (sym value) ∙ lt-ltb n limit small) in
+    ap (λ t. cond t (Some (digits_value 10 bytes)) None) test ∙ ap Some (sym value)
+
+no_minus : (bytes : List ℕ) → is_numeral 10 bytes ≡ true → starts_with_minus bytes ≡ false
+no_minus [] h = absurd cc
+no_minus (b ∷ bytes) h =
+    let all : list_all (λ c. is_digit c 10) (b ∷ bytes) ≡ true = (and_parts (not (is_empty (b ∷ bytes))) (list_all (λ c. is_digit c 10) (b ∷ bytes)) h).1 in
+    let digit : is_digit b 10 ≡ true = (and_parts _ _ all).0 in
+    ⊎_elim (λ (t : eqb b 45 ≡ true). absurd (false≢true (ap (λ c. is_digit c 10) (sym (eqb-true b 45 t)) ∙ digit))) (λ f. f) (cases_Bool (eqb b 45))
+
+pub numeral_time : (bytes : List ℕ) (n : ℕ) → is_numeral 10 bytes ≡ true → n ≡ digits_value 10 bytes → n < 10 ^ 18 → read_i64 bytes ≡ Some (pos n)
+numeral_time bytes n numeral value small =
+    cond-false (starts_with_minus bytes) (option_map (λ n. neg_ℤ (pos n)) (read_below 10 (2 ^ 63 + 1) (drop 1 bytes))) (option_map pos (read_below 10 (2 ^ 63) bytes)) (no_minus bytes numeral) ∙ ap (λ (o : Option ℕ). option_map pos o) (numeral_below bytes n (2 ^ 63) numeral value (omega arith))

@@ -3,13 +3,11 @@ use Rattle.std.proofs.Common.{◌≡◌, ◌≢◌, ℕ, zero, suc, ◌+◌, ◌
 use Rattle.std.specs.declared.cmp.Ordering.{Ordering}
 use Rattle.std.specs.declared.cmp.Ordering.TheVariants.{Less, Equal, Greater}
 use Rattle.std.specs.Ordering.{nat_cmp, ordering_then}
-use Rattle.std.specs.Cmp.{IsTotalOrder}
 use Rattle.std.specs.Cmp.Lexicographic.{slice_cmp}
 use Rattle.std.specs.List.{list_all}
 use Rattle.std.proofs.lemmas.Bool.{cond-true, cond-false, and_parts, not-true, lt-ltb, le-ltb, ne_eqb, cases_Bool, eqb-true}
 use Rattle.std.proofs.lemmas.Bool.Decides.{nat_tests}
 use Rattle.std.proofs.lemmas.List.{drop_all, drop_more}
-use Rattle.std.proofs.lemmas.Cmp.{lists_total, nat_list_cmp_total}
 use Rattle.std.proofs.lemmas.Map.Lookups.{exact_bytes}
 use Rattle.gufi_base.specs.Names.{is_name}
 use Rattle.gufi_base.specs.Paths.{Components, path_cmp}
@@ -18,10 +16,6 @@ use Rattle.gufi_base.specs.TextOrder.{rank, slash_first}
 use Rattle.gufi_base.proofs.Parts.{has_no}
 use Rattle.gufi_base.proofs.Names.{name_has_no}
 use Rattle.gufi_base.proofs.Below.{closed_names_cons}
-
--- the laws of the order of paths
-pub path_cmp_total : IsTotalOrder path_cmp
-path_cmp_total = lists_total nat_list_cmp_total
 
 both_equal : (a b : Ordering) → ordering_then a b ≡ Equal → (a ≡ Equal) × (b ≡ Equal)
 both_equal Less b e = absurd cc
@@ -63,10 +57,10 @@ more_cmp a b h = cond-false (ltb a b) Less (cond (eqb a b) Equal Greater) (le-lt
 bytes_no : (a b : ℕ) → eqb a 47 ≡ false → eqb b 47 ≡ false → slash_first a b ≡ nat_cmp a b
 bytes_no a b p q = ap (λ k. nat_cmp k (rank b)) (rank_no a p) ∙ ap (nat_cmp (a + 1)) (rank_no b q) ∙ suc_cmp a b
 
-slash_less : (b : ℕ) → eqb b 47 ≡ false → slash_first 47 b ≡ Less
+pub slash_less : (b : ℕ) → eqb b 47 ≡ false → slash_first 47 b ≡ Less
 slash_less b e = ap (nat_cmp 0) (rank_no b e) ∙ less_cmp 0 (b + 1) (omega arith)
 
-slash_more : (b : ℕ) → eqb b 47 ≡ false → slash_first b 47 ≡ Greater
+pub slash_more : (b : ℕ) → eqb b 47 ≡ false → slash_first b 47 ≡ Greater
 slash_more b e = ap (λ k. nat_cmp k 0) (rank_no b e) ∙ more_cmp (b + 1) 0 (omega arith)
 
 then_assoc : (a b c : Ordering) → ordering_then a (ordering_then b c) ≡ ordering_then (ordering_then a b) c
@@ -74,16 +68,16 @@ then_assoc Less b c = refl
 then_assoc Equal b c = refl
 then_assoc Greater b c = refl
 
-nil_less : (n : List ℕ) (s : ℕ) (rest : List ℕ) → slice_cmp slash_first [] (n ++ s ∷ rest) ≡ Less
+pub nil_less : (n : List ℕ) (s : ℕ) (rest : List ℕ) → slice_cmp slash_first [] (n ++ s ∷ rest) ≡ Less
 nil_less [] s rest = refl
 nil_less (x ∷ n) s rest = refl
 
-nil_more : (n : List ℕ) (s : ℕ) (rest : List ℕ) → slice_cmp slash_first (n ++ s ∷ rest) [] ≡ Greater
+pub nil_more : (n : List ℕ) (s : ℕ) (rest : List ℕ) → slice_cmp slash_first (n ++ s ∷ rest) [] ≡ Greater
 nil_more [] s rest = refl
 nil_more (x ∷ n) s rest = refl
 
 -- two texts, by their first names
-first_names : (n m a b : List ℕ) → has_no 47 n ≡ true → has_no 47 m ≡ true → slice_cmp slash_first (n ++ 47 ∷ a) (m ++ 47 ∷ b) ≡ ordering_then (slice_cmp nat_cmp n m) (slice_cmp slash_first a b)
+pub first_names : (n m a b : List ℕ) → has_no 47 n ≡ true → has_no 47 m ≡ true → slice_cmp slash_first (n ++ 47 ∷ a) (m ++ 47 ∷ b) ≡ ordering_then (slice_cmp nat_cmp n m) (slice_cmp slash_first a b)
 first_names [] [] a b p q = refl
 first_names [] (y ∷ m) a b p q = ap (λ o. ordering_then o (slice_cmp slash_first a (m ++ 47 ∷ b))) (slash_less y (not-true _ (and_parts _ _ q).0))
 first_names (x ∷ n) [] a b p q = ap (λ o. ordering_then o (slice_cmp slash_first (n ++ 47 ∷ a) b)) (slash_more x (not-true _ (and_parts _ _ p).0))
@@ -110,7 +104,7 @@ kept_texts_ordered a b o is p q h k e f =
     is ∙ ap (λ (t : List ℕ). slice_cmp slash_first t b) e ∙ ap (slice_cmp slash_first (kept_text p)) f ∙ texts_ordered p q h k
 
 -- past what they begin with alike, two texts stand as they stood
-same_front : (n : ℕ) (a b : List ℕ) → take n a ≡ take n b → n ≤ length a → n ≤ length b → slice_cmp slash_first (drop n a) (drop n b) ≡ slice_cmp slash_first a b
+pub same_front : (n : ℕ) (a b : List ℕ) → take n a ≡ take n b → n ≤ length a → n ≤ length b → slice_cmp slash_first (drop n a) (drop n b) ≡ slice_cmp slash_first a b
 same_front zero a b e la lb = refl
 same_front (suc n) [] b e la lb = absurd (omega arith)
 same_front (suc n) (x ∷ a) [] e la lb = absurd (omega arith)

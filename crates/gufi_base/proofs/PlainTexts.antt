@@ -187,7 +187,7 @@ closes bytes (part ∷ parts) some e =
     ∙ sym (kept_text_push front last) ∙ ap kept_text (all_but_last_and_last [] part parts)
 
 -- bytes between two slashes are the kept text of their parts
-closed_bytes : (bytes : List ℕ) → 47 ∷ (bytes ++ 47 ∷ []) ≡ kept_text (split 47 bytes)
+pub closed_bytes : (bytes : List ℕ) → 47 ∷ (bytes ++ 47 ∷ []) ≡ kept_text (split 47 bytes)
 closed_bytes bytes = closes bytes (split 47 bytes) (split_some 47 bytes) (close_split 47 bytes)
 
 -- names are kept, and none of them is a fault
@@ -250,7 +250,7 @@ length-split : (bytes : List ℕ) → length (split 47 bytes) ≤ length bytes +
 length-split [] = omega arith
 length-split (b ∷ bytes) = let h = length_cond b (eqb b 47) (length bytes) (split 47 bytes) (length-split bytes) in omega (arith, h)
 
-abbrev Behind : List ℕ → List ℕ → Type 0
+abbrev pub Behind : List ℕ → List ℕ → Type 0
 Behind names bytes = (names ≡ bytes) ⊎ (bytes ≡ 47 ∷ names)
 
 kept_behind : (names bytes : List ℕ) → Behind names bytes → kept_parts bytes ≡ kept_parts names

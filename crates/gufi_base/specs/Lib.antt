@@ -10,3 +10,7 @@ pub mod Kinds
 pub mod Rows
 pub mod Delimiters
 pub mod TraceRows
+pub mod PathLists
+pub mod PathLines
+pub mod PathPlaces
+pub mod RowLists

@@ -56,3 +56,7 @@ pub record Stands (ref : RowRef) (row : Row) : Type 0 where
   pub base : ref.base.now ≡ base_name row.path
   pub meta : ref.meta.now ≡ row.rec.meta
   pub link : ref.link.now ≡ row.rec.link
+
+-- the parts of some row
+abbrev pub StandsForSome : RowRef → Type 0
+StandsForSome ref = (row : Row) × Stands ref row

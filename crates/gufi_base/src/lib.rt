@@ -4,23 +4,40 @@
 //! It stands on no crate of the index, and all others may stand on it.
 #![tactic(auto)]
 
+mod kept;
 mod list;
 mod name;
 mod number;
 mod order;
 mod path;
+mod path_lines;
+mod path_list;
+mod path_order;
 mod piece;
 mod plain;
+mod predicate;
 mod record;
+mod row_list;
+mod spot;
+mod steps;
+mod tail;
+mod yields;
 
 pub use list::{Bytes, Items, Nums, Text};
 pub use name::{Name, NameFault, name_cmp};
-pub use number::{put_i64, put_u64, put_u128, read_i64, read_octal, read_u32, read_u64};
+pub use number::{
+    number_before, put_i64, put_u64, put_u128, read_i64, read_octal, read_u32, read_u64,
+};
 pub use order::{path_cmp, text_cmp};
 pub use path::{Path, PathFault, path_text};
+pub use path_list::PathList;
 pub use piece::{Pieces, pieces_of};
+pub use predicate::{Always, Pred};
 pub use record::{Kind, Line, Meta, Rec, Row, RowRef, read_kind};
-use std::alloc::AllocError;
+pub use row_list::RowList;
+use std::alloc::{AllocError, AllocFailed};
+pub use steps::Steps;
+pub use yields::Yield;
 
 /// Memory was wanted, and there was none.
 #[derive(Clone, Copy, Debug, PartialEq, Eq)]
@@ -28,6 +45,12 @@ pub struct Memory;
 
 impl From<AllocError> for Memory {
     fn from(_: AllocError) -> Memory {
+        Memory
+    }
+}
+
+impl<T: Drop> From<AllocFailed<T>> for Memory {
+    fn from(_: AllocFailed<T>) -> Memory {
         Memory
     }
 }

@@ -33,7 +33,7 @@ fn same_block(a: &[u8], b: &[u8], at: usize) -> bool
 }
 
 /// How many bytes two texts begin with alike.
-fn common_front(a: &[u8], b: &[u8]) -> usize
+pub(crate) fn common_front(a: &[u8], b: &[u8]) -> usize
     ensures same { take result a.now ≡ take result b.now }
     ensures within_a { result ≤ length a.now }
     ensures within_b { result ≤ length b.now }

@@ -1,15 +1,17 @@
 //! Paths of the index (POSIX.1-2017 XBD 3.271).
 
-ghost use Rattle.std.specs.Prelude.{◌≡◌, ◌≢◌, ◌==◌, ◌↔◌, ℕ, ◌+◌, ◌<◌, ◌≤◌, List, [], ◌∷◌, ◌++◌, length, not, ◌||◌, nat_lt, filter, drop, bytes_eq, IsTrue, IfOk, Ok, Err, MatchResult, ◌⊎◌, MatchOption, true, false};
+ghost use Rattle.std.specs.Prelude.{◌≡◌, ◌≢◌, ◌==◌, ◌↔◌, ℕ, ◌+◌, ◌<◌, ◌≤◌, List, [], ◌∷◌, ◌++◌, length, not, ◌||◌, nat_lt, filter, drop, bytes_eq, IsTrue, IfOk, IfSome, Ok, Err, MatchResult, ◌⊎◌, MatchOption, true, false};
 ghost use Rattle.std.specs.List.{list_any, list_all};
 ghost use Rattle.gufi_base.specs.Words.{BeginsWith, GivesUnless, split, is_empty as has_no_element};
 ghost use Rattle.gufi_base.specs.Limits.{max_name, max_path, max_components};
 ghost use Rattle.gufi_base.specs.Names.{dot_dot, is_path_byte, is_name};
 ghost use Rattle.gufi_base.specs.Paths.{is_dropped, kept_parts, read_path, path_text, is_prefix, parent_path, base_name, stem, is_child_of, is_proper_prefix, GoesOnWith};
 ghost use Rattle.gufi_base.specs.PathTexts.{closed_names, kept_text, names, IsText};
+ghost use Rattle.gufi_base.specs.Paths.{Components};
+ghost use Rattle.gufi_base.specs.PathLists.{ArePartsOf};
 
 use crate::Memory;
-use crate::name::Name;
+use crate::name::{Name, is_name};
 use crate::order::same_bytes;
 use crate::piece::pieces_of;
 use crate::plain::are_plain;
@@ -138,6 +140,18 @@ fn text_of(alloc: Global, bytes: &[u8]) -> Result<Vec<u8>, AllocError>
     Ok(text)
 }
 
+/// The kept text of a path below the root, from its stem and its base name.
+fn text_of_row(alloc: Global, stem: &[u8], base: &[u8]) -> Result<Vec<u8>, AllocError>
+    ensures { IfOk result (λ text. text.items ≡ stem.now ++ (base.now ++ 47 ∷ [])) }
+{
+    let length = stem.len().saturating_add(base.len()).saturating_add(1);
+    let mut text = Vec::with_capacity(alloc, length)?;
+    text.extend_from_slice(stem)?;
+    text.extend_from_slice(base)?;
+    text.push(b'/')?;
+    Ok(text)
+}
+
 /// The kept text of the path that the bytes spell.
 #[tactic(auto, unfolding(crate::specs::Paths::read_path))]
 fn text_of_parts(alloc: Global, bytes: &[u8]) -> Result<Vec<u8>, PathFault>
@@ -155,6 +169,17 @@ fn text_of_parts(alloc: Global, bytes: &[u8]) -> Result<Vec<u8>, PathFault>
         return Err(PathFault::LongName);
     }
     let text = text_of(alloc, bytes)?;
+    Ok(text)
+}
+
+/// The text of a path and one name more.
+fn text_of_child(alloc: Global, parent: &[u8], name: &[u8]) -> Result<Vec<u8>, AllocError>
+    ensures { IfOk result (λ text. text.items ≡ parent.now ++ (name.now ++ 47 ∷ [])) }
+{
+    let mut text = Vec::with_capacity(alloc, parent.len() + name.len() + 1)?;
+    text.extend_from_slice(parent)?;
+    text.extend_from_slice(name)?;
+    text.push(b'/')?;
     Ok(text)
 }
 
@@ -176,7 +201,15 @@ fn without_front(mut bytes: Vec<u8>, count: usize) -> Vec<u8>
 fn behind<'a>(text: &'a [u8], front: &[u8]) -> Option<&'a [u8]>
     ensures { MatchOption result ((rest : List ℕ) → text.now ≢ front.now ++ rest) (λ rest. text.now ≡ front.now ++ rest.now) }
 {
-    text.strip_prefix(front)
+    if text.len() < front.len() {
+        return None;
+    }
+    let (start, rest) = text.split_at(front.len());
+    if same_bytes(start, front) {
+        Some(rest)
+    } else {
+        None
+    }
 }
 
 /// Whether the path of a text begins with that of another.
@@ -195,6 +228,32 @@ fn first_piece(text: &[u8]) -> Option<&[u8]>
     ensures { MatchOption result ⊥ (λ part. BeginsWith (split 47 text.now) part.now) }
 {
     pieces_of(text, b"/").next()
+}
+
+/// The last name of bytes that spell a root's path, a parent's below it, and that name.
+fn child_name<'a>(bytes: &'a [u8], root: &[u8], parent: &[u8]) -> Option<&'a [u8]>
+    requires root { IsText root.now }
+    requires parent { IsText parent.now }
+    ensures { IfSome result (λ name. IsTrue (is_name name.now) × (read_path bytes.now ≡ Ok (names root.now ++ (names parent.now ++ name.now ∷ [])))) }
+{
+    if bytes.len() > MAX_NAME {
+        return None;
+    }
+    let below = behind(bytes, &root[..root.len() - 1])?;
+    let name = behind(below, parent)?;
+    if is_name(name) { Some(name) } else { None }
+}
+
+/// The names, with single slashes between them, of bytes that spell a root's path and these.
+fn names_behind<'a>(bytes: &'a [u8], root: &[u8]) -> Option<&'a [u8]>
+    requires { IsText root.now }
+    ensures { IfSome result (λ rest. IsTrue (list_all is_name (split 47 rest.now)) × (read_path bytes.now ≡ Ok (names root.now ++ split 47 rest.now))) }
+{
+    if bytes.len() > MAX_NAME {
+        return None;
+    }
+    let rest = behind(bytes, root)?;
+    if are_plain(rest) { Some(rest) } else { None }
 }
 
 /// The first name of a text behind a front that it goes on from.
@@ -289,11 +348,59 @@ impl Path {
         Ok(Path { text })
     }
 
+    /// The path whose names, with single slashes between them, the bytes are. One allocation.
+    pub fn of_names(alloc: Global, bytes: &[u8]) -> Result<Path, AllocError>
+        requires { IsTrue (list_all is_name (split 47 bytes.now)) }
+        ensures { IfOk result (λ path. path ≡ split 47 bytes.now) }
+    {
+        let text = closed(alloc, bytes)?;
+        Ok(Path { text })
+    }
+
+    /// The path followed by a name. One allocation.
+    pub fn child(&self, alloc: Global, name: &[u8]) -> Result<Path, AllocError>
+        requires { IsTrue (is_name name.now) }
+        ensures { IfOk result (λ path. path ≡ self.now ++ name.now ∷ []) }
+    {
+        let text = text_of_child(alloc, self.text.as_slice(), name)?;
+        Ok(Path { text })
+    }
+
+    /// The names in bytes that spell this path and these names, with single slashes between them.
+    ///
+    /// For speed alone: where it gives nothing, nothing is known of the bytes.
+    pub fn names_behind<'a>(&self, bytes: &'a [u8]) -> Option<&'a [u8]>
+        ensures { IfSome result (λ rest. IsTrue (list_all is_name (split 47 rest.now)) × (read_path bytes.now ≡ Ok (self.now ++ split 47 rest.now))) }
+    {
+        names_behind(bytes, self.text.as_slice())
+    }
+
+    /// The last name in bytes that spell a root's path, this path below it, and that name.
+    ///
+    /// For speed alone: where it gives nothing, nothing is known of the bytes.
+    pub fn child_name<'a>(&self, root: &Path, bytes: &'a [u8]) -> Option<&'a [u8]>
+        ensures { IfSome result (λ name. IsTrue (is_name name.now) × (read_path bytes.now ≡ Ok (root.now ++ (self.now ++ name.now ∷ [])))) }
+    {
+        child_name(bytes, root.text.as_slice(), self.text.as_slice())
+    }
+
     /// The path of no name.
     pub fn root(alloc: Global) -> Result<Path, AllocError>
         ensures { IfOk result (λ path. path ≡ []) }
     {
         let text = Vec::from_slice(alloc, b"/")?;
+        Ok(Path { text })
+    }
+
+    /// The path of a row, from its stem and its base name. One allocation.
+    pub(crate) fn of_parts(alloc: Global, stem: &[u8], base: &[u8]) -> Result<Path, AllocError>
+        requires { (path : Components) × ArePartsOf stem.now base.now path }
+        ensures { IfOk result (λ made. (path : Components) → ArePartsOf stem.now base.now path → made ≡ path) }
+    {
+        if stem.len() == 0 {
+            return Path::root(alloc);
+        }
+        let text = text_of_row(alloc, stem, base)?;
         Ok(Path { text })
     }
 

@@ -89,6 +89,7 @@ pub struct Row {
 }
 
 /// A row in borrowed parts: `stem` and then `base` are the text of its path.
+#[derive(Clone, Copy)]
 pub struct RowRef<'a> {
     pub stem: &'a [u8],
     pub base: &'a [u8],

@@ -12,4 +12,5 @@ pub mod TraceBack
 pub mod FirstParts
 pub mod Writes
 pub mod Checks
+pub mod SoundLines
 mod Worked

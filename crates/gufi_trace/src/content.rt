@@ -13,10 +13,10 @@ use crate::fields::Fields;
 use gufi_base::{Meta, Path, PathFault, read_i64, read_kind, read_u32, read_u64};
 use std::alloc::Global;
 
-const MAX_LINK: usize = 4096;
+pub(crate) const MAX_LINK: usize = 4096;
 
 /// The low 12 bits of a mode are kept.
-const MODES: u32 = 4096;
+pub(crate) const MODES: u32 = 4096;
 
 fn u64_at(field: u32, text: &[u8]) -> Result<u64, Refused>
     ensures { Gives (λ n. n) result (numbered field (read_u64 text.now)) }
@@ -80,7 +80,7 @@ pub(crate) fn read_meta(fields: &Fields<'_>) -> Result<Meta, Refused>
     })
 }
 
-fn has_zero(bytes: &[u8]) -> bool
+pub(crate) fn has_zero(bytes: &[u8]) -> bool
     ensures { result ≡ list_any (λ b. b == 0) bytes.now }
 {
     bytes.iter().any(|b| *b == 0)

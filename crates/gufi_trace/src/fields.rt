@@ -1,12 +1,15 @@
 //! The fields of a line.
 
-ghost use Rattle.std.specs.Prelude.{◌≡◌, ◌+◌, ◌<◌, ◌==◌, length, drop, option_map, position};
+ghost use Rattle.std.specs.Prelude.{◌≡◌, ◌+◌, ◌<◌, ◌==◌, length, drop, IfSome, option_map, position};
 ghost use Rattle.std.specs.Iterator.{YieldsFirstRef};
 ghost use Rattle.gufi_base.specs.Words.{split};
 ghost use Rattle.gufi_trace.specs.Reading.{Gives};
 ghost use Rattle.gufi_trace.specs.Fields.{texts, fields_of, fields_in};
+ghost use Rattle.gufi_trace.specs.Taken.{KindBefore, Takes, TakesNumber};
+ghost use Rattle.gufi_base.specs.Kinds.{read_kind};
 
 use crate::fault::{Refused, TraceKind};
+use gufi_base::{Kind, number_before, read_kind};
 use memchr::memchr_iter;
 use std::marker::Model;
 
@@ -23,7 +26,7 @@ fn behind(text: &[u8], at: usize) -> &[u8]
     &text[at + 1..]
 }
 
-/// The parts of a line round each delimiter, in order. Fields are short, so their ends are looked for 32 bytes at a time.
+/// The parts of a text round each delimiter, in order. Lines and fields are short, so their ends are looked for 32 bytes at a time.
 #[derive(Drop)]
 pub(crate) struct Parts<'a> {
     rest: &'a [u8],
@@ -69,6 +72,50 @@ impl<'a> Parts<'a> {
                 Some(rest)
             }
         }
+    }
+}
+
+/// The type of file that the byte before the first delimiter names.
+fn kind_before(text: &[u8], delim: u8) -> Option<Kind>
+    ensures { IfSome result (λ kind. KindBefore delim text.now kind) }
+{
+    match text {
+        [letter, end, ..] if *end == delim && *letter != delim => read_kind(&text[..1]),
+        _ => None,
+    }
+}
+
+impl<'a> Parts<'a> {
+    /// The type of file that the next part names, where a further part follows.
+    ///
+    /// For speed alone: where it gives nothing, nothing is known.
+    #[inline(always)]
+    pub(crate) fn next_kind(&mut self) -> Option<Kind>
+        ensures { IfSome result (λ kind. Takes Kind read_kind self.old self.new kind) }
+    {
+        if self.is_done {
+            return None;
+        }
+        let rest = self.rest;
+        let kind = kind_before(rest, self.delim)?;
+        self.rest = behind(rest, 1);
+        Some(kind)
+    }
+
+    /// The number of the next part, where few digits write it and a further part follows.
+    ///
+    /// For speed alone: where it gives nothing, nothing is known.
+    #[inline(always)]
+    pub(crate) fn next_number(&mut self) -> Option<u64>
+        ensures { IfSome result (TakesNumber self.old self.new) }
+    {
+        if self.is_done {
+            return None;
+        }
+        let rest = self.rest;
+        let (number, at) = number_before(rest, self.delim)?;
+        self.rest = behind(rest, at);
+        Some(number)
     }
 }
 

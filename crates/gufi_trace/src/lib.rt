@@ -8,6 +8,7 @@ mod content;
 mod fault;
 mod fields;
 mod lines;
+mod quick;
 mod reader;
 mod row;
 mod text;

@@ -1,6 +1,6 @@
 //! The lines that a reader has.
 
-ghost use Rattle.std.specs.Prelude.{◌≡◌, ℕ, ◌+◌, ◌≤◌, List, [], ◌∷◌, ◌++◌, length, reverse, None, OnOk, IfOk, IfErr};
+ghost use Rattle.std.specs.Prelude.{◌≡◌, ℕ, ◌+◌, ◌≤◌, List, [], ◌∷◌, ◌++◌, length, reverse, None, OnOk, IfOk, IfErr, IfSome};
 ghost use Rattle.std.specs.Result.{result_unwrap_or};
 ghost use Rattle.gufi_base.specs.Limits.{max_dirs, max_entries};
 ghost use Rattle.gufi_base.specs.Words.{part_at};
@@ -9,18 +9,20 @@ ghost use Rattle.gufi_trace.specs.TraceText.{root_of};
 ghost use Rattle.gufi_trace.specs.Lines.{place_fault, line_of};
 ghost use Rattle.gufi_trace.specs.Counted.{IsCounted};
 ghost use Rattle.gufi_trace.specs.Reading.{Gives};
+ghost use Rattle.gufi_trace.specs.Taken.{IsNext};
 ghost use Rattle.gufi_trace.specs.Progress.{root_behind, lines_from, Stops};
 
 use crate::content::{read_meta, read_path};
 use crate::fault::{Refused, TraceError, TraceFault, TraceKind};
 use crate::fields::{Parts, read_fields};
+use crate::quick::{Place, next_line};
 use gufi_base::{Bytes, Kind, Line, Memory, Path, PathFault, Rec};
 use std::alloc::{AllocError, Global};
 use std::marker::Model;
 
-const MAX_DIRS: usize = 262144;
+pub(crate) const MAX_DIRS: usize = 262144;
 
-const MAX_ENTRIES: usize = 1048576;
+pub(crate) const MAX_ENTRIES: usize = 1048576;
 
 /// The lines so far, with the place of the last directory and the count of directories.
 ///
@@ -116,6 +118,23 @@ impl Lines {
         fault_behind(&self.items, self.stanza, self.dirs, kind, path)
     }
 
+    /// The next line, where it is seen to be sound.
+    fn quick_line(
+        &self,
+        alloc: Global,
+        delim: u8,
+        root: &Path,
+        text: &[u8],
+    ) -> Result<Option<Line>, AllocError>
+        ensures { IfOk result (λ given. IfSome given (IsNext delim root.now self.now text.now)) }
+    {
+        let place = Place {
+            stanza: self.stanza,
+            dirs: self.dirs,
+        };
+        next_line(alloc, delim, root, &self.items, place, text)
+    }
+
     /// Takes the next line, which stands at its place.
     fn push(&mut self, line: Line) -> Result<(), AllocError>
         requires { place_fault self.old line.rec.meta.kind line.path ≡ None }
@@ -205,8 +224,8 @@ impl Progress {
         Ok(())
     }
 
-    /// Takes a whole line.
-    pub(crate) fn add(&mut self, alloc: Global, delim: u8, text: &[u8]) -> Result<(), TraceError>
+    /// Takes a whole line, which may have a fault.
+    fn add_exactly(&mut self, alloc: Global, delim: u8, text: &[u8]) -> Result<(), TraceError>
         ensures ok { OnOk result ((more : List (List ℕ)) → lines_from delim self.old (text.now ∷ more) ≡ lines_from delim self.new more) }
         ensures err { IfErr result (λ e. (more : List (List ℕ)) → Stops e (lines_from delim self.old (text.now ∷ more))) }
     {
@@ -222,5 +241,17 @@ impl Progress {
                 Err(TraceError::Fault(TraceFault { line, kind }))
             }
         }
+    }
+
+    /// Takes a whole line.
+    pub(crate) fn add(&mut self, alloc: Global, delim: u8, text: &[u8]) -> Result<(), TraceError>
+        ensures ok { OnOk result ((more : List (List ℕ)) → lines_from delim self.old (text.now ∷ more) ≡ lines_from delim self.new more) }
+        ensures err { IfErr result (λ e. (more : List (List ℕ)) → Stops e (lines_from delim self.old (text.now ∷ more))) }
+    {
+        if let Some(line) = self.lines.quick_line(alloc, delim, &self.root, text)? {
+            self.lines.push(line)?;
+            return Ok(());
+        }
+        self.add_exactly(alloc, delim, text)
     }
 }

@@ -8,8 +8,9 @@ ghost use Rattle.gufi_trace.specs.Progress.{lines_from, Stops};
 ghost use Rattle.gufi_trace.specs.Reader.{HasRead, answer_of, answer_so_far, GivesLines, stream_of, is_open};
 
 use crate::fault::{TraceError, TraceFault, TraceKind};
+use crate::fields::Parts;
 use crate::lines::Progress;
-use gufi_base::{Bytes, Line, Memory, Pieces, pieces_of};
+use gufi_base::{Bytes, Line, Memory};
 use std::alloc::Global;
 use std::marker::Model;
 
@@ -69,10 +70,10 @@ fn end_line(
 }
 
 /// The first part, of which there is always one.
-fn first_part<'a>(parts: &mut Pieces<'a, '_>) -> &'a [u8]
+fn first_part<'a>(parts: &mut Parts<'a>) -> &'a [u8]
     ensures { parts.old ≢ [] → parts.old ≡ result.now ∷ parts.new }
 {
-    match parts.next() {
+    match parts.next_part() {
         Some(first) => first,
         None => b"",
     }
@@ -91,9 +92,9 @@ fn take_piece(
     ensures rest { OnOk result (rest.new.items ≡ cut_line (rest.old.items ++ piece.now)) }
     ensures err { IfErr result (λ e. (more : List (List ℕ)) → Stops e (lines_from delim progress.old (whole_lines (rest.old.items ++ piece.now) ++ more))) }
 {
-    let mut parts = pieces_of(piece, b"\n");
+    let mut parts = Parts::of(piece, b'\n');
     let mut last = first_part(&mut parts);
-    for part in parts {
+    'lines: while let Some(part) = parts.next_part() {
         end_line(alloc, delim, progress, rest, last)?;
         last = part;
     }

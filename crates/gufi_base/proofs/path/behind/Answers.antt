@@ -1,6 +1,6 @@
-use Rattle.std.proofs.lemmas.Slice.Eq.{strip_prefix_is}
-use Rattle.std.proofs.lemmas.Bool.Decides.{Decides-eqb}
+use Rattle.std.proofs.Common.{sym}
+use Rattle.gufi_base.proofs.Children.{no_front}
 use Rattle.gufi_base.proofs.path.behind.Goals as goal
 
-pub returns : goal.returns
-returns c = strip_prefix_is Decides-eqb c.args.text.now c.args.front.now c.strip_prefix.result c.strip_prefix.ensures.cases
+pub returns-else-same_bytes : goal.returns-else-same_bytes
+returns-else-same_bytes c = no_front c.args.text.now c.args.front.now c.split_at.result.0.now c.split_at.ensures.front (sym c.if-same_bytes.ensures)

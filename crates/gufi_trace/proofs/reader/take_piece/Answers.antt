@@ -1,15 +1,14 @@
-use Rattle.std.proofs.Common.{[], ◌∷◌, ◌++◌, List, ℕ, sym, ap, ◌∙◌}
+use Rattle.std.proofs.Common.{[], ◌++◌, List, ℕ, sym, ap, ◌∙◌}
 use Rattle.gufi_base.specs.Words.{all_but_last, last_of}
 use Rattle.gufi_trace.specs.Progress.{lines_from}
 use Rattle.gufi_base.proofs.Cuts.{split_behind, split_some}
 use Rattle.gufi_trace.proofs.reader.take_piece.Goals as goal
 
-pub loop-part-init : goal.loop-part-init
-loop-part-init c =
-    let value = c.pieces_of-parts.ensures.value in
+pub lines-init : goal.lines-init
+lines-init c =
+    let value = c.of-parts.ensures in
     let first = c.first_part-last.ensures (λ e. split_some 10 c.args.piece.now (sym value ∙ e)) in
-    let whole = split_behind 10 c.args.rest.now.items c.args.piece.now c.first_part-last.result.now c.first_part-last.new.parts c.requires (sym value ∙ first)
-    ∙ ap (λ (ps : List (List ℕ)). (c.args.rest.now.items ++ c.first_part-last.result.now) ∷ ps) (sym c.into_iter-part-iterator.ensures.into_iter_gives) in
+    let whole = split_behind 10 c.args.rest.now.items c.args.piece.now c.first_part-last.result.now c.first_part-last.new.parts c.requires (sym value ∙ first) in
     record {
       lines = λ more. ap (λ (ps : List (List ℕ)). lines_from c.args.delim c.args.progress.now (all_but_last ps ++ more)) whole;
       rest = ap (last_of []) whole;

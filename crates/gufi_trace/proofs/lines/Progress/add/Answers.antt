@@ -1,8 +1,8 @@
-use Rattle.gufi_trace.proofs.Feeds.{line_taken, line_stops}
+use Rattle.gufi_trace.proofs.Feeds.{line_taken}
+use Rattle.gufi_trace.proofs.SoundLines.{settled_behind}
 use Rattle.gufi_trace.proofs.lines.Progress.add.Goals as goal
 
-pub returns-in_ok-push-in-Ok-clause-ok : goal.returns-in_ok-push-in-Ok-clause-ok
-returns-in_ok-push-in-Ok-clause-ok c = line_taken c.args.delim c.args.self.now c.settle_root.new.self c.args.text.now c.in-Ok.line c.push.new.self c.in_ok-settle_root.ensures c.in-Ok.ensures.line c.in_ok-push-in-Ok.ensures
-
-pub returns-in-Err-Fault-clause-err : goal.returns-in-Err-Fault-clause-err
-returns-in-Err-Fault-clause-err c = line_stops c.args.delim c.args.self.now c.settle_root.new.self c.args.text.now c.in-Err-Fault.kind c.len.result c.in_ok-settle_root.ensures (rw c.in-Err-Fault.field-0-is at c.in-Err-Fault.ensures.line) c.len.ensures.is
+pub returns-in-Some-clause-ok : goal.returns-in-Some-clause-ok
+returns-in-Some-clause-ok c =
+    let next = rw c.in-Some.is at c.in_ok-line.ensures in
+    line_taken c.args.delim c.args.self.now c.args.self.now c.args.text.now c.in-Some.line c.push.new.self (settled_behind c.args.delim c.args.self.now c.args.text.now next.behind) next.reads c.in_ok-push.ensures

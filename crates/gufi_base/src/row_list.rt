@@ -1,0 +1,175 @@
+//! Lists of rows in two texts.
+
+ghost use Rattle.std.specs.Prelude.{◌≡◌, ◌<◌, ◌++◌, ◌∷◌, [], List, length, All, IsTrue, IfOk, OnOk, slice_index_or};
+ghost use Rattle.std.specs.Ordering.{is_lt};
+ghost use Rattle.std.specs.List.Sorted.{IsPermutation, IsSortedBy};
+ghost use Rattle.std.proofs.lemmas.List.Sorted.{length_permutation, IsPermutation-trans};
+ghost use Rattle.gufi_base.specs.declared.record.Row.{Row as SeenRow};
+ghost use Rattle.gufi_base.specs.Words.{ascends};
+ghost use Rattle.gufi_base.specs.Rows.{Stands, StandsForSome, row_cmp};
+ghost use Rattle.gufi_base.specs.PathLists.{picked};
+ghost use Rattle.gufi_base.specs.RowLists.{no_row};
+
+use crate::Memory;
+use crate::kept::Kept;
+use crate::list::Bytes;
+use crate::path::Path;
+use crate::path_list::PathList;
+use crate::path_order::order;
+use crate::record::{Rec, Row, RowRef};
+use crate::spot::{Parts, bytes_at, put};
+use crate::yields::Yield;
+use std::alloc::Global;
+use std::marker::Model;
+
+/// Rows, in the order in which they were taken. No row has memory of its own, and the rows of one directory have one stem.
+#[derive(Drop)]
+pub struct RowList {
+    paths: PathList,
+    records: Vec<Kept>,
+    links: Vec<u8>,
+}
+
+impl Model for RowList {
+    ghost use Rattle.std.specs.Prelude.{List};
+    ghost use Rattle.gufi_base.specs.declared.record.Row.{Row};
+
+    ghost Value = { List Row };
+
+    ghost use Rattle.gufi_base.specs.RowLists.{AreRecords, rows_in};
+
+    ghost view = { λ l. rows_in l.links.items l.paths l.records.items };
+
+    ghost invariant = { λ l. AreRecords l.links.items l.paths l.records.items };
+}
+
+/// The row of these parts, in memory of its own.
+fn owned(alloc: Global, row: RowRef<'_>) -> Result<Row, Memory>
+    requires { StandsForSome row }
+    ensures { IfOk result (λ made. (of : SeenRow) → Stands row.entry of → made ≡ of) }
+{
+    let path = Path::of_parts(alloc, row.stem, row.base)?;
+    let link = Bytes::from_slice(alloc, row.link)?;
+    let meta = *row.meta;
+    Ok(Row {
+        path,
+        rec: Rec { meta, link },
+    })
+}
+
+impl RowList {
+    fn new(alloc: Global) -> RowList
+        ensures { result ≡ [] }
+    {
+        RowList {
+            paths: PathList::new(alloc),
+            records: Vec::new(alloc),
+            links: Vec::new(alloc),
+        }
+    }
+
+    /// How many rows there are.
+    pub fn len(&self) -> usize
+        ensures { result ≡ length self.now }
+    {
+        self.records.len()
+    }
+
+    fn push(&mut self, row: RowRef<'_>) -> Result<(), Memory>
+        requires { StandsForSome row }
+        ensures { OnOk result ((of : SeenRow) → Stands row.entry of → self.new ≡ self.old ++ of ∷ []) }
+    {
+        let count = self.records.len();
+        let link = put(&mut self.links, row.link)?;
+        let meta = *row.meta;
+        self.records.push(Kept { meta, link })?;
+        let parts = Parts {
+            stem: row.stem,
+            base: row.base,
+        };
+        match self.paths.push(parts) {
+            Ok(()) => Ok(()),
+            Err(Memory) => {
+                self.records.truncate(count);
+                Err(Memory)
+            }
+        }
+    }
+
+    /// The row at a place, in borrowed parts.
+    fn row_at(&self, place: usize) -> RowRef<'_>
+        requires { place < length self.now }
+        ensures { Stands result (slice_index_or self.now place no_row) }
+    {
+        let parts = self.paths.parts(place);
+        let kept = &self.records[place];
+        RowRef {
+            stem: parts.stem,
+            base: parts.base,
+            meta: &kept.meta,
+            link: bytes_at(self.links.as_slice(), kept.link),
+        }
+    }
+
+    fn append(&mut self, other: RowList) -> Result<(), Memory>
+        ensures { OnOk result (self.new ≡ self.old ++ other) }
+    {
+        if self.len() == 0 {
+            *self = other;
+            return Ok(());
+        }
+        for place in 0..other.len() {
+            self.push(other.row_at(place))?;
+        }
+        Ok(())
+    }
+
+    fn rows_at(&self, alloc: Global, places: &[usize]) -> Result<Vec<Row>, Memory>
+        requires { All (λ k. k < length self.now) places.now }
+        ensures { IfOk result (λ rows. rows.items ≡ picked self.now no_row places.now) }
+    {
+        let mut rows = Vec::with_capacity(alloc, places.len())?;
+        for place in places {
+            let row = owned(alloc, self.row_at(*place))?;
+            rows.push(row)?;
+        }
+        Ok(rows)
+    }
+
+    /// The rows in path order, each in memory of its own.
+    ///
+    /// Takes time in proportion to the bytes where the rows come as a walk gives them.
+    pub fn sorted(self, alloc: Global) -> Result<Vec<Row>, Memory>
+        ensures moved { IfOk result (λ rows. IsPermutation self rows.items) }
+        ensures sorted { IfOk result (λ rows. IsSortedBy (λ a b. is_lt (row_cmp a b)) rows.items) }
+
+        // Of the lists that it stands for one at most ascends, and this is it.
+        ensures only { IfOk result (λ rows. (other : List SeenRow) → IsPermutation self other → IsTrue (ascends row_cmp other) → rows.items ≡ other) }
+    {
+        let places = order(&self.paths, alloc)?;
+        let rows = self.rows_at(alloc, places.as_slice())?;
+        Ok(rows)
+    }
+}
+
+impl Yield for RowList {
+    ghost count = { length };
+
+    ghost stands_for = { λ l rows. IsPermutation l rows };
+
+    ghost counted = { λ l rows h. length_permutation l rows h };
+
+    ghost reordered = { λ l rows other moved h. IsPermutation-trans l rows other h moved };
+
+    fn none(alloc: Global) -> Result<RowList, Memory> {
+        Ok(RowList::new(alloc))
+    }
+
+    fn take(&mut self, _alloc: Global, row: RowRef<'_>) -> Result<(), Memory> {
+        self.push(row)
+    }
+
+    fn merge(&mut self, _alloc: Global, other: RowList) -> Result<(), Memory> {
+        self.append(other)
+    }
+}

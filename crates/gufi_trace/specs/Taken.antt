@@ -1,0 +1,85 @@
+-- What a quick reader takes of a line that is sound.
+use Rattle.std.specs.Prelude.{◌≡◌, ℕ, ◌+◌, ◌^◌, ◌<◌, ◌≤◌, ◌==◌, false, List, ◌∷◌, ◌++◌, length, take, drop, Option, Some, None, Ok, IsTrue}
+use Rattle.std.specs.List.{list_any}
+use Rattle.std.specs.Str.Parse.{digits_value}
+use Rattle.gufi_base.specs.declared.record.Kind.{Kind}
+use Rattle.gufi_base.specs.declared.record.Meta.{Meta}
+use Rattle.gufi_base.specs.declared.record.Line.{Line}
+use Rattle.gufi_base.specs.Limits.{max_link}
+use Rattle.gufi_base.specs.Words.{split}
+use Rattle.gufi_base.specs.Numbers.{is_numeral, read_u32, read_u64}
+use Rattle.gufi_base.specs.Kinds.{read_kind}
+use Rattle.gufi_base.specs.Paths.{Components, read_path}
+use Rattle.gufi_trace.specs.declared.quick.Content.{Content}
+use Rattle.gufi_trace.specs.declared.quick.Owner.{Owner}
+use Rattle.gufi_trace.specs.declared.quick.Sizes.{Sizes}
+use Rattle.gufi_trace.specs.Fields.{Texts, fields_of}
+use Rattle.gufi_trace.specs.Lines.{meta_in, place_fault, line_of}
+
+-- the first part of a text is one byte that names a type
+pub record KindBefore (delim : ℕ) (text : List ℕ) (kind : Kind) : Type 0 where
+  pub reads : read_kind (take 1 text) ≡ Some kind
+  pub first : split delim text ≡ take 1 text ∷ split delim (drop (1 + 1) text)
+  pub within : 1 < length text
+
+-- the first of the parts is a number of few digits, and the others are left
+pub record TakesNumber (old new : List (List ℕ)) (n : ℕ) : Type 0 where
+  pub field : List ℕ
+  pub is : old ≡ field ∷ new
+  pub numeral : IsTrue (is_numeral 10 field)
+  pub value : n ≡ digits_value 10 field
+  pub small : n < 10 ^ 18
+
+-- the first of the parts is read so, and the others are left
+pub record Takes (A : Type 0) (read : List ℕ → Option A) (old new : List (List ℕ)) (x : A) : Type 0 where
+  pub field : List ℕ
+  pub is : old ≡ field ∷ new
+  pub reads : read field ≡ Some x
+
+-- the same of fields 2 to 7 and of 8 to 10, with what is left behind each
+pub record TakesOwner (old new : List (List ℕ)) (owner : Owner) : Type 0 where
+  pub behind_kind : List (List ℕ)
+  pub behind_inode : List (List ℕ)
+  pub behind_mode : List (List ℕ)
+  pub behind_nlink : List (List ℕ)
+  pub behind_uid : List (List ℕ)
+  pub kind : Takes Kind read_kind old behind_kind owner.kind
+  pub inode : Takes ℕ read_u64 behind_kind behind_inode owner.inode
+  pub mode : Takes ℕ read_u32 behind_inode behind_mode owner.mode
+  pub nlink : Takes ℕ read_u64 behind_mode behind_nlink owner.nlink
+  pub uid : Takes ℕ read_u32 behind_nlink behind_uid owner.uid
+  pub gid : Takes ℕ read_u32 behind_uid new owner.gid
+
+pub record TakesSizes (old new : List (List ℕ)) (sizes : Sizes) : Type 0 where
+  pub behind_size : List (List ℕ)
+  pub behind_blksize : List (List ℕ)
+  pub size : Takes ℕ read_u64 old behind_size sizes.size
+  pub blksize : Takes ℕ read_u64 behind_size behind_blksize sizes.blksize
+  pub blocks : Takes ℕ read_u64 behind_blksize new sizes.blocks
+
+-- fields 2 to 13 are the first parts, and the others are left
+pub record TakesMeta (old new : List (List ℕ)) (meta : Meta) : Type 0 where
+  pub f : Texts
+  pub is : old ≡ f.kind ∷ f.inode ∷ f.mode ∷ f.nlink ∷ f.uid ∷ f.gid ∷ f.size ∷ f.blksize ∷ f.blocks ∷ f.atime ∷ f.mtime ∷ f.ctime ∷ new
+  pub reads : meta_in f ≡ Ok meta
+
+-- the fields of a line whose parts these are, with a sound link
+pub record TakesContent (parts : List (List ℕ)) (content : Content) : Type 0 where
+  pub f : Texts
+  pub fields : fields_of parts ≡ Some f
+  pub path : f.path ≡ content.path.now
+  pub link : f.link ≡ content.link.now
+  pub meta : meta_in f ≡ Ok content.meta
+  pub no_zero : list_any (λ b. b == 0) content.link.now ≡ false
+  pub short : length content.link.now ≤ max_link
+
+-- bytes that spell a path below the root, which stands at its place
+pub record IsPlaced (root : Components) (earlier : List Line) (kind : Kind) (bytes : List ℕ) (path : Components) : Type 0 where
+  pub reads : read_path bytes ≡ Ok (root ++ path)
+  pub place : place_fault earlier kind path ≡ None
+
+-- a line that is sound at its place, behind others
+pub record IsNext (delim : ℕ) (root : Components) (earlier : List Line) (text : List ℕ) (line : Line) : Type 0 where
+  pub reads : line_of delim root earlier text ≡ Ok line
+  pub place : place_fault earlier line.rec.meta.kind line.path ≡ None
+  pub behind : 0 < length earlier
