@@ -3,7 +3,7 @@ use Rattle.std.proofs.Common.{◌≡◌, ℕ, zero, suc, ◌+◌, ◌^◌, ◌<�
 use Rattle.std.specs.declared.cmp.Ordering.TheVariants.{Less, Equal, Greater}
 use Rattle.std.specs.declared.cmp.Ordering.{Ordering}
 use Rattle.std.specs.Ordering.{is_lt}
-use Rattle.std.specs.List.{list_any, list_all, filter}
+use Rattle.std.specs.List.{list_any, list_all, filter, flat_map}
 use Rattle.std.proofs.lemmas.List.Sums.{length-filter, count_by-le-length}
 use Rattle.gufi_base.specs.declared.record.Line.{Line}
 use Rattle.gufi_tree.specs.Build.{is_dir_line, directory_of_line, directories_of_lines}
@@ -17,7 +17,7 @@ use Rattle.gufi_base.specs.Words.{is_empty, ascends, insert_by, sort_by}
 use Rattle.gufi_base.specs.Paths.{Components, path_cmp, path_eq, parent_path, is_child_of}
 use Rattle.gufi_tree.specs.declared.tree.DirId.{DirId}
 use Rattle.gufi_tree.specs.declared.tree.Stored.{Stored}
-use Rattle.gufi_tree.specs.Tree.{Directory, dir_cmp, entry_cmp, place_of, has_dir, is_at, HasTreeShape}
+use Rattle.gufi_tree.specs.Tree.{Directory, own_rows, dir_cmp, entry_cmp, place_of, has_dir, is_at, HasTreeShape}
 use Rattle.gufi_tree.specs.Stored.{directory_of, directories_of, AreInOrder}
 use Rattle.gufi_tree.specs.Places.{dir_id, path_at, ids_from, child_ids}
 use Rattle.std.specs.Global.{Vec}
@@ -232,14 +232,15 @@ pub few_stored : (lines : List Line) (stored : List Stored) (n : ℕ) → IsArra
 few_stored lines stored n h few = omega (arith, few_directories lines, ap length h.tree, length-map stored directory_of, few)
 
 -- what is kept beside directories is theirs
-pub kept : (stored seen : List Stored) (parents given : List ℕ) (lists : List (Vec DirId)) → HasTreeShape (directories_of stored) → length stored < 2 ^ 32 → seen ≡ stored → HasParents (directories_of seen) parents → given ≡ parents
+pub kept : (stored seen : List Stored) (parents given : List ℕ) (lists : List (Vec DirId)) → HasTreeShape (directories_of stored) → length stored < 2 ^ 32 → length (flat_map own_rows (directories_of stored)) < 2 ^ 32 → seen ≡ stored → HasParents (directories_of seen) parents → given ≡ parents
     → length lists ≡ length given → ((k : ℕ) (d : Vec DirId) → k < length given → (get_or lists k d).items ≡ ids_under k 0 given) → IsKept stored parents lists
-kept stored seen parents given lists shape few is h same len each =
+kept stored seen parents given lists shape few rows is h same len each =
     let Q : List Stored → Type 0 = λ s. HasParents (directories_of s) parents in
     let places : HasParents (directories_of stored) parents = subst Q is h in
     record {
       shape = shape;
       few = few;
+      rows = rows;
       parents = places;
       subdirs = record {
         len = len ∙ ap length same ∙ places.len;

@@ -90,7 +90,7 @@ paths_same p (line ∷ lines) h k =
     let both = and_parts (list_all is_name line.path) (are_named lines) k in
     ap (λ b. b || list_any (has_path_text (kept_text p)) lines) (same_text p line.path h both.0) ∙ ap (λ b. path_eq p line.path || b) (paths_same p lines h both.1)
 
-dirs_same : (p : Components) (lines : List Line) → list_all is_name p ≡ true → are_named lines ≡ true → list_any (has_dir_text (kept_text p)) lines ≡ names_dir lines p
+pub dirs_same : (p : Components) (lines : List Line) → list_all is_name p ≡ true → are_named lines ≡ true → list_any (has_dir_text (kept_text p)) lines ≡ names_dir lines p
 dirs_same p [] h k = refl
 dirs_same p (line ∷ lines) h k =
     let both = and_parts (list_all is_name line.path) (are_named lines) k in

@@ -1,5 +1,5 @@
 -- Directories that are gathered from lines, and the lines that are left.
-use Rattle.std.specs.Prelude.{◌≡◌, Bool, not, ◌&&◌, List, ◌++◌, map, IsTrue}
+use Rattle.std.specs.Prelude.{◌≡◌, Bool, not, ◌&&◌, List, ◌++◌, map, length, IsTrue}
 use Rattle.std.specs.List.{list_all, flat_map}
 use Rattle.std.specs.List.Sorted.{IsPermutation}
 use Rattle.gufi_base.specs.declared.record.Line.{Line}
@@ -36,3 +36,4 @@ paths_of stored = map (λ s. s.path) stored
 pub record IsArranged (lines : List Line) (stored : List Stored) : Type 0 where
   pub tree : directories_of stored ≡ directories_of_lines lines
   pub shape : HasTreeShape (directories_of stored)
+  pub rows : length (rows_of stored) ≡ length lines

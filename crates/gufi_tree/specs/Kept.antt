@@ -1,10 +1,11 @@
 -- What a tree keeps beside its directories: where parents and subdirectories are.
 use Rattle.std.specs.Prelude.{◌≡◌, ℕ, ◌+◌, ◌<◌, ◌^◌, not, ◌==◌, ◌&&◌, List, [], ◌∷◌, length, slice_index, slice_index_or, Some, if◌then◌else◌}
+use Rattle.std.specs.List.{flat_map}
 use Rattle.std.specs.Global.{Vec}
 use Rattle.gufi_base.specs.Paths.{parent_path}
 use Rattle.gufi_tree.specs.declared.tree.DirId.{DirId}
 use Rattle.gufi_tree.specs.declared.tree.Stored.{Stored}
-use Rattle.gufi_tree.specs.Tree.{Directory, place_of, HasTreeShape}
+use Rattle.gufi_tree.specs.Tree.{Directory, own_rows, place_of, HasTreeShape}
 use Rattle.gufi_tree.specs.Stored.{directories_of}
 use Rattle.gufi_tree.specs.Places.{dir_id, path_at, child_ids}
 
@@ -27,5 +28,6 @@ pub record HasSubdirs (tree : List Directory) (lists : List (Vec DirId)) : Type 
 pub record IsKept (stored : List Stored) (places : List ℕ) (lists : List (Vec DirId)) : Type 0 where
   pub shape : HasTreeShape (directories_of stored)
   pub few : length stored < 2 ^ 32
+  pub rows : length (flat_map own_rows (directories_of stored)) < 2 ^ 32
   pub parents : HasParents (directories_of stored) places
   pub subdirs : HasSubdirs (directories_of stored) lists

@@ -8,3 +8,4 @@ pub mod Texts
 pub mod Resolve
 pub mod Reached
 pub mod Listed
+pub mod Sound

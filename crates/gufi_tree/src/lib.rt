@@ -10,13 +10,15 @@ mod lines;
 mod link;
 mod place;
 mod resolve;
+mod shared;
 mod sort;
+mod sound;
 mod tree;
 
 pub use fault::TreeFault;
 pub use lines::build;
 pub use resolve::Resolved;
-pub use tree::{DirId, Entry, Tree};
+pub use tree::{DirId, Entry, Stored, Tree};
 
 #[cfg(test)]
 mod tests;

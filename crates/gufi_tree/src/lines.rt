@@ -9,6 +9,7 @@ use crate::fault::{TreeFault, find_fault};
 use crate::gather::gather;
 use crate::place::place;
 use crate::sort::{sort_directories, sort_entries};
+use crate::sound::is_sound;
 use crate::tree::{Stored, Tree};
 use gufi_base::Line;
 use std::alloc::{AllocError, Global};
@@ -34,8 +35,10 @@ pub fn build(alloc: Global, lines: Vec<Line>) -> Result<Tree, TreeFault>
     requires { length lines.items < 2 ^ 32 }
     ensures { GivesUnless TreeFault.Memory result (tree_of lines.items) }
 {
-    if let Some(fault) = find_fault(alloc, lines.as_slice())? {
-        return Err(fault);
+    if !is_sound(alloc, lines.as_slice())? {
+        if let Some(fault) = find_fault(alloc, lines.as_slice())? {
+            return Err(fault);
+        }
     }
     let stored = arrange(alloc, lines)?;
     let tree = Tree::of(alloc, stored)?;

@@ -5,15 +5,17 @@ ghost use Rattle.std.specs.List.{list_all};
 ghost use Rattle.gufi_base.specs.Paths.{Components};
 ghost use Rattle.gufi_base.specs.PathTexts.{names, IsText};
 ghost use Rattle.gufi_tree.specs.Tree.{HasTreeShape, has_entry_named};
-ghost use Rattle.gufi_tree.specs.Stored.{directories_of, directory_of};
+ghost use Rattle.gufi_tree.specs.Stored.{directories_of, directory_of, values_of};
 ghost use Rattle.gufi_tree.specs.Places.{path_at};
 ghost use Rattle.gufi_tree.specs.Resolve.{denied_at, missing_in, resolve_from, resolve};
 ghost use Rattle.gufi_tree.specs.Reached.{IsReached};
 
-use crate::sort::find_text;
+use crate::shared::{find_shared, value_at};
 use crate::tree::{DirId, Stored, Tree, guard_of};
 use gufi_access::{Class, Principal, class_of, granted, lists};
 use gufi_base::Path;
+use std::alloc::Global;
+use std::sync::Arc;
 
 /// Where a start path leads.
 #[derive(Clone, Copy, Debug, PartialEq, Eq)]
@@ -85,13 +87,13 @@ fn missing(dir: &Stored, name: &[u8]) -> Resolved
 }
 
 /// At the end of a path, where the directory is.
-fn arrive(stored: &[Stored], who: &Principal, place: usize) -> Resolved
-    requires shape { HasTreeShape (directories_of stored.now) }
+fn arrive(stored: &[Arc<Stored, Global>], who: &Principal, place: usize) -> Resolved
+    requires shape { HasTreeShape (directories_of (values_of stored.now)) }
     requires few { length stored.now < 2 ^ 32 }
     requires within { place < length stored.now }
-    ensures { result ≡ resolve_from (directories_of stored.now) who.now (path_at (directories_of stored.now) place) [] }
+    ensures { result ≡ resolve_from (directories_of (values_of stored.now)) who.now (path_at (directories_of (values_of stored.now)) place) [] }
 {
-    let dir = &stored[place];
+    let dir = value_at(stored, place);
     if lists(who, &guard_of(&dir.rec)) {
         Resolved::Found(DirId(place as u32))
     } else {
@@ -101,37 +103,37 @@ fn arrive(stored: &[Stored], who: &Principal, place: usize) -> Resolved
 
 /// Goes on by one name, to the directory whose path has the text.
 fn step(
-    stored: &[Stored],
+    stored: &[Arc<Stored, Global>],
     who: &Principal,
     place: usize,
     next: &[u8],
     name: &[u8],
 ) -> Result<usize, Resolved>
-    requires shape { HasTreeShape (directories_of stored.now) }
+    requires shape { HasTreeShape (directories_of (values_of stored.now)) }
     requires few { length stored.now < 2 ^ 32 }
     requires within { place < length stored.now }
     requires text { IsText next.now }
-    requires name { names next.now ≡ path_at (directories_of stored.now) place ++ name.now ∷ [] }
+    requires name { names next.now ≡ path_at (directories_of (values_of stored.now)) place ++ name.now ∷ [] }
     ensures { MatchResult result
-        (λ at. (at < length stored.now) × (path_at (directories_of stored.now) at ≡ names next.now)
-        × ((rest : Components) → resolve_from (directories_of stored.now) who.now (path_at (directories_of stored.now) place) (name.now ∷ rest) ≡ resolve_from (directories_of stored.now) who.now (names next.now) rest))
-        (λ refused. (rest : Components) → refused ≡ resolve_from (directories_of stored.now) who.now (path_at (directories_of stored.now) place) (name.now ∷ rest)) }
+        (λ at. (at < length stored.now) × (path_at (directories_of (values_of stored.now)) at ≡ names next.now)
+        × ((rest : Components) → resolve_from (directories_of (values_of stored.now)) who.now (path_at (directories_of (values_of stored.now)) place) (name.now ∷ rest) ≡ resolve_from (directories_of (values_of stored.now)) who.now (names next.now) rest))
+        (λ refused. (rest : Components) → refused ≡ resolve_from (directories_of (values_of stored.now)) who.now (path_at (directories_of (values_of stored.now)) place) (name.now ∷ rest)) }
 {
-    let dir = &stored[place];
+    let dir = value_at(stored, place);
     if !granted(who, &guard_of(&dir.rec), 1) {
         return Err(denied(dir, who));
     }
-    match find_text(stored, next) {
+    match find_shared(stored, next) {
         Some(at) => Ok(at),
         None => Err(missing(dir, name)),
     }
 }
 
-fn resolve_text(stored: &[Stored], who: &Principal, text: &[u8]) -> Resolved
-    requires shape { HasTreeShape (directories_of stored.now) }
+fn resolve_text(stored: &[Arc<Stored, Global>], who: &Principal, text: &[u8]) -> Resolved
+    requires shape { HasTreeShape (directories_of (values_of stored.now)) }
     requires few { length stored.now < 2 ^ 32 }
     requires text { IsText text.now }
-    ensures { result ≡ resolve (directories_of stored.now) who.now (names text.now) }
+    ensures { result ≡ resolve (directories_of (values_of stored.now)) who.now (names text.now) }
 {
     let mut place = 0;
     let mut offset = 1;

@@ -50,7 +50,8 @@ pub(crate) fn sort_entries(stored: &mut Vec<Stored>)
     }
 }
 
-fn compare_to(dir: &Stored, text: &[u8]) -> Ordering
+/// The order of a directory by its path, against a kept text.
+pub(crate) fn compare_to(dir: &Stored, text: &[u8]) -> Ordering
     requires { IsText text.now }
     ensures { result ≡ path_cmp dir.now.path (names text.now) }
 {

@@ -56,6 +56,7 @@ fn paths_lead_where_search_is_granted(rt: HostRuntime) -> Result<(), Fail> {
         tree.path_of(alloc, DirId(2))?.printed(),
         b"/p/q".as_slice()
     );
+    assert_eq!(rt; tree.share(DirId(2))?.entries.len(), 1);
     Ok(())
 }
 

@@ -1,18 +1,21 @@
 //! Directories in path order.
 
 ghost use Rattle.std.specs.Prelude.{◌≡◌, ◌<◌, ◌^◌, List, length, slice_index_or, option_map, IsTrue, IfOk};
+ghost use Rattle.std.specs.List.{flat_map};
 ghost use Rattle.gufi_base.specs.Words.{ascends};
 ghost use Rattle.gufi_access.specs.Access.{rights};
-ghost use Rattle.gufi_tree.specs.Tree.{Directory, rights_of, entry_cmp, place_of, HasTreeShape};
+ghost use Rattle.gufi_tree.specs.Tree.{Directory, own_rows, rights_of, entry_cmp, place_of, HasTreeShape};
 ghost use Rattle.gufi_tree.specs.Places.{dir_id, path_at, parent_id, child_ids};
-ghost use Rattle.gufi_tree.specs.Stored.{directories_of};
+ghost use Rattle.std.specs.Arc.{arc_value};
+ghost use Rattle.gufi_tree.specs.Stored.{directory_of, directories_of, values_of};
 
 use crate::link::{parents_of, subdirs_of};
-use crate::sort::find_text;
+use crate::shared::{find_shared, share_all, value_at};
 use gufi_access::Guard;
 use gufi_base::{Memory, Name, Path, Rec};
 use std::alloc::{AllocError, Global};
 use std::marker::Model;
+use std::sync::Arc;
 
 /// A directory's place in path order; the root is 0.
 #[derive(Clone, Copy, Debug, PartialEq, Eq)]
@@ -25,18 +28,18 @@ pub struct Entry {
     pub rec: Rec,
 }
 
-/// A directory with its entries.
+/// A directory as it is kept, with its entries in name order. Trees and stores share it.
 #[derive(Drop)]
-pub(crate) struct Stored {
-    pub(crate) path: Path,
-    pub(crate) rec: Rec,
-    pub(crate) entries: Vec<Entry>,
+pub struct Stored {
+    pub path: Path,
+    pub rec: Rec,
+    pub entries: Vec<Entry>,
 }
 
 /// The directories in path order.
 #[derive(Drop)]
 pub struct Tree {
-    stored: Vec<Stored>,
+    stored: Vec<Arc<Stored, Global>>,
     parents: Vec<u32>,
     subdirs: Vec<Vec<DirId>>,
 }
@@ -47,25 +50,26 @@ impl Model for Tree {
 
     ghost Value = { List Directory };
 
-    ghost use Rattle.gufi_tree.specs.Stored.{directories_of};
+    ghost use Rattle.gufi_tree.specs.Stored.{directories_of, values_of};
     ghost use Rattle.gufi_tree.specs.Kept.{IsKept};
 
-    ghost view = { λ a. directories_of a.stored.items };
+    ghost view = { λ a. directories_of (values_of a.stored.items) };
 
-    ghost invariant = { λ a. IsKept a.stored.items a.parents.items a.subdirs.items };
+    ghost invariant = { λ a. IsKept (values_of a.stored.items) a.parents.items a.subdirs.items };
 }
 
 impl Tree {
     /// The tree of directories in order.
     pub(crate) fn of(alloc: Global, stored: Vec<Stored>) -> Result<Tree, AllocError>
         requires few { length stored.items < 2 ^ 32 }
+        requires rows { length (flat_map own_rows (directories_of stored.items)) < 2 ^ 32 }
         requires shape { HasTreeShape (directories_of stored.items) }
         ensures { IfOk result (λ tree. tree ≡ directories_of stored.items) }
     {
         let parents = parents_of(alloc, stored.as_slice())?;
         let subdirs = subdirs_of(alloc, parents.as_slice())?;
         Ok(Tree {
-            stored,
+            stored: share_all(alloc, stored)?,
             parents,
             subdirs,
         })
@@ -75,16 +79,33 @@ impl Tree {
     pub fn dirs(&self) -> u32
         ensures count { result ≡ length self.now }
         ensures shape { HasTreeShape self.now }
+        ensures rows { length (flat_map own_rows self.now) < 2 ^ 32 }
     {
         self.stored.len() as u32
     }
 
-    pub(crate) fn stored(&self) -> &[Stored]
-        ensures value { directories_of result.now ≡ self.now }
+    pub(crate) fn stored(&self) -> &[Arc<Stored, Global>]
+        ensures value { directories_of (values_of result.now) ≡ self.now }
         ensures shape { HasTreeShape self.now }
         ensures few { length result.now < 2 ^ 32 }
     {
         self.stored.as_slice()
+    }
+
+    fn at(&self, id: DirId) -> &Stored
+        requires { id.0 < length self.now }
+        ensures value { (d : Directory) → directory_of result.now ≡ slice_index_or self.now id.0 d }
+        ensures shape { HasTreeShape self.now }
+    {
+        value_at(self.stored(), id.0 as usize)
+    }
+
+    /// A directory as it is kept, shared with the tree. `O(1)`: nothing is copied.
+    pub fn share(&self, id: DirId) -> Result<Arc<Stored, Global>, AllocError>
+        requires { id.0 < length self.now }
+        ensures { IfOk result (λ shared. (d : Directory) → directory_of (arc_value shared) ≡ slice_index_or self.now id.0 d) }
+    {
+        Arc::try_clone(&self.stored[id.0 as usize])
     }
 
     /// The record of a directory.
@@ -92,7 +113,7 @@ impl Tree {
         requires { id.0 < length self.now }
         ensures { (d : Directory) → result.now ≡ (slice_index_or self.now id.0 d).rec }
     {
-        &self.stored[id.0 as usize].rec
+        &self.at(id).rec
     }
 
     /// What guards a directory.
@@ -108,7 +129,7 @@ impl Tree {
         requires { id.0 < length self.now }
         ensures { result.now ≡ path_at self.now id.0 }
     {
-        &self.stored[id.0 as usize].path
+        &self.at(id).path
     }
 
     /// The path of a directory, in memory of its own.
@@ -137,7 +158,7 @@ impl Tree {
         ensures value { (d : Directory) → result.now ≡ (slice_index_or self.now id.0 d).entries }
         ensures order { IsTrue (ascends entry_cmp result.now) }
     {
-        self.stored[id.0 as usize].entries.as_slice()
+        self.at(id).entries.as_slice()
     }
 
     /// The directories right below a directory, in path order.
@@ -152,7 +173,7 @@ impl Tree {
     pub fn find(&self, path: &Path) -> Option<DirId>
         ensures { result ≡ option_map dir_id (place_of self.now path.now) }
     {
-        match find_text(self.stored(), path.text()) {
+        match find_shared(self.stored(), path.text()) {
             None => None,
             Some(place) => Some(DirId(place as u32)),
         }

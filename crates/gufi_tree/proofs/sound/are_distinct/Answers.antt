@@ -1,0 +1,18 @@
+use Rattle.std.proofs.Common.{◌≡◌, ◌∙◌, ap, List, ℕ, map, subst, arith, true}
+use Rattle.std.specs.Borrow.{Bor}
+use Rattle.std.specs.Ordering.{nat_cmp}
+use Rattle.std.specs.Cmp.Lexicographic.{slice_cmp}
+use Rattle.std.proofs.lemmas.List.{take_all}
+use Rattle.gufi_base.specs.declared.record.Line.{Line}
+use Rattle.gufi_base.specs.Words.{ascends}
+use Rattle.gufi_tree.specs.Sound.{rest_of_text}
+use Rattle.gufi_tree.proofs.Stanzas.{distinct_from}
+use Rattle.gufi_tree.proofs.sound.are_distinct.Goals as goal
+
+pub returns : goal.returns
+returns c = λ t.
+    let key = rest_of_text c.args.front in
+    let P : List (Bor (List ℕ)) → Type 0 = λ xs. ascends (slice_cmp nat_cmp) (map (λ (r : Bor (List ℕ)). r.now) xs) ≡ true in
+    distinct_from (rest_of_text c.args.front) c.loop-entry.names.items c.sort_names.new.names.items c.args.entries.now
+    (c.loop-entry.invariant ∙ ap (map (λ (line : Line). rest_of_text c.args.front line.path)) (take_all c.loop-entry.entry-index c.args.entries.now (omega arith))) c.sort_names.ensures
+    (subst P c.as_slice.ensures.value (c.ascend.ensures t))

@@ -1,0 +1,57 @@
+-- Lines each of whose entries stands behind its directory.
+use Rattle.std.specs.Prelude.{◌≡◌, ℕ, ◌≤◌, Bool, not, ◌&&◌, ◌||◌, ◌+◌, ◌-◌, ◌*◌, List, true, false, IsTrue, drop, min, length, nat_lt, slice_index_or, if◌then◌else◌}
+use Rattle.std.specs.List.{list_any, list_all}
+use Rattle.gufi_base.specs.declared.record.Line.{Line}
+use Rattle.gufi_base.specs.Paths.{Components, path_eq, parent_path, is_child_of}
+use Rattle.gufi_base.specs.PathTexts.{kept_text}
+use Rattle.gufi_base.proofs.SortedOnce.{times}
+use Rattle.gufi_tree.specs.Build.{is_dir_line, names_dir, is_orphan}
+use Rattle.gufi_tree.specs.Texts.{are_named, has_dir_text, is_orphan_by}
+
+abbrev pub is_dir_at : Components → Line → Bool
+is_dir_at path line = is_dir_line line && path_eq path line.path
+
+abbrev pub is_entry_at : Components → Line → Bool
+is_entry_at path line = not (is_dir_line line) && path_eq path line.path
+
+-- the test finds the texts of the directories, of which no two are equal
+pub record HasDirTexts (lines : List Line) (dirs : List ℕ → Bool) : Type 0 where
+  pub texts : (text : List ℕ) → dirs text ≡ list_any (has_dir_text text) lines
+  pub named : IsTrue (are_named lines)
+  pub once : (path : Components) → times (is_dir_at path) lines ≤ 1
+
+-- an entry of the directory with the path
+abbrev pub is_own_entry : Components → Line → Bool
+is_own_entry path line = not (is_dir_line line) && is_child_of path line.path
+
+-- what is left of the kept text of a path behind so many bytes
+abbrev pub rest_of_text : ℕ → Components → List ℕ
+rest_of_text front path = drop (min front (length (kept_text path))) (kept_text path)
+
+-- a number for the two last bytes before the last one
+abbrev pub end_of_text : List ℕ → ℕ
+end_of_text text =
+    if nat_lt (length text) 3 then 0 else slice_index_or text (length text - 2) 0 + 256 * slice_index_or text (length text - 3) 0
+
+-- past their end all is marked
+abbrev pub is_marked : List Bool → List ℕ → Bool
+is_marked marks text = slice_index_or marks (end_of_text text) true
+
+-- what passes the test is marked
+abbrev pub IsFilter : List Bool → (List ℕ → Bool) → Type 0
+IsFilter marks texts = (text : List ℕ) → texts text ≡ true → is_marked marks text ≡ true
+
+-- The directory's parent is there; the entries are its own, none has the path of a directory and no two are equal.
+pub record IsStanza (dirs : List ℕ → Bool) (dir : Line) (entries : List Line) : Type 0 where
+  pub kind : IsTrue (is_dir_line dir)
+  pub parent : is_orphan_by dirs dir ≡ false
+  pub own : IsTrue (list_all (is_own_entry dir.path) entries)
+  pub apart : IsTrue (list_all (λ line. not (dirs (kept_text line.path))) entries)
+  pub once : (path : Components) → times (λ line. path_eq path line.path) entries ≤ 1
+
+-- The same of the first lines among all.
+pub record AreStanzas (lines done : List Line) : Type 0 where
+  pub parents : IsTrue (list_all (λ line. not (is_orphan lines line)) done)
+  pub apart : IsTrue (list_all (λ line. is_dir_line line || not (names_dir lines line.path)) done)
+  pub homes : IsTrue (list_all (λ line. is_dir_line line || names_dir done (parent_path line.path)) done)
+  pub once : (path : Components) → times (is_entry_at path) done ≤ 1
