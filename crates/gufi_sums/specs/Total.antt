@@ -89,3 +89,8 @@ IsBounded s = s.bytes ≤ 18446744073709551615 * s.files
 -- none of the rows meets the query, at any depth
 abbrev pub NoneMeets : (Row → ℕ → Bool) → List Row → Type 0
 NoneMeets query rows = All (λ row. (depth : ℕ) → query row depth ≡ false) rows
+
+-- it is the sum of the rows, and its bytes are those of files whose sizes are numbers of 64 bits
+pub record IsTotal (sum : Summary) (rows : List Row) : Type 0 where
+  pub is : sum ≡ total rows
+  pub bounded : IsBounded sum

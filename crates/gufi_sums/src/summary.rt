@@ -1,9 +1,11 @@
 //! What is known of some rows without looking at them.
 ghost use Rattle.std.specs.Prelude.{◌≡◌, ◌+◌, ◌^◌, ◌<◌, min, max};
 ghost use Rattle.std.specs.Int.{int_min, int_max};
-ghost use Rattle.gufi_sums.specs.Total.{empty, add, join, meta_total, span, rows_in, IsBounded};
+ghost use Rattle.gufi_sums.specs.Total.{empty, add, join, meta_total, span, rows_in, IsBounded, IsTotal};
+ghost use Rattle.gufi_sums.specs.Laws.{IsTotal-counted, IsTotal-reordered};
 
-use gufi_base::{Kind, Meta};
+use gufi_base::{Kind, Memory, Meta, RowRef, Yield};
+use std::alloc::Global;
 
 /// How many rows there are of each kind, the bytes of the files, and pairs of a least and a greatest value.
 #[derive(Clone, Copy, Debug, PartialEq, Eq)]
@@ -72,6 +74,30 @@ impl Summary {
         self.mtime = span_of_times(self.mtime, other.mtime);
         self.uid = span_of_ids(self.uid, other.uid);
         self.gid = span_of_ids(self.gid, other.gid);
+    }
+}
+
+impl Yield for Summary {
+    ghost count = { rows_in };
+
+    ghost stands_for = { IsTotal };
+
+    ghost counted = { IsTotal-counted };
+
+    ghost reordered = { IsTotal-reordered };
+
+    fn none(_alloc: Global) -> Result<Summary, Memory> {
+        Ok(Summary::empty())
+    }
+
+    fn take(&mut self, _alloc: Global, row: RowRef<'_>) -> Result<(), Memory> {
+        self.add(row.meta);
+        Ok(())
+    }
+
+    fn merge(&mut self, _alloc: Global, other: Summary) -> Result<(), Memory> {
+        self.join(&other);
+        Ok(())
     }
 }
 

@@ -1,6 +1,9 @@
 //! Sums worked by hand.
+ghost use Rattle.gufi_base.specs.Rows.{StandsForSome};
+
 use crate::{NoSkip, Skip, Summary};
-use gufi_base::{Kind, Meta};
+use gufi_base::{Kind, Memory, Meta, RowRef, Yield};
+use std::alloc::Global;
 
 fn meta(kind: Kind, size: u64, mtime: i64, uid: u32, gid: u32) -> Meta {
     Meta {
@@ -49,4 +52,28 @@ fn is_passed_over<S: Skip>(skip: &S, sum: &Summary) -> bool {
 #[test]
 fn nothing_is_passed_over(rt: HostRuntime) {
     assert!(rt; !is_passed_over(&NoSkip, &Summary::empty()));
+}
+
+fn sum_of_one_row<Y: Yield>(alloc: Global, row: RowRef<'_>) -> Result<Y, Memory>
+    requires { StandsForSome row }
+{
+    let mut all = Y::none(alloc)?;
+    all.take(alloc, row)?;
+    let none = Y::none(alloc)?;
+    all.merge(alloc, none)?;
+    Ok(all)
+}
+
+#[test]
+fn a_row_is_yielded(rt: HostRuntime) -> Result<(), Memory> {
+    let meta = meta(Kind::Dir, 4096, 5, 3, 4);
+    let row = RowRef {
+        stem: b"".as_slice(),
+        base: b"/".as_slice(),
+        meta: &meta,
+        link: b"".as_slice(),
+    };
+    let sum: Summary = sum_of_one_row(rt.alloc(), row)?;
+    assert_eq!(rt; (sum.dirs, sum.bytes, sum.uid), (1, 0, Some((3, 3))));
+    Ok(())
 }

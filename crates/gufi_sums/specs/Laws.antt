@@ -15,7 +15,7 @@ use Rattle.gufi_base.specs.declared.record.Kind.TheVariants.{Block, Char, Dir, L
 use Rattle.gufi_base.specs.Kinds.{is_dir, is_file, is_link}
 use Rattle.gufi_base.proofs.Permutations.{IsPermutation-respected, IsPermutation-filter}
 use Rattle.gufi_sums.specs.declared.summary.Summary.{Summary}
-use Rattle.gufi_sums.specs.Total.{span, range_of, total, total_of, empty, meta_total, join, add, file_sizes, is_other, rows_in, IsBounded}
+use Rattle.gufi_sums.specs.Total.{span, range_of, total, total_of, empty, meta_total, join, add, file_sizes, is_other, rows_in, IsBounded, IsTotal}
 
 -- the parts join without regard to grouping
 pub span_assoc : {A : Type 0} (least greatest : A → A → A) → ((x y z : A) → least (least x y) z ≡ least x (least y z)) → ((x y z : A) → greatest (greatest x y) z ≡ greatest x (greatest y z))
@@ -102,6 +102,11 @@ total_of-one meta = λ i. record {
 -- one record more is added behind
 pub total_of-add : (metas : List Meta) (meta : Meta) → total_of (metas ++ meta ∷ []) ≡ add (total_of metas) meta
 total_of-add metas meta = total_of-append metas (meta ∷ []) ∙ ap (join (total_of metas)) (total_of-one meta)
+
+-- one row more is added behind
+pub total-add : (rows : List Row) (row : Row) → total (rows ++ row ∷ []) ≡ add (total rows) row.rec.meta
+unfolding total
+total-add rows row = ap total_of (map-append (λ (row : Row). row.rec.meta) rows (row ∷ [])) ∙ total_of-add (map (λ row. row.rec.meta) rows) row.rec.meta
 
 -- sums join without regard to order and grouping
 pub span_comm : {A : Type 0} (least greatest : A → A → A) → ((x y : A) → least x y ≡ least y x) → ((x y : A) → greatest x y ≡ greatest y x)
@@ -220,3 +225,10 @@ total_of-bounded (meta ∷ metas) h =
         → cond b meta.size 0 + (total_of metas).bytes ≤ 18446744073709551615 * (cond b 1 0 + (total_of metas).files)
     by_case true rest fits = omega arith
     by_case false rest fits = omega arith
+
+-- what a sum stands for: as many rows as it counts, in any order
+pub IsTotal-counted : (sum : Summary) (rows : List Row) → IsTotal sum rows → length rows ≡ rows_in sum
+IsTotal-counted sum rows h = sym (ap rows_in h.is ∙ total-counts rows)
+
+pub IsTotal-reordered : (sum : Summary) (rows other : List Row) → IsPermutation rows other → IsTotal sum rows → IsTotal sum other
+IsTotal-reordered sum rows other moved h = record { is = h.is ∙ total-IsPermutation rows other moved; bounded = h.bounded }

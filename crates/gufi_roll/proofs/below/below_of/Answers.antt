@@ -1,0 +1,59 @@
+use Rattle.std.proofs.Common.{◌+◌, ◌<◌, refl, ap, arith, get_or, length, false}
+use Rattle.gufi_tree.specs.declared.tree.DirId.{DirId}
+use Rattle.gufi_tree.proofs.Kids.{at_place}
+use Rattle.gufi_roll.specs.declared.below.Below.{Below}
+use Rattle.gufi_roll.proofs.Laws.{get_or_other, kid_found, kid_within, kid_rows, kid_few, kid_cover, below_is}
+use Rattle.gufi_roll.proofs.below.below_of.Goals as goal
+
+pub loop-child-init : goal.loop-child-init
+loop-child-init c = record { rows = λ d. omega (arith, ap length (c.entries.ensures.value d)); covered = λ d. refl }
+
+pub bounds-found-child : goal.bounds-found-child
+bounds-found-child c =
+    let ids = c.subdirs-child-items.result.now in
+    let i = c.loop-child.child-index in
+    let none : DirId = record { 0 = 0 } in
+    kid_found c.args.tree.now c.dirs-count.ensures.shape c.args.id.0 c.requires.within ids c.subdirs-child-items.ensures c.args.found.now c.requires.behind i (get_or ids i none) c.loop-child-test.true
+    (get_or_other ids i none (get_or ids i none) c.loop-child-test.true)
+
+pub is_child_covered-covered-requires-clause-child : goal.is_child_covered-covered-requires-clause-child
+is_child_covered-covered-requires-clause-child c =
+    let ids = c.subdirs-child-items.result.now in
+    let i = c.loop-child.child-index in
+    let none : DirId = record { 0 = 0 } in
+    kid_within c.args.tree.now c.dirs-count.ensures.shape c.args.id.0 c.requires.within ids c.subdirs-child-items.ensures c.args.found.now c.requires.behind i (get_or ids i none) c.loop-child-test.true
+    (get_or_other ids i none (get_or ids i none) c.loop-child-test.true)
+
+pub overflow_add-rows-in-loop-child : goal.overflow_add-rows-in-loop-child
+overflow_add-rows-in-loop-child c =
+    let ids = c.subdirs-child-items.result.now in
+    let i = c.loop-child.child-index in
+    let none : DirId = record { 0 = 0 } in
+    let unknown : Below = record { rows = 0; covered = false } in
+    let d = (at_place c.args.tree.now c.args.id.0 c.requires.within).0 in
+    let few : c.loop-child.rows + (get_or c.args.found.now (get_or c.subdirs-child-items.result.now c.loop-child.child-index (record { 0 = 0 })).0 (record { rows = 0; covered = false })).rows < 4294967296 =
+    kid_few c.args.tree.now c.dirs-count.ensures.shape c.args.id.0 c.requires.within ids c.subdirs-child-items.ensures c.args.found.now c.requires.behind i (get_or ids i none) c.loop-child-test.true
+    (get_or_other ids i none (get_or ids i none) c.loop-child-test.true) d unknown c.loop-child.rows 4294967296 (c.loop-child.invariant.rows d) c.dirs-count.ensures.rows in
+    omega (arith, few)
+
+pub loop-child-preserved : goal.loop-child-preserved
+loop-child-preserved c =
+    let ids = c.subdirs-child-items.result.now in
+    let i = c.loop-child.child-index in
+    let none : DirId = record { 0 = 0 } in
+    let unknown : Below = record { rows = 0; covered = false } in
+    let same = get_or_other ids i none (get_or ids i none) c.loop-child-test.true in
+    record {
+      rows = λ d.
+          kid_rows c.args.tree.now c.dirs-count.ensures.shape c.args.id.0 c.requires.within ids c.subdirs-child-items.ensures c.args.found.now c.requires.behind i (get_or ids i none) c.loop-child-test.true same
+          unknown (length (get_or c.args.tree.now c.args.id.0 d).entries) c.loop-child.rows (c.loop-child.invariant.rows d);
+      covered = λ d.
+          kid_cover c.args.tree.now c.dirs-count.ensures.shape c.args.id.0 c.requires.within ids c.subdirs-child-items.ensures c.args.found.now c.requires.behind i (get_or ids i none) c.loop-child-test.true same
+          d unknown c.loop-child.covered c.is_child_covered-covered.result (c.loop-child.invariant.covered d) (c.is_child_covered-covered.ensures d);
+    }
+
+pub returns : goal.returns
+returns c =
+    let d = (at_place c.args.tree.now c.args.id.0 c.requires.within).0 in
+    below_is c.args.tree.now c.dirs-count.ensures.shape c.args.id.0 d c.subdirs-child-items.result.now c.loop-child.child-index c.loop-child.rows c.loop-child.covered c.requires.within c.subdirs-child-items.ensures (omega arith)
+    (c.loop-child.invariant.rows d) (c.loop-child.invariant.covered d)

@@ -1,0 +1,2 @@
+pub mod CanRoll
+pub mod Below

@@ -1,0 +1,70 @@
+//! The rows at and below each directory, and whether all below it is covered.
+
+ghost use Rattle.std.specs.Prelude.{◌≡◌, ◌<◌, ◌+◌, ◌&&◌, length, slice_index_or, IfOk};
+ghost use Rattle.gufi_access.specs.Access.{rights};
+ghost use Rattle.gufi_access.specs.Tried.{covers};
+ghost use Rattle.gufi_tree.specs.Tree.{Directory, rights_of};
+ghost use Rattle.gufi_roll.specs.Below.{IsBelow, AreBelow};
+
+use gufi_access::{Guard, covers};
+use gufi_tree::{DirId, Tree};
+use std::alloc::{AllocError, Global};
+
+/// How many rows are at and below a directory, and whether each directory below it is covered by its parent.
+#[derive(Clone, Copy)]
+pub(crate) struct Below {
+    pub(crate) rows: u64,
+    pub(crate) covered: bool,
+}
+
+/// Whether a guard covers another; equal guards are not tried.
+fn covers_next(parent: &Guard, child: &Guard) -> bool
+    ensures { result ≡ covers (rights parent.now) (rights child.now) }
+{
+    parent == child || covers(parent, child)
+}
+
+/// Whether a subdirectory and all below it is covered.
+fn is_child_covered(tree: &Tree, id: DirId, child: DirId, below: &Below) -> bool
+    requires parent { id.0 < length tree.now }
+    requires child { child.0 < length tree.now }
+    ensures { (d : Directory) → result ≡ (below.now.covered && covers (rights_of (slice_index_or tree.now id.0 d).rec) (rights_of (slice_index_or tree.now child.0 d).rec)) }
+{
+    below.covered && covers_next(&tree.guard(id), &tree.guard(child))
+}
+
+/// What is at and below a directory, from what is below the directories behind it.
+fn below_of(tree: &Tree, id: DirId, found: &[Below]) -> Below
+    requires within { id.0 < length tree.now }
+    requires behind { AreBelow tree.now (id.0 + 1) found.now }
+    ensures { IsBelow tree.now id.0 result }
+{
+    let _count = tree.dirs();
+    let mut rows = tree.entries(id).len() as u64 + 1;
+    let mut covered = true;
+    for child in tree.subdirs(id) {
+        let below = &found[child.0 as usize];
+        rows += below.rows;
+        covered &= is_child_covered(tree, id, *child, below);
+    }
+    Below { rows, covered }
+}
+
+/// What is at and below each directory. Linear: goes over the places from the last to the first.
+pub(crate) fn all_below(alloc: Global, tree: &Tree) -> Result<Vec<Below>, AllocError>
+    ensures { IfOk result (λ found. AreBelow tree.now 0 found.items) }
+{
+    let count = tree.dirs();
+    let unknown = Below {
+        rows: 0,
+        covered: true,
+    };
+    let mut found = Vec::from_elem(alloc, unknown, count as usize)?;
+    let mut left = count;
+    while left > 0 {
+        left -= 1;
+        let below = below_of(tree, DirId(left), found.as_slice());
+        found[left as usize] = below;
+    }
+    Ok(found)
+}

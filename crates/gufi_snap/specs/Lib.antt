@@ -1,0 +1,4 @@
+pub mod Pieces
+pub mod Snap
+pub mod Kept
+pub mod SumsByPlace

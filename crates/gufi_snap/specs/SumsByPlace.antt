@@ -1,0 +1,16 @@
+-- Sums by places, as they are made.
+use Rattle.std.specs.Prelude.{◌≡◌, ℕ, ◌≤◌, ◌<◌, List, length, slice_index_or}
+use Rattle.gufi_tree.specs.Tree.{Directory, own_rows}
+use Rattle.gufi_tree.specs.Places.{path_at}
+use Rattle.gufi_tree.proofs.Kids.{rows_under}
+use Rattle.gufi_sums.specs.declared.summary.Summary.{Summary}
+use Rattle.gufi_sums.specs.Total.{IsTotal}
+
+-- each is the sum of the own rows of the directory at its place
+pub record AreOwn (tree : List Directory) (sums : List Summary) : Type 0 where
+  pub len : length sums ≡ length tree
+  pub each : (k : ℕ) (d : Directory) (s : Summary) → k < length tree → IsTotal (slice_index_or sums k s) (own_rows (slice_index_or tree k d))
+
+-- from a place on, each is the sum of the rows at and below the directory at its place
+abbrev pub AreUnderFrom : List Directory → ℕ → List Summary → Type 0
+AreUnderFrom tree from sums = (k : ℕ) (s : Summary) → from ≤ k → k < length tree → IsTotal (slice_index_or sums k s) (rows_under tree (path_at tree k))

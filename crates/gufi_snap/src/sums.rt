@@ -1,0 +1,91 @@
+//! The sums of the rows of each directory, and of the rows at and below it.
+
+ghost use Rattle.std.specs.Prelude.{◌≡◌, ℕ, ◌+◌, ◌≤◌, ◌<◌, ◌^◌, List, ◌++◌, map, length, slice_index_or, IfOk};
+ghost use Rattle.std.specs.List.{flat_map};
+ghost use Rattle.gufi_base.specs.declared.record.Row.{Row};
+ghost use Rattle.gufi_tree.specs.Tree.{Directory, own_rows, entry_row, HasTreeShape};
+ghost use Rattle.gufi_tree.specs.Places.{path_at, child_ids};
+ghost use Rattle.gufi_sums.specs.declared.summary.Summary.{Summary as Sum};
+ghost use Rattle.gufi_sums.specs.Total.{rows_in, IsBounded, IsTotal};
+ghost use Rattle.gufi_tree.proofs.Kids.{rows_under};
+ghost use Rattle.gufi_snap.specs.SumsByPlace.{AreOwn, AreUnderFrom};
+
+use gufi_base::Rec;
+use gufi_sums::Summary;
+use gufi_tree::{DirId, Entry, Tree};
+use std::alloc::{AllocError, Global};
+
+/// Adds the records of entries to a sum.
+fn add_entries(sum: &mut Summary, entries: &[Entry])
+    requires room { rows_in sum.old + length entries.now < 2 ^ 40 }
+    requires bounded { IsBounded sum.old }
+    ensures { (path : List (List ℕ)) (rows : List Row) → IsTotal sum.old rows → IsTotal sum.new (rows ++ map (entry_row path) entries.now) }
+{
+    for entry in entries {
+        sum.add(&entry.rec.meta);
+    }
+}
+
+/// The sum of a directory's own row and of its entries.
+fn own_sum(rec: &Rec, entries: &[Entry]) -> Summary
+    requires { length entries.now < 2 ^ 32 }
+    ensures { (path : List (List ℕ)) → IsTotal result (own_rows (record { path = path; rec = rec.now; entries = entries.now })) }
+{
+    let mut sum = Summary::empty();
+    sum.add(&rec.meta);
+    add_entries(&mut sum, entries);
+    sum
+}
+
+fn own_sum_at(tree: &Tree, id: DirId) -> Summary
+    requires id { id.0 < length tree.now }
+    requires few { length (flat_map own_rows tree.now) < 2 ^ 32 }
+    ensures { (d : Directory) → IsTotal result (own_rows (slice_index_or tree.now id.0 d)) }
+{
+    own_sum(tree.rec(id), tree.entries(id))
+}
+
+/// The sum of the rows of each directory, in path order. One pass over all rows.
+pub(crate) fn own_sums(alloc: Global, tree: &Tree) -> Result<Vec<Summary>, AllocError>
+    requires { length (flat_map own_rows tree.now) < 2 ^ 32 }
+    ensures { IfOk result (λ sums. AreOwn tree.now sums.items) }
+{
+    let mut sums = Vec::with_capacity(alloc, tree.dirs() as usize)?;
+    for place in 0..tree.dirs() {
+        sums.push(own_sum_at(tree, DirId(place)))?;
+    }
+    Ok(sums)
+}
+
+/// The sum of the rows at and below a directory, from its own and those of the directories behind it.
+fn sum_under(tree: &Tree, id: DirId, sums: &[Summary]) -> Summary
+    requires id { id.0 < length tree.now }
+    requires len { length sums.now ≡ length tree.now }
+    requires few { length (flat_map own_rows tree.now) < 2 ^ 32 }
+    requires shape { HasTreeShape tree.now }
+    requires own { (d : Directory) (s : Sum) → IsTotal (slice_index_or sums.now id.0 s) (own_rows (slice_index_or tree.now id.0 d)) }
+    requires behind { AreUnderFrom tree.now (id.0 + 1) sums.now }
+    ensures { IsTotal result (rows_under tree.now (path_at tree.now id.0)) }
+{
+    let mut sum = sums[id.0 as usize];
+    for kid in tree.subdirs(id) {
+        sum.join(&sums[kid.0 as usize]);
+    }
+    sum
+}
+
+/// Makes sums of directories' own rows those of the rows at and below them. One pass, from the last directory on.
+pub(crate) fn add_below(tree: &Tree, sums: &mut Vec<Summary>)
+    requires few { length (flat_map own_rows tree.now) < 2 ^ 32 }
+    requires shape { HasTreeShape tree.now }
+    requires own { AreOwn tree.now sums.old.items }
+    ensures len { length sums.new.items ≡ length tree.now }
+    ensures under { AreUnderFrom tree.now 0 sums.new.items }
+{
+    let mut left = tree.dirs();
+    while left > 0 {
+        left -= 1;
+        let sum = sum_under(tree, DirId(left), sums);
+        sums[left as usize] = sum;
+    }
+}

@@ -1,0 +1,102 @@
+ghost use Rattle.std.specs.Prelude.{◌≡◌, ◌<◌, IfOk};
+
+use crate::Snapshot;
+use gufi_base::{Always, Bytes, Kind, Line, Memory, Meta, Path, Rec, Steps};
+use gufi_sums::Summary;
+use gufi_tree::{DirId, build};
+use std::alloc::Global;
+use std::marker::Brand;
+use std::sync::ledger::{Blank, Ledger};
+use std::test::Fail;
+
+fn line(alloc: Global, number: u32, path: &[u8], kind: Kind) -> Result<Line, Fail> {
+    let meta = Meta {
+        kind,
+        inode: 1,
+        mode: 0o755,
+        nlink: 1,
+        uid: 101,
+        gid: 100,
+        size: 5,
+        blksize: 4096,
+        blocks: 8,
+        atime: 10,
+        mtime: i64::from(number),
+        ctime: 30,
+    };
+    let link = Bytes::of(Vec::new(alloc));
+    let path = Path::read(alloc, path)?;
+    let rec = Rec { meta, link };
+    Ok(Line { number, path, rec })
+}
+
+/// The sum of a piece, by its rows.
+fn scanned<L: Ledger>(
+    alloc: Global,
+    snap: &Snapshot,
+    id: DirId,
+    blank: Blank,
+) -> Result<Summary, Memory>
+    requires limit { snap.now.limit ≡ 0 }
+    requires name { blank.name ≡ L.name }
+    requires parts { blank.parts ≡ L.parts }
+    requires one { 0 < blank.parts }
+{
+    if id.0 >= snap.tree().dirs() {
+        return Err(Memory);
+    }
+    let mut steps = Steps::<L>::new(blank);
+    let mut sum = Summary::empty();
+    snap.scan_piece(alloc, id, &Always, 0, &mut sum, &mut steps)?;
+    Ok(sum)
+}
+
+fn snapshot(alloc: Global) -> Result<Snapshot, Fail>
+    ensures { IfOk result (λ snap. snap.limit ≡ 0) }
+{
+    let lines = vec![in alloc;
+        line(alloc, 1, b"/", Kind::Dir)?,
+        line(alloc, 2, b"/d", Kind::Dir)?,
+        line(alloc, 3, b"/d/e", Kind::Dir)?,
+        line(alloc, 4, b"/d/e/l", Kind::Link)?,
+        line(alloc, 5, b"/d/f", Kind::File)?,
+    ]?;
+    let tree = build(alloc, lines)?;
+    Ok(Snapshot::build_uncounted(alloc, tree, 0)?)
+}
+
+fn counts(sum: &Summary) -> (u64, u64, u64) {
+    (sum.dirs, sum.files, sum.links)
+}
+
+#[test]
+fn sums_are_of_own_rows_and_of_those_below(rt: HostRuntime) -> Result<(), Fail> {
+    let alloc = rt.alloc();
+    let snap = snapshot(alloc)?;
+    let rows = [
+        ((1u64, 0u64, 0u64), (3u64, 1u64, 1u64), (1i64, 5i64)),
+        ((1, 1, 0), (2, 1, 1), (2, 5)),
+        ((1, 0, 1), (1, 0, 1), (3, 4)),
+    ];
+    assert!(rt; snap.tree().dirs() == 3);
+    for place in 0..3u32 {
+        let id = DirId(place);
+        let (own, below, times) = rows[place as usize];
+        assert!(rt; counts(snap.dir_sum(id)) == own);
+        assert!(rt; counts(snap.tree_sum(id)) == below);
+        assert!(rt; snap.tree_sum(id).mtime == Some(times));
+    }
+    Ok(())
+}
+
+#[test]
+fn a_piece_of_what_is_not_rolled_has_the_own_rows(rt: HostRuntime) -> Result<(), Fail> {
+    let alloc = rt.alloc();
+    let snap = snapshot(alloc)?;
+    assert!(rt; snap.limit() == 0);
+    assert!(rt; snap.tree().dirs() == 3);
+    assert!(rt; !snap.rolled(DirId(1)));
+    let piece = scanned::<Brand>(alloc, &snap, DirId(1), Blank::new(1))?;
+    assert!(rt; counts(&piece) == (1, 1, 0));
+    Ok(())
+}

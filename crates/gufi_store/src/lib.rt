@@ -1,0 +1,152 @@
+//! Stores: one directory, whose rows a query scans in one step.
+//!
+//! Contracts see a store as its `Directory`; `rows_met` says which of its rows a scan adds.
+//! It stands on `gufi_tree`, with whose trees a store shares the directory; snapshots stand on it.
+#![tactic(auto)]
+
+ghost use Rattle.std.specs.Prelude.{◌≡◌, ◌+◌, ◌-◌, ◌^◌, ◌<◌, ◌≤◌, List, [], ◌∷◌, ◌++◌, length, IfOk, OnOk, IsTrue, if◌then◌else◌};
+ghost use Rattle.std.specs.List.{list_all};
+ghost use Rattle.gufi_base.specs.Names.{is_name};
+ghost use Rattle.std.specs.Arc.{arc_value};
+ghost use Rattle.gufi_base.specs.declared.record.Row.{Row};
+ghost use Rattle.gufi_base.specs.Rows.{Stands, StandsForSome};
+ghost use Rattle.gufi_tree.specs.Tree.{dir_row, own_rows};
+ghost use Rattle.gufi_tree.specs.Stored.{directory_of};
+ghost use Rattle.gufi_store.specs.Scan.{rows_met};
+
+use gufi_base::{Memory, Pred, RowRef, Steps, Yield};
+use gufi_tree::Stored;
+use std::alloc::Global;
+use std::marker::Model;
+use std::sync::Arc;
+use std::sync::ledger::Ledger;
+
+/// One directory, shared with the tree that it is of.
+#[derive(Drop)]
+pub struct DirStore {
+    stored: Arc<Stored, Global>,
+    depth: usize,
+}
+
+impl Model for DirStore {
+    ghost use Rattle.gufi_tree.specs.Tree.{Directory};
+
+    ghost Value = { Directory };
+
+    ghost use Rattle.gufi_store.specs.Kept.{directory_kept, IsDeep};
+
+    ghost view = { directory_kept };
+
+    ghost invariant = { IsDeep };
+}
+
+/// The own row of a directory, in borrowed parts.
+fn own_row(dir: &Stored) -> RowRef<'_>
+    requires { IsTrue (list_all is_name dir.now.path) }
+    ensures { Stands result (dir_row (directory_of dir.now)) }
+{
+    RowRef {
+        stem: dir.path.stem(),
+        base: dir.path.base_name(),
+        meta: &dir.rec.meta,
+        link: dir.rec.link.as_slice(),
+    }
+}
+
+/// Adds a row where it meets the question.
+fn offer<P: Pred, Y: Yield>(
+    alloc: Global,
+    row: RowRef<'_>,
+    depth: u32,
+    pred: &P,
+    out: &mut Y,
+) -> Result<(), Memory>
+    requires row { StandsForSome row }
+    requires room { Y.count out.old + 1 < 2 ^ 40 }
+    requires rows { (rows : List Row) × Y.stands_for out.old rows }
+    ensures { OnOk result ((of : Row) (rows : List Row) → Stands row.entry of → Y.stands_for out.old rows →
+        Y.stands_for out.new (rows ++ (if P.sat pred.now of depth then of ∷ [] else []))) }
+{
+    if pred.test(alloc, row, depth)? {
+        out.take(alloc, row)?;
+    }
+    Ok(())
+}
+
+/// A depth below a start, where that and one more are numbers of 32 bits.
+fn depth_between(depth: usize, above: u32) -> Result<u32, Memory>
+    requires { above ≤ depth }
+    ensures { IfOk result (λ below. (below ≡ depth - above) × (below + 1 < 2 ^ 32)) }
+{
+    let below = depth - above as usize;
+    if below >= u32::MAX as usize {
+        return Err(Memory);
+    }
+    Ok(below as u32)
+}
+
+impl DirStore {
+    /// The store of a directory. It takes no memory, and counts one step.
+    pub fn of<L: Ledger>(stored: Arc<Stored, Global>, steps: &mut Steps<L>) -> DirStore
+        ensures store { result ≡ directory_of (arc_value stored) }
+        ensures tick { steps.new ≡ steps.old + 1 }
+    {
+        steps.tick();
+        let depth = stored.path.depth();
+        DirStore { stored, depth }
+    }
+
+    /// Adds the directory's own row and its entries' rows, each that meets the question, and counts one step.
+    ///
+    /// `above` is how many components the start has, below which depths are counted.
+    pub fn scan<P: Pred, Y: Yield, L: Ledger>(
+        &self,
+        alloc: Global,
+        pred: &P,
+        above: u32,
+        out: &mut Y,
+        steps: &mut Steps<L>,
+    ) -> Result<(), Memory>
+        requires above { above ≤ length self.now.path }
+        requires room { Y.count out.old + length (own_rows self.now) < 2 ^ 40 }
+        requires rows { (rows : List Row) × Y.stands_for out.old rows }
+        ensures rows { OnOk result ((rows : List Row) → Y.stands_for out.old rows →
+            Y.stands_for out.new (rows ++ rows_met above (P.sat pred.now) self.now)) }
+        ensures tick { steps.new ≡ steps.old + 1 }
+    {
+        steps.tick();
+        self.scan_rows(alloc, pred, above, out)
+    }
+
+    fn scan_rows<P: Pred, Y: Yield>(
+        &self,
+        alloc: Global,
+        pred: &P,
+        above: u32,
+        out: &mut Y,
+    ) -> Result<(), Memory>
+        requires above { above ≤ length self.now.path }
+        requires room { Y.count out.old + length (own_rows self.now) < 2 ^ 40 }
+        requires rows { (rows : List Row) × Y.stands_for out.old rows }
+        ensures { OnOk result ((rows : List Row) → Y.stands_for out.old rows →
+            Y.stands_for out.new (rows ++ rows_met above (P.sat pred.now) self.now)) }
+    {
+        let dir: &Stored = &self.stored;
+        let depth = depth_between(self.depth, above)?;
+        let stem = dir.path.text();
+        offer(alloc, own_row(dir), depth, pred, out)?;
+        for entry in &dir.entries {
+            let row = RowRef {
+                stem,
+                base: entry.name.as_slice(),
+                meta: &entry.rec.meta,
+                link: entry.rec.link.as_slice(),
+            };
+            offer(alloc, row, depth + 1, pred, out)?;
+        }
+        Ok(())
+    }
+}
+
+#[cfg(test)]
+mod tests;

@@ -1,0 +1,112 @@
+//! The rows of a directory, scanned.
+ghost use Rattle.std.specs.Prelude.{◌≡◌, ◌<◌, ◌^◌, length};
+ghost use Rattle.std.specs.Arc.{arc_value};
+ghost use Rattle.gufi_tree.specs.Tree.{own_rows};
+
+use crate::DirStore;
+use gufi_base::{
+    Always, Bytes, Kind, Line, Memory, Meta, Path, PathList, Rec, RowList, Steps, Yield,
+};
+use gufi_tree::{DirId, Stored, build};
+use std::alloc::Global;
+use std::marker::Brand;
+use std::sync::Arc;
+use std::sync::ledger::{Blank, Ledger};
+
+fn scanned<Y: Yield, L: Ledger>(
+    alloc: Global,
+    store: &DirStore,
+    steps: &mut Steps<L>,
+) -> Result<Y, Memory>
+    requires { length (own_rows store.now) < 2 ^ 39 }
+{
+    let mut all = Y::none(alloc)?;
+    store.scan(alloc, &Always, 0, &mut all, steps)?;
+    Ok(all)
+}
+
+fn scan_with<Y: Yield, L: Ledger>(
+    alloc: Global,
+    stored: Arc<Stored, Global>,
+    blank: Blank,
+) -> Result<Y, Memory>
+    requires name { blank.name ≡ L.name }
+    requires parts { blank.parts ≡ L.parts }
+    requires one { 0 < blank.parts }
+    requires few { length (arc_value stored).entries.items < 2 ^ 32 }
+{
+    let mut steps = Steps::<L>::new(blank);
+    let store = DirStore::of(stored, &mut steps);
+    scanned(alloc, &store, &mut steps)
+}
+
+fn scan_alone<Y: Yield>(alloc: Global, stored: Arc<Stored, Global>) -> Result<Y, Memory>
+    requires { length (arc_value stored).entries.items < 2 ^ 32 }
+{
+    scan_with::<Y, Brand>(alloc, stored, Blank::new(1))
+}
+
+fn line(alloc: Global, number: u32, path: &[u8], kind: Kind) -> Result<Line, Memory> {
+    let meta = Meta {
+        kind,
+        inode: 1,
+        mode: 0o755,
+        nlink: 1,
+        uid: 0,
+        gid: 0,
+        size: 0,
+        blksize: 4096,
+        blocks: 0,
+        atime: 0,
+        mtime: 0,
+        ctime: 0,
+    };
+    let Ok(path) = Path::read(alloc, path) else {
+        return Err(Memory);
+    };
+    let link = Bytes::from_slice(alloc, b"")?;
+    Ok(Line {
+        number,
+        path,
+        rec: Rec { meta, link },
+    })
+}
+
+fn directory(alloc: Global) -> Result<Arc<Stored, Global>, Memory> {
+    let lines = vec![in alloc;
+        line(alloc, 1, b"/", Kind::Dir)?,
+        line(alloc, 2, b"/d", Kind::Dir)?,
+        line(alloc, 3, b"/d/b", Kind::File)?,
+        line(alloc, 4, b"/d/a", Kind::Link)?,
+    ]?;
+    let Ok(tree) = build(alloc, lines) else {
+        return Err(Memory);
+    };
+    if tree.dirs() != 2 {
+        return Err(Memory);
+    }
+    let stored = tree.share(DirId(1))?;
+    Ok(stored)
+}
+
+#[test]
+fn a_directory_is_scanned(rt: HostRuntime) -> Result<(), Memory> {
+    let alloc = rt.alloc();
+    let stored = directory(alloc)?;
+    assert!(rt; stored.entries.len() == 2);
+    let paths: PathList = scan_alone(alloc, stored)?;
+    let text = paths.lines(alloc)?;
+    assert!(rt; text.as_slice() == b"/d\n/d/a\n/d/b\n".as_slice());
+    Ok(())
+}
+
+#[test]
+fn scanned_rows_are_sorted(rt: HostRuntime) -> Result<(), Memory> {
+    let alloc = rt.alloc();
+    let stored = directory(alloc)?;
+    assert!(rt; stored.entries.len() == 2);
+    let list: RowList = scan_alone(alloc, stored)?;
+    let rows = list.sorted(alloc)?;
+    assert_eq!(rt; rows.len(), 3);
+    Ok(())
+}
