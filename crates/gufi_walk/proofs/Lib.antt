@@ -1,0 +1,4 @@
+pub mod Isolation
+pub mod Pieces
+pub mod Walked
+pub mod StartRow

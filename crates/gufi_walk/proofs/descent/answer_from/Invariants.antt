@@ -1,0 +1,20 @@
+use Rattle.std.proofs.Common.{◌≡◌, ◌+◌, ◌≤◌, false, List, length, filter}
+use Rattle.std.specs.List.{flat_map}
+use Rattle.gufi_base.specs.Paths.{Components}
+use Rattle.gufi_sums.specs.declared.summary.Summary.{Summary}
+use Rattle.gufi_tree.specs.Places.{path_at}
+use Rattle.gufi_snap.specs.Pieces.{piece}
+use Rattle.gufi_walk.specs.Walk.{meets}
+use Rattle.gufi_walk.proofs.Walked.{IsWalk, fronts_at}
+use Rattle.gufi_walk.proofs.descent.answer_from.Given as goal
+
+abbrev pub invariant-loop-id : goal.invariant-loop-id
+invariant-loop-id g l = (done : List Components) × record {
+  walk : IsWalk l.snap.tree l.who l.snap.limit (path_at l.snap.tree l.fn.start.0) done l.todo.items;
+  rows : g.Y.Yield.stands_for l.out (filter (meets (g.P.Pred.sat l.pred) l.above) (flat_map (λ path. piece l.snap.tree path l.snap.limit) done));
+  at_most : l.steps ≤ l.fn.steps + length done;
+  exact : ((sum : Summary) → g.S.Skip.skips l.skip sum ≡ false) → l.steps ≡ l.fn.steps + length done;
+}
+
+abbrev pub decreases-loop-id : goal.decreases-loop-id
+decreases-loop-id g l = length (fronts_at l.snap.tree l.who l.snap.limit l.todo.items)

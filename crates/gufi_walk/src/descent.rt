@@ -1,0 +1,217 @@
+//! One thread's answer: down from the start, by subdirectories that may be listed, a piece at a time.
+
+ghost use Rattle.std.specs.Prelude.{◌≡◌, ◌≢◌, ℕ, ◌+◌, ◌<◌, ◌≤◌, ◌^◌, true, false, List, [], ◌∷◌, ◌++◌, length, filter, reverse, Option, Some, None, IfOk, OnOk, IfErr, All};
+ghost use Rattle.gufi_base.specs.declared.record.Row.{Row};
+ghost use Rattle.gufi_access.specs.Access.{can_list};
+ghost use Rattle.gufi_tree.specs.Places.{path_at};
+ghost use Rattle.gufi_tree.specs.Resolve.{resolve};
+ghost use Rattle.gufi_sums.specs.declared.summary.Summary.{Summary as SeenSummary};
+ghost use Rattle.gufi_sums.specs.Total.{total};
+ghost use Rattle.gufi_snap.specs.Pieces.{front, piece};
+ghost use Rattle.gufi_walk.specs.Answer.{answer, refusal_of};
+ghost use Rattle.gufi_walk.specs.Walk.{lists_at, open_ids, kid_ids, meets};
+
+use crate::refusal::Refusal;
+use gufi_access::{Principal, lists};
+use gufi_base::{Memory, Path, Pred, Steps, Yield};
+use gufi_snap::Snapshot;
+use gufi_sums::{Skip, Summary};
+use gufi_tree::{DirId, Resolved};
+use std::alloc::{AllocError, Global};
+use std::marker::Brand;
+use std::sync::ledger::{Blank, Ledger};
+
+/// Whether a directory may be listed, apart from those above it.
+fn may_be_listed(snap: &Snapshot, who: &Principal, id: DirId) -> bool
+    requires { id.0 < length snap.now.tree }
+    ensures { result ≡ lists_at snap.now.tree who.now (path_at snap.now.tree id.0) }
+{
+    lists(who, &snap.tree().guard(id))
+}
+
+fn list_of(alloc: Global, id: DirId) -> Result<Vec<DirId>, AllocError>
+    ensures { IfOk result (λ list. list.items ≡ id ∷ []) }
+{
+    let mut list = Vec::new(alloc);
+    list.push(id)?;
+    Ok(list)
+}
+
+/// Puts the directories that may be listed on the list, the last one first.
+fn push_open(
+    todo: &mut Vec<DirId>,
+    snap: &Snapshot,
+    who: &Principal,
+    ids: &[DirId],
+) -> Result<(), AllocError>
+    requires { All (λ id. id.0 < length snap.now.tree) ids.now }
+    ensures { OnOk result (todo.new.items ≡ todo.old.items ++ reverse (filter (λ id. lists_at snap.now.tree who.now (path_at snap.now.tree id.0)) ids.now)) }
+{
+    for id in ids.iter().rev() {
+        if may_be_listed(snap, who, *id) {
+            todo.push(*id)?;
+        }
+    }
+    Ok(())
+}
+
+/// Puts the directories where a walk goes on from a directory on the list, the last one first.
+fn push_kids(
+    todo: &mut Vec<DirId>,
+    snap: &Snapshot,
+    who: &Principal,
+    id: DirId,
+) -> Result<(), AllocError>
+    requires { id.0 < length snap.now.tree }
+    ensures { OnOk result (todo.new.items ≡ todo.old.items ++ reverse (kid_ids snap.now.tree who.now (path_at snap.now.tree id.0) snap.now.limit)) }
+{
+    if snap.rolled(id) {
+        return Ok(());
+    }
+    push_open(todo, snap, who, snap.tree().subdirs(id))
+}
+
+/// The sum of a piece.
+fn sum_of_piece(snap: &Snapshot, id: DirId) -> &Summary
+    requires { id.0 < length snap.now.tree }
+    ensures { result.now ≡ total (piece snap.now.tree (path_at snap.now.tree id.0) snap.now.limit) }
+{
+    let is_whole = snap.rolled(id);
+    if is_whole {
+        snap.tree_sum(id)
+    } else {
+        snap.dir_sum(id)
+    }
+}
+
+/// Adds the rows of a piece that meet the question, unless its sum shows that there are none.
+fn visit<P: Pred, Y: Yield, S: Skip, L: Ledger>(
+    alloc: Global,
+    snap: &Snapshot,
+    id: DirId,
+    pred: &P,
+    skip: &S,
+    above: u32,
+    out: &mut Y,
+    steps: &mut Steps<L>,
+) -> Result<(), Memory>
+    requires id { id.0 < length snap.now.tree }
+    requires above { above ≤ length (path_at snap.now.tree id.0) }
+    requires room { Y.count out.old + length (piece snap.now.tree (path_at snap.now.tree id.0) snap.now.limit) < 2 ^ 40 }
+    requires rows { (rows : List Row) × Y.stands_for out.old rows }
+    requires query { (row : Row) (depth : ℕ) → P.sat pred.now row depth ≡ true → S.query skip.now row depth ≡ true }
+    ensures rows { OnOk result ((rows : List Row) → Y.stands_for out.old rows →
+        Y.stands_for out.new (rows ++ filter (meets (P.sat pred.now) above) (piece snap.now.tree (path_at snap.now.tree id.0) snap.now.limit))) }
+    ensures at_most { steps.new ≤ steps.old + 1 }
+    ensures exact { ((sum : SeenSummary) → S.skips skip.now sum ≡ false) → steps.new ≡ steps.old + 1 }
+{
+    if skip.none_match(sum_of_piece(snap, id)) {
+        return Ok(());
+    }
+    snap.scan_piece(alloc, id, pred, above, out, steps)
+}
+
+/// How many components a path has, where that is a number of 32 bits.
+fn depth_of(path: &Path) -> Result<u32, Memory>
+    ensures { IfOk result (λ depth. depth ≡ length path.now) }
+{
+    let depth = path.depth();
+    if depth > u32::MAX as usize {
+        return Err(Memory);
+    }
+    Ok(depth as u32)
+}
+
+/// The rows that the principal lists from a directory on and that meet the question.
+fn answer_from<P: Pred, Y: Yield, S: Skip, L: Ledger>(
+    alloc: Global,
+    snap: &Snapshot,
+    who: &Principal,
+    start: DirId,
+    pred: &P,
+    skip: &S,
+    steps: &mut Steps<L>,
+) -> Result<Y, Memory>
+    requires start { start.0 < length snap.now.tree }
+    requires listed { lists_at snap.now.tree who.now (path_at snap.now.tree start.0) ≡ true }
+    requires query { (row : Row) (depth : ℕ) → P.sat pred.now row depth ≡ true → S.query skip.now row depth ≡ true }
+    ensures rows { IfOk result (λ y. Y.stands_for y (answer snap.now.tree who.now (path_at snap.now.tree start.0) (P.sat pred.now))) }
+    ensures at_most { OnOk result (steps.new ≤ steps.old + length (front snap.now.tree who.now (path_at snap.now.tree start.0) snap.now.limit)) }
+    ensures exact { OnOk result (((sum : SeenSummary) → S.skips skip.now sum ≡ false)
+        → steps.new ≡ steps.old + length (front snap.now.tree who.now (path_at snap.now.tree start.0) snap.now.limit)) }
+{
+    let above = depth_of(snap.tree().path(start))?;
+    let mut out = Y::none(alloc)?;
+    let mut todo = list_of(alloc, start)?;
+    while let Some(id) = todo.pop() {
+        visit(alloc, snap, id, pred, skip, above, &mut out, steps)?;
+        push_kids(&mut todo, snap, who, id)?;
+    }
+    Ok(out)
+}
+
+/// The rows that the principal gets who walks from the start and that meet the question, or the refusal of the start.
+///
+/// It takes the directories in path order. Cost: the pieces of the front, and nothing else of the tree.
+pub fn answer_alone<P: Pred, Y: Yield, S: Skip, L: Ledger>(
+    alloc: Global,
+    snap: &Snapshot,
+    who: &Principal,
+    start: &Path,
+    pred: &P,
+    skip: &S,
+    steps: &mut Steps<L>,
+) -> Result<Y, Refusal>
+    requires query { (row : Row) (depth : ℕ) → P.sat pred.now row depth ≡ true → S.query skip.now row depth ≡ true }
+    ensures rows { IfOk result (λ y. Y.stands_for y (answer snap.now.tree who.now start.now (P.sat pred.now))) }
+    ensures found { OnOk result (refusal_of (resolve snap.now.tree who.now start.now) ≡ None) }
+    ensures refusal { IfErr result (λ refusal. refusal ≢ Refusal.Memory → refusal_of (resolve snap.now.tree who.now start.now) ≡ Some refusal) }
+    ensures at_most { OnOk result (steps.new ≤ steps.old + length (front snap.now.tree who.now start.now snap.now.limit)) }
+    ensures exact { OnOk result (((sum : SeenSummary) → S.skips skip.now sum ≡ false)
+        → steps.new ≡ steps.old + length (front snap.now.tree who.now start.now snap.now.limit)) }
+{
+    match snap.tree().resolve(who, start) {
+        Resolved::Found(id) => Ok(answer_from(alloc, snap, who, id, pred, skip, steps)?),
+        Resolved::Denied { depth, class } => Err(Refusal::Denied { depth, class }),
+        Resolved::NoSuch { depth } => Err(Refusal::NoSuch { depth }),
+        Resolved::NotDir { depth } => Err(Refusal::NotDir { depth }),
+    }
+}
+
+fn answer_with<P: Pred, Y: Yield, S: Skip, L: Ledger>(
+    alloc: Global,
+    snap: &Snapshot,
+    who: &Principal,
+    start: &Path,
+    pred: &P,
+    skip: &S,
+    blank: Blank,
+) -> Result<Y, Refusal>
+    requires name { blank.name ≡ L.name }
+    requires parts { blank.parts ≡ L.parts }
+    requires one { 0 < blank.parts }
+    requires query { (row : Row) (depth : ℕ) → P.sat pred.now row depth ≡ true → S.query skip.now row depth ≡ true }
+    ensures rows { IfOk result (λ y. Y.stands_for y (answer snap.now.tree who.now start.now (P.sat pred.now))) }
+    ensures found { OnOk result (refusal_of (resolve snap.now.tree who.now start.now) ≡ None) }
+    ensures refusal { IfErr result (λ refusal. refusal ≢ Refusal.Memory → refusal_of (resolve snap.now.tree who.now start.now) ≡ Some refusal) }
+{
+    let mut steps = Steps::<L>::new(blank);
+    answer_alone(alloc, snap, who, start, pred, skip, &mut steps)
+}
+
+/// `answer_alone`, for callers that count no steps.
+pub fn answer_uncounted<P: Pred, Y: Yield, S: Skip>(
+    alloc: Global,
+    snap: &Snapshot,
+    who: &Principal,
+    start: &Path,
+    pred: &P,
+    skip: &S,
+) -> Result<Y, Refusal>
+    requires query { (row : Row) (depth : ℕ) → P.sat pred.now row depth ≡ true → S.query skip.now row depth ≡ true }
+    ensures rows { IfOk result (λ y. Y.stands_for y (answer snap.now.tree who.now start.now (P.sat pred.now))) }
+    ensures found { OnOk result (refusal_of (resolve snap.now.tree who.now start.now) ≡ None) }
+    ensures refusal { IfErr result (λ refusal. refusal ≢ Refusal.Memory → refusal_of (resolve snap.now.tree who.now start.now) ≡ Some refusal) }
+{
+    answer_with::<P, Y, S, Brand>(alloc, snap, who, start, pred, skip, Blank::new(1))
+}

@@ -1,0 +1,16 @@
+//! Queries over one snapshot: what a principal gets who walks from a start, or why there is nothing.
+//!
+//! The answer is a filter of all rows of the tree, in path order; refusals are those of resolving the start.
+//! It stands on snapshots; the calls of the program and the pool stand on it.
+#![tactic(auto)]
+
+mod descent;
+mod laws;
+mod refusal;
+
+pub use descent::{answer_alone, answer_uncounted};
+pub use laws::answers_are_private;
+pub use refusal::Refusal;
+
+#[cfg(test)]
+mod tests;
