@@ -1,5 +1,5 @@
 #!/usr/bin/env python3
-"""Processor time, peak memory and instructions of `gufi walk` over a trace, beside another program's where one is named.
+"""Processor time, peak memory and instructions of `gufi walk` and `gufi stat` over a trace, beside another program's where one is named.
 
   python3 walk.py TRACE [--program ../gufi] [--uid 2007] [--gids 5001,5002] [--runs 5] [--instructions] [--peer 'COMMAND ..']
 
@@ -47,6 +47,8 @@ def main():
     commands = {
         "walk as %s" % given.uid: [given.program, "walk", given.trace, given.uid, given.gids],
         "walk as root": [given.program, "walk", given.trace, "0", "-"],
+        "stat as %s" % given.uid: [given.program, "stat", given.trace, "%s:%s" % (given.uid, given.gids), "/"],
+        "stat as root": [given.program, "stat", given.trace, "0", "/"],
     }
     if given.peer:
         commands["peer"] = shlex.split(given.peer)

@@ -1,6 +1,6 @@
 //! The lines of a directory's record.
 
-ghost use Rattle.std.specs.Prelude.{◌≡◌, ◌≤◌, ◌++◌, IfOk, OnOk, codes};
+ghost use Rattle.std.specs.Prelude.{◌≡◌, ◌++◌, IfOk, OnOk, codes};
 ghost use Rattle.gufi_base.specs.Paths.{path_text};
 ghost use Rattle.gufi_base.specs.Words.{line};
 ghost use Rattle.gufi_list.specs.Pieces.{type_text, links_and_owners_text, size_text, early_times_text, times_text};
@@ -111,9 +111,8 @@ fn put_total_line(out: &mut Vec<u8>, sum: &Summary) -> Result<(), Memory>
 
 /// The record of a directory and the sum of its rows as they are printed: five lines, the last of them the sum.
 ///
-/// The mode is printed in four octal digits, and has no more.
+/// The mode is printed in four octal digits: its low twelve bits.
 pub fn stat_text(alloc: Global, row: &Row, sum: &Summary) -> Result<Vec<u8>, Memory>
-    requires { row.now.rec.meta.mode ≤ 4095 }
     ensures { IfOk result (λ text. text.items ≡ stat_text row.now sum.now) }
 {
     let mut out = Vec::new(alloc);

@@ -1,7 +1,5 @@
 pub mod ReadingLemmas
 pub mod RunLemmas
-pub mod Merge
-pub mod Listing
-pub mod Placing
-pub mod Lines
-pub mod Flags
+pub mod StepLemmas
+pub mod QueryLemmas
+pub mod AskLemmas

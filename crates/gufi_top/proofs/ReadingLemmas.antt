@@ -47,7 +47,7 @@ pub ruleset reading = (file_whole, file_absent, file_too_long)
 -- ---- lines, and the tree of them
 
 -- a call that tells a reason, as one of a step that gives it
-given_as : {A B : Type 0} (view : A → B) (r : Result A Halt) (why : Reason) (step : Result B Reason) → Gives (λ x. x) r (Err why) → step ≡ Err why → Gives view r step
+pub given_as : {A B : Type 0} (view : A → B) (r : Result A Halt) (why : Reason) (step : Result B Reason) → Gives (λ x. x) r (Err why) → step ≡ Err why → Gives view r step
 given_as view (Ok x) why step told is = cc
 given_as view (Err (halts.Refused status note)) why step told is = is ∙ cc
 given_as view (Err halts.ReadFault) why step told is = tt

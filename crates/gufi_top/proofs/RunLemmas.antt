@@ -1,66 +1,67 @@
--- Lemmas on how a run ends.
-use Rattle.std.proofs.Common.{◌≡◌, ℕ, List, [], refl, inl}
-use Rattle.std.specs.Prelude.{Option, Some, None, Result, Ok, Err, Vec}
+-- Lemmas on how a run goes and ends.
+use Rattle.std.proofs.Common.{◌≡◌, ℕ, true, List, [], refl, inl}
+use Rattle.std.specs.Prelude.{Option, Some, None, Result, Ok, Err, IfErr, Vec}
 use Rattle.std.specs.declared.alloc.Global.{Global}
 use Rattle.std.specs.Io.KnownBytes.{Appends}
 use Rattle.std.proofs.KnownBytes.{Appends-nil}
 use Rattle.gufi_io.specs.Files.{Files}
 use Rattle.gufi_base.specs.Words.{◌>>=◌, result_map_err}
+use Rattle.gufi_access.specs.declared.class.Principal.{Principal}
 use Rattle.gufi_words.specs.declared.command.Command.{Command}
 use Rattle.gufi_words.specs.declared.word.WordError.{WordError}
 use Rattle.gufi_words.specs.declared.word.WordError.TheVariants as word_errors
 use Rattle.gufi_tree.specs.Tree.{Directory}
+use Rattle.gufi_top.specs.Asks.{walk_ask}
 use Rattle.gufi_top.specs.Reasons.{Reason, word_refused, words_reason, trace_in}
-use Rattle.gufi_top.specs.Verdict.{Verdict, writes, opened, verdict, command_in, walked, walk_over}
-use Rattle.gufi_top.specs.Calls.{Gives, GivesOver}
+use Rattle.gufi_top.specs.Verdict.{Verdict, writes, asked, walk_over, command_over, command_in, verdict, may_refuse, may_refuse_words}
+use Rattle.gufi_top.specs.Calls.{Gives, GivesOver, OfWordsOnlyIf}
 use Rattle.gufi_top.specs.Views.{text_view}
 use Rattle.gufi_top.specs.Ends.{BreaksOff, MayEnd, MayBreakOff, MayBeCut, TakesNote, Ended, BrokenOff, TextEnds, WriteFaulted}
 use Rattle.gufi_top.specs.declared.halt.Text.{Text}
 use Rattle.gufi_top.specs.declared.halt.Halt.{Halt}
 use Rattle.gufi_top.specs.declared.halt.Halt.TheVariants as halts
-use Rattle.gufi_top.specs.declared.words.Walk.{Walk}
+use Rattle.gufi_top.proofs.StepLemmas.{over_ok, over_err, given_over}
 
 -- ---- one step after another
 
-fails_on : {A B : Type 0} (e : Halt) (step : Result A Reason) (next : A → Result B Reason) → Gives {A = A} (λ x. x) (Err e) step → Gives {A = B} (λ x. x) (Err e) (step >>= next)
-fails_on (halts.Refused status note) step next is = rw is refl
-fails_on halts.ReadFault step next is = tt
-fails_on halts.Memory step next is = tt
-
-pub walk_ok : (told : Option Files) (walk : Walk) (tree : List Directory) (r : Result Text Halt)
-    → GivesOver {A = List Directory} told (λ t. t) (Ok tree) (trace_in walk.delim walk.trace) → Gives text_view r (walked walk.who tree) → GivesOver told text_view r (walk_over walk)
+pub walk_ok : (told : Option Files) (trace : List ℕ) (who : Principal) (delim : ℕ) (tree : List Directory) (r : Result Text Halt)
+    → GivesOver {A = List Directory} told (λ t. t) (Ok tree) (trace_in delim trace) → Gives text_view r (asked tree who [] walk_ask) → GivesOver told text_view r (walk_over trace who delim)
 unfolding walk_over
-walk_ok None walk tree r read text = tt
-walk_ok (Some files) walk tree r read text = rw read text
+walk_ok told trace who delim tree r read given = over_ok told (λ t. t) text_view tree r (trace_in delim trace) (λ t files. asked t who [] walk_ask) read (given_over told text_view r _ given)
 
-pub walk_err : (told : Option Files) (walk : Walk) (e : Halt)
-    → GivesOver {A = List Directory} told (λ t. t) (Err e) (trace_in walk.delim walk.trace) → GivesOver told text_view (Err e) (walk_over walk)
+pub walk_err : (told : Option Files) (trace : List ℕ) (who : Principal) (delim : ℕ) (e : Halt)
+    → GivesOver {A = List Directory} told (λ t. t) (Err e) (trace_in delim trace) → GivesOver told text_view (Err e) (walk_over trace who delim)
 unfolding walk_over
-walk_err None walk e read = tt
-walk_err (Some files) walk e read = fails_on e (trace_in walk.delim walk.trace files) (walked walk.who) read
+walk_err told trace who delim e read = over_err told (λ t. t) text_view e (trace_in delim trace) (λ t files. asked t who [] walk_ask) read
 
-pub answer_ok : (told : Option Files) (words : List (List ℕ)) (walk : Walk) (r : Result Text Halt)
-    → Gives {A = Walk} (λ w. w) (Ok walk) (command_in words) → GivesOver told text_view r (walk_over walk) → GivesOver told text_view r (verdict words)
+pub answer_ok : (told : Option Files) (words : List (List ℕ)) (command : Command) (r : Result Text Halt)
+    → Gives {A = Command} (λ c. c) (Ok command) (command_in words) → GivesOver told text_view r (command_over command) → GivesOver told text_view r (verdict words)
 unfolding verdict
-answer_ok None words walk r command given = tt
-answer_ok (Some files) words walk r command given = rw command given
+answer_ok told words command r read given = over_ok told (λ c. c) text_view command r (λ files. command_in words) (λ c files. command_over c files) (given_over told (λ c. c) (Ok command) _ read) given
 
 pub answer_err : (told : Option Files) (words : List (List ℕ)) (e : Halt)
-    → Gives {A = Walk} (λ w. w) (Err e) (command_in words) → GivesOver told text_view (Err e) (verdict words)
+    → Gives {A = Command} (λ c. c) (Err e) (command_in words) → GivesOver told text_view (Err e) (verdict words)
 unfolding verdict
-answer_err None words e command = tt
-answer_err (Some files) words e command = fails_on e (command_in words) (λ walk. walk_over walk files) command
+answer_err told words e read = over_err told (λ c. c) text_view e (λ files. command_in words) (λ c files. command_over c files) (given_over {A = Command} told (λ c. c) (Err e) _ read)
 
-pub ruleset chaining = (walk_ok, walk_err, answer_ok, answer_err)
+pub words_ok : (words : List (List ℕ)) (command : Command) (r : Result Text Halt) → Gives {A = Command} (λ c. c) (Ok command) (command_in words)
+    → IfErr r (OfWordsOnlyIf (may_refuse command ≡ true)) → IfErr r (OfWordsOnlyIf (may_refuse_words words ≡ true))
+words_ok words command r read given = rw read given
+
+pub words_err : (words : List (List ℕ)) (e : Halt) → Gives {A = Command} (λ c. c) (Err e) (command_in words) → OfWordsOnlyIf (may_refuse_words words ≡ true) e
+words_err words (halts.Refused status note) read = λ _. rw read refl
+words_err words halts.ReadFault read = tt
+words_err words halts.Memory read = tt
+
+pub ruleset chaining = (walk_ok, walk_err, answer_ok, answer_err, words_ok, words_err)
 
 -- ---- the words
 
-pub command_ok : (words : Result Command WordError) (command : Command) (r : Result Walk Halt) → words ≡ Ok command → Gives (λ w. w) r (opened command)
-    → Gives (λ w. w) r (result_map_err words_reason words >>= opened)
-command_ok words command r is given = rw is given
+pub command_ok : (words : Result Command WordError) (command : Command) → words ≡ Ok command → Gives {A = Command} (λ c. c) (Ok command) (result_map_err words_reason words)
+command_ok words command is = rw is refl
 
 pub command_err : (words : Result Command WordError) (word : ℕ) (note : Vec ℕ Global) → words ≡ Err (word_errors.Refused word) → note.items ≡ (word_refused word).note
-    → Gives {A = Walk} (λ w. w) (Err (halts.Refused 2 note)) (result_map_err words_reason words >>= opened)
+    → Gives {A = Command} (λ c. c) (Err (halts.Refused 2 note)) (result_map_err words_reason words)
 command_err words word note is told = rw (is, told) refl
 
 pub ruleset commands = (command_ok, command_err)

@@ -1,8 +1,7 @@
 pub mod Reasons
-pub mod Answer
+pub mod Asks
 pub mod Verdict
 pub mod Ends
 pub mod Calls
 pub mod Views
-pub mod Merged
-pub mod Places
+pub mod Starts

@@ -1,16 +1,22 @@
 -- Why a command is refused, and what its files mean or are refused for.
-use Rattle.std.specs.Prelude.{ℕ, nat_lt, List, ◌++◌, length, Option, Some, None, ok_or, Result, Ok, Err, codes, decimal}
+use Rattle.std.specs.Prelude.{ℕ, nat_lt, List, [], ◌++◌, length, Option, Some, None, ok_or, unwrap_or, Result, Ok, Err, codes, decimal}
 use Rattle.gufi_io.specs.Files.{Files}
-use Rattle.gufi_base.specs.Limits.{max_trace}
+use Rattle.gufi_base.specs.Limits.{max_trace, max_users}
 use Rattle.gufi_base.specs.Words.{line, ◌>>=◌, ◌>>◌, refuse, result_map_err}
 use Rattle.gufi_access.specs.declared.class.Class.{Class}
 use Rattle.gufi_access.specs.declared.class.Class.TheVariants.{Owner, Group, Other}
 use Rattle.gufi_tree.specs.Tree.{Directory}
-use Rattle.gufi_tree.specs.declared.resolve.Resolved.{Resolved}
-use Rattle.gufi_tree.specs.declared.resolve.Resolved.TheVariants.{Found, Denied, NoSuch, NotDir}
+use Rattle.gufi_walk.specs.declared.refusal.Refusal.{Refusal}
+use Rattle.gufi_walk.specs.declared.refusal.Refusal.TheVariants as refusals
 use Rattle.gufi_trace.specs.declared.fault.TraceKind.{TraceKind}
 use Rattle.gufi_trace.specs.declared.fault.TraceKind.TheVariants as kinds
 use Rattle.gufi_trace.specs.declared.fault.TraceError.TheVariants as errors
+use Rattle.gufi_users.specs.declared.fault.UserKind.{UserKind}
+use Rattle.gufi_users.specs.declared.fault.UserKind.TheVariants as users
+use Rattle.gufi_users.specs.declared.fault.UserError.{UserError}
+use Rattle.gufi_users.specs.declared.fault.UserError.TheVariants as user_errors
+use Rattle.gufi_users.specs.Entries.{PasswdEntry, GroupEntry, UserTables}
+use Rattle.gufi_users.specs.Users.{read_passwd, read_group, user_kind_text}
 use Rattle.gufi_words.specs.declared.word.WordError.{WordError}
 use Rattle.gufi_words.specs.declared.word.WordError.TheVariants as word_errors
 use Rattle.gufi_trace.specs.TraceText.{trace_means, TraceFailure, of_line, of_tree, failure_text}
@@ -49,6 +55,18 @@ abbrev pub limit_or : List ℕ → Reason → Option ℕ → Reason
 limit_or file other None = other
 limit_or file other (Some limit) = past_limit file limit
 
+-- ---- the faults of passwd and group files
+
+abbrev pub user_limit : UserKind → Option ℕ
+user_limit users.Fields = None
+user_limit users.Number = None
+user_limit users.DoubleName = None
+user_limit (users.TooMany limit) = Some limit
+
+unfoldable pub user_reason : List ℕ → UserError → Reason
+user_reason file (user_errors.Fault number kind) = limit_or file (line_refused file (decimal number ++ codes " " ++ user_kind_text kind)) (user_limit kind)
+user_reason file user_errors.Memory = no_memory
+
 -- ---- a trace's faults
 
 abbrev pub trace_limit : TraceKind → Option ℕ
@@ -86,12 +104,11 @@ no_such depth = reason 1 (codes "no such at depth " ++ decimal depth)
 abbrev pub not_dir : ℕ → Reason
 not_dir depth = reason 1 (codes "not a directory at depth " ++ decimal depth)
 
--- the value where the start is found, or the refusal of the start
-abbrev pub found_or : {A : Type 0} → Resolved → A → Result A Reason
-found_or (Found id) x = Ok x
-found_or (Denied depth class) x = Err (denied depth class)
-found_or (NoSuch depth) x = Err (no_such depth)
-found_or (NotDir depth) x = Err (not_dir depth)
+abbrev pub start_reason : Refusal → Reason
+start_reason (refusals.Denied depth class) = denied depth class
+start_reason (refusals.NoSuch depth) = no_such depth
+start_reason (refusals.NotDir depth) = not_dir depth
+start_reason refusals.Memory = no_memory
 
 -- ---- files
 
@@ -104,6 +121,33 @@ file_within file limit bytes = refuse (nat_lt limit (length bytes)) (past_limit 
 -- the bytes of a file that the words name, which are at most so many
 unfoldable pub file_in : ℕ → List ℕ → Files → Result (List ℕ) Reason
 file_in limit file files = held files file >>= λ bytes. file_within file limit bytes
+
+-- a file that isn't named stands for an empty one
+unfoldable pub optional_file : Option (List ℕ) → Files → Result (List ℕ) Reason
+optional_file None files = Ok []
+optional_file (Some file) files = file_in max_users file files
+
+-- the rows of the two files of users, each read whole before the next
+abbrev pub passwd_within : Option (List ℕ) → List ℕ → Result (List PasswdEntry) Reason
+passwd_within passwd bytes = result_map_err (user_reason (unwrap_or passwd [])) (read_passwd bytes)
+
+abbrev pub group_within : Option (List ℕ) → List ℕ → Result (List GroupEntry) Reason
+group_within group bytes = result_map_err (user_reason (unwrap_or group [])) (read_group bytes)
+
+unfoldable pub passwd_in : Option (List ℕ) → Files → Result (List PasswdEntry) Reason
+passwd_in passwd files = optional_file passwd files >>= passwd_within passwd
+
+unfoldable pub group_in : Option (List ℕ) → Files → Result (List GroupEntry) Reason
+group_in group files = optional_file group files >>= group_within group
+
+abbrev pub tables_with : List PasswdEntry → List GroupEntry → Result UserTables Reason
+tables_with users groups = Ok (record { users = users; groups = groups })
+
+unfoldable pub tables_beside : List PasswdEntry → Option (List ℕ) → Files → Result UserTables Reason
+tables_beside users group files = group_in group files >>= tables_with users
+
+unfoldable pub tables_in : Option (List ℕ) → Option (List ℕ) → Files → Result UserTables Reason
+tables_in passwd group files = passwd_in passwd files >>= λ users. tables_beside users group files
 
 -- the tree that the bytes of a trace mean
 unfoldable pub tree_within : ℕ → List ℕ → List ℕ → Result (List Directory) Reason

@@ -1,17 +1,19 @@
 -- What the words and the files come to: a reason with its status and note, or a text.
-use Rattle.std.specs.Prelude.{ℕ, true, List, [], Result, Ok, Err}
+use Rattle.std.specs.Prelude.{ℕ, Bool, true, false, List, [], ok_or, Result, Ok, Err}
 use Rattle.gufi_io.specs.Files.{Files}
 use Rattle.gufi_base.specs.Words.{◌>>=◌, result_map_err}
+use Rattle.gufi_base.specs.Paths.{Components}
 use Rattle.gufi_access.specs.declared.class.Principal.{Principal}
 use Rattle.gufi_access.specs.Access.{principal}
 use Rattle.gufi_tree.specs.Tree.{Directory}
-use Rattle.gufi_tree.specs.Resolve.{resolve}
+use Rattle.gufi_users.specs.Entries.{UserTables}
+use Rattle.gufi_users.specs.Users.{principal_of}
 use Rattle.gufi_words.specs.CommandWords.{read_words}
+use Rattle.gufi_words.specs.declared.command.Common.{Common}
 use Rattle.gufi_words.specs.declared.command.Command.{Command}
 use Rattle.gufi_words.specs.declared.command.Command.TheVariants as commands
-use Rattle.gufi_top.specs.declared.words.Walk.{Walk}
-use Rattle.gufi_top.specs.Reasons.{Reason, word_refused, words_reason, found_or, trace_in}
-use Rattle.gufi_top.specs.Answer.{answer, path_lines}
+use Rattle.gufi_top.specs.Reasons.{Reason, word_refused, words_reason, start_reason, tables_in, trace_in}
+use Rattle.gufi_top.specs.Asks.{Ask, walk_ask, stat_ask, ask_reply}
 
 -- what goes to the output, and the note of status 0
 pub record Written : Type 0 where
@@ -21,40 +23,76 @@ pub record Written : Type 0 where
 pub data Verdict : Type 0 where
   writes : Written → Verdict
 
-abbrev pub writes_only : List ℕ → Verdict
-writes_only text = writes (record { out = text; notes = [] })
+abbrev pub writes_only : List ℕ → Result Verdict Reason
+writes_only text = Ok (writes (record { out = text; notes = [] }))
 
--- ---- walk
+-- the text of an ask over a tree
+unfoldable pub asked : List Directory → Principal → Components → Ask → Result Verdict Reason
+asked tree who start ask = result_map_err start_reason (ask_reply tree who start ask) >>= writes_only
 
--- the paths of all rows that the principal can list by walking from the root
-unfoldable pub walk_text : List Directory → Principal → List ℕ
-walk_text tree who = path_lines (answer tree who [] (λ row depth. true))
+-- ---- walk: from the root, for a principal in numbers
 
--- the same, or the refusal of the root
-unfoldable pub walked : Principal → List Directory → Result Verdict Reason
-walked who tree = found_or (resolve tree who []) (writes_only (walk_text tree who))
+unfoldable pub walk_over : List ℕ → Principal → ℕ → Files → Result Verdict Reason
+walk_over trace who delim files = trace_in delim trace files >>= λ tree. asked tree who [] walk_ask
 
-unfoldable pub walk_over : Walk → Files → Result Verdict Reason
-walk_over walk files = trace_in walk.delim walk.trace files >>= walked walk.who
+-- ---- what a command with a USER and a START asks of one index
+
+-- the principal of the word USER
+unfoldable pub user_in : Common → UserTables → Result Principal Reason
+user_in common tables = ok_or (principal_of tables common.user) (word_refused common.user_at)
+
+-- USER is judged behind the files
+abbrev pub asked_by : Common → Ask → UserTables → List Directory → Result Verdict Reason
+asked_by common ask tables tree = user_in common tables >>= λ who. asked tree who common.start ask
+
+unfoldable pub index_over : Common → Ask → UserTables → Files → Result Verdict Reason
+index_over common ask tables files = trace_in common.delim common.index files >>= asked_by common ask tables
+
+unfoldable pub ask_over : Common → Ask → Files → Result Verdict Reason
+ask_over common ask files = tables_in common.passwd common.group files >>= λ tables. index_over common ask tables files
+
+-- ---- each command; one whose work hasn't come is refused at its name
+
+abbrev pub not_open : Files → Result Verdict Reason
+not_open files = Err (word_refused 1)
+
+unfoldable pub command_over : Command → Files → Result Verdict Reason
+command_over (commands.Walk trace uid gids delim) = walk_over trace (principal uid gids) delim
+command_over (commands.Trace2index trace delim) = not_open
+command_over (commands.Rollup index delim limit) = not_open
+command_over (commands.Query common text) = not_open
+command_over (commands.Find common now words) = not_open
+command_over (commands.Ls common long all) = not_open
+command_over (commands.Stat common) = ask_over common stat_ask
+command_over (commands.Stats common report) = not_open
+command_over (commands.Session passwd group delim workers now script) = not_open
+command_over (commands.Gen n delim workers summary) = not_open
 
 -- ---- the verdict
 
--- A command whose work hasn't come is refused at its name.
-unfoldable pub opened : Command → Result Walk Reason
-opened (commands.Walk trace uid gids delim) = Ok (record { trace = trace; who = principal uid gids; delim = delim })
-opened (commands.Trace2index trace delim) = Err (word_refused 1)
-opened (commands.Rollup index delim limit) = Err (word_refused 1)
-opened (commands.Query common text) = Err (word_refused 1)
-opened (commands.Find common now words) = Err (word_refused 1)
-opened (commands.Ls common long all) = Err (word_refused 1)
-opened (commands.Stat common) = Err (word_refused 1)
-opened (commands.Stats common report) = Err (word_refused 1)
-opened (commands.Session passwd group delim workers now script) = Err (word_refused 1)
-opened (commands.Gen n delim workers summary) = Err (word_refused 1)
+unfoldable pub command_in : List (List ℕ) → Result Command Reason
+command_in words = result_map_err words_reason (read_words words)
 
-unfoldable pub command_in : List (List ℕ) → Result Walk Reason
-command_in words = result_map_err words_reason (read_words words) >>= opened
-
--- the first refusal in the order of words, files and start; or what is written
+-- the first refusal in the order of words, files, query words and start; or what is written
 unfoldable pub verdict : List (List ℕ) → Files → Result Verdict Reason
-verdict words files = command_in words >>= λ walk. walk_over walk files
+verdict words files = command_in words >>= λ command. command_over command files
+
+-- The words may be refused: they are no command, or one that isn't open, or one that has a USER.
+abbrev pub may_refuse : Command → Bool
+may_refuse (commands.Walk trace uid gids delim) = false
+may_refuse (commands.Trace2index trace delim) = true
+may_refuse (commands.Rollup index delim limit) = true
+may_refuse (commands.Query common text) = true
+may_refuse (commands.Find common now words) = true
+may_refuse (commands.Ls common long all) = true
+may_refuse (commands.Stat common) = true
+may_refuse (commands.Stats common report) = true
+may_refuse (commands.Session passwd group delim workers now script) = true
+may_refuse (commands.Gen n delim workers summary) = true
+
+abbrev pub may_refuse_read : Result Command Reason → Bool
+may_refuse_read (Ok command) = may_refuse command
+may_refuse_read (Err why) = true
+
+abbrev pub may_refuse_words : List (List ℕ) → Bool
+may_refuse_words words = may_refuse_read (command_in words)

@@ -1,7 +1,8 @@
 //! What a run is to write, and why it writes nothing.
 ghost use Rattle.std.specs.Prelude.{◌≡◌};
-ghost use Rattle.gufi_top.specs.declared.halt.Halt.TheVariants.{Memory};
+ghost use Rattle.gufi_top.specs.declared.halt.Halt.TheVariants as halts;
 
+use gufi_base::Memory;
 use std::alloc::{AllocError, AllocFailed};
 
 /// The whole text, and the note of status 0.
@@ -20,7 +21,7 @@ pub(crate) enum Halt {
 }
 
 impl From<AllocError> for Halt {
-    ghost from_gives = { λ _ e. e ≡ Memory };
+    ghost from_gives = { λ _ e. e ≡ halts.Memory };
 
     fn from(_: AllocError) -> Halt {
         Halt::Memory
@@ -28,9 +29,17 @@ impl From<AllocError> for Halt {
 }
 
 impl<T: Drop> From<AllocFailed<T>> for Halt {
-    ghost from_gives = { λ _ e. e ≡ Memory };
+    ghost from_gives = { λ _ e. e ≡ halts.Memory };
 
     fn from(_: AllocFailed<T>) -> Halt {
+        Halt::Memory
+    }
+}
+
+impl From<Memory> for Halt {
+    ghost from_gives = { λ _ e. e ≡ halts.Memory };
+
+    fn from(_: Memory) -> Halt {
         Halt::Memory
     }
 }

@@ -4,16 +4,20 @@
 //! It stands on every crate of the index but the program itself.
 #![tactic(auto)]
 
+mod ask;
+mod command;
 mod halt;
-mod listed;
+mod laws;
 mod note;
-mod order;
+mod query;
 mod reading;
 mod run;
+mod start;
 #[cfg(test)]
 mod tests;
-mod text;
+mod users;
 mod walk;
 mod words;
 
+pub use laws::asks_are_private;
 pub use run::{Outcome, gufi_run};

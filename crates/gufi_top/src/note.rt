@@ -3,12 +3,14 @@ ghost use Rattle.std.specs.Prelude.{◌≡◌, IfOk};
 ghost use Rattle.gufi_top.specs.Reasons.{word_refused, not_found, past_limit, line_refused, denied, no_such, not_dir, class_text};
 ghost use Rattle.gufi_top.specs.Ends.{read_fault_note, write_fault_note, memory_note};
 ghost use Rattle.gufi_trace.specs.TraceText.{fault_text, failure_text, of_tree};
-ghost use Rattle.std.specs.Prelude.{◌++◌, codes};
+ghost use Rattle.std.specs.Prelude.{◌++◌, codes, decimal};
+ghost use Rattle.gufi_users.specs.Users.{user_kind_text};
 ghost use Rattle.gufi_base.specs.Words.{line};
 
 use gufi_access::Class;
 use gufi_trace::{TraceFault, put_tree_fault};
 use gufi_tree::TreeFault;
+use gufi_users::UserKind;
 use std::alloc::{AllocError, Global};
 
 fn class_word(class: Class) -> &'static [u8]
@@ -92,6 +94,20 @@ pub(crate) fn trace_line(
     if fault.put(&mut note).is_err() {
         return Err(AllocError);
     }
+    note.push(b'\n')?;
+    Ok(note)
+}
+
+/// The line of a passwd or group file that is at fault, and its fault.
+pub(crate) fn user_line(
+    alloc: Global,
+    file: &str,
+    number: u32,
+    kind: UserKind,
+) -> Result<Vec<u8>, AllocError>
+    ensures { IfOk result (λ note. note.items ≡ (line_refused file.now (decimal number ++ codes " " ++ user_kind_text kind)).note) }
+{
+    let mut note = format!(in alloc; "gufi: {file} line {number} {kind}")?.into_bytes();
     note.push(b'\n')?;
     Ok(note)
 }

@@ -23,7 +23,12 @@ const MAX_TRACE: u32 = 536_870_912;
 
 // The bytes of a file that the words name.
 #[tactic(auto, using(crate::proofs::ReadingLemmas::reading), unfolding(crate::specs::Reasons::file_in))]
-fn read_file<F: Shelf>(alloc: Global, shelf: &mut F, name: &str, max: u32) -> Result<Vec<u8>, Halt>
+pub(crate) fn read_file<F: Shelf>(
+    alloc: Global,
+    shelf: &mut F,
+    name: &str,
+    max: u32,
+) -> Result<Vec<u8>, Halt>
     ensures bytes { GivesOver (F.files shelf.old) bytes_view result (file_in max name.now) }
     ensures past_words { IfErr result IsPastWords }
     ensures cause { IfErr result (HaltHasCause (F.faults shelf.old) (F.faults shelf.new) (F.absents shelf.old) (F.absents shelf.new)) }

@@ -1,20 +1,17 @@
 //! One run of the program.
-ghost use Rattle.std.specs.Prelude.{◌≡◌, ◌≢◌, ◌⊎◌, ◌≤◌, [], ◌∷◌, length, IfErr, IfOk, IsErr};
+ghost use Rattle.std.specs.Prelude.{◌≡◌, ◌≢◌, ◌⊎◌, ◌≤◌, [], ◌∷◌, length, IfErr, IsTrue};
 ghost use Rattle.std.specs.Io.KnownBytes.{Appends};
 ghost use Rattle.gufi_io.specs.Causes.{Rose};
-ghost use Rattle.gufi_io.specs.Files.{Holds, TakesFront};
 ghost use Rattle.gufi_words.specs.WordTexts.{texts};
 ghost use Rattle.gufi_top.specs.Views.{text_view};
-ghost use Rattle.gufi_top.specs.Reasons.{file_in, trace_in};
-ghost use Rattle.gufi_top.specs.Verdict.{command_in, walked, walk_over, verdict};
+ghost use Rattle.gufi_top.specs.Verdict.{may_refuse_words, verdict};
 ghost use Rattle.gufi_top.specs.Calls.{Gives, GivesOver, IsOfBytes, IsPastWords, OfWordsOnlyIf, HaltHasCause};
 ghost use Rattle.gufi_top.specs.Ends.{IsVerdictStatus, Ended, WriteFaulted, BrokenOff, TakesNote, TextEnds, read_fault_note, memory_note};
 
-use crate::halt::{Halt, Text, refused};
+use crate::command::answer_command;
+use crate::halt::{Halt, Text};
 use crate::note;
-use crate::reading::read_trace_file;
-use crate::walk::walk_from_root;
-use crate::words::{Walk, read_command};
+use crate::words::read_command;
 use gufi_io::{Gate, Shelf, Sink, write_whole};
 use std::alloc::Global;
 use std::sync::Wait;
@@ -27,28 +24,15 @@ pub struct Outcome {
     pub numbers: Vec<u64>,
 }
 
-// What a walk shows of the files.
-#[tactic(auto, using(crate::proofs::RunLemmas::chaining))]
-fn walk_files<F: Shelf>(alloc: Global, walk: &Walk, shelf: &mut F) -> Result<Text, Halt>
-    ensures text { GivesOver (F.files shelf.old) text_view result (walk_over walk.now) }
-    ensures past_words { IfErr result IsPastWords }
-    ensures cause { IfErr result (HaltHasCause (F.faults shelf.old) (F.faults shelf.new) (F.absents shelf.old) (F.absents shelf.new)) }
-{
-    match read_trace_file(alloc, shelf, walk.trace.as_str(), walk.delim) {
-        Ok(tree) => walk_from_root(alloc, &tree, &walk.who),
-        Err(halt) => Err(halt),
-    }
-}
-
 // What the words ask of the files.
 #[tactic(auto, using(crate::proofs::RunLemmas::chaining))]
 fn answer<F: Shelf>(alloc: Global, words: &[String], shelf: &mut F) -> Result<Text, Halt>
     ensures text { GivesOver (F.files shelf.old) text_view result (verdict (texts words.now)) }
-    ensures words { IfErr result (OfWordsOnlyIf (IsErr (command_in (texts words.now)))) }
+    ensures words { IfErr result (OfWordsOnlyIf (IsTrue (may_refuse_words (texts words.now)))) }
     ensures cause { IfErr result (HaltHasCause (F.faults shelf.old) (F.faults shelf.new) (F.absents shelf.old) (F.absents shelf.new)) }
 {
     match read_command(alloc, words) {
-        Ok(walk) => walk_files(alloc, &walk, shelf),
+        Ok(command) => answer_command(alloc, &command, shelf),
         Err(halt) => Err(halt),
     }
 }
@@ -96,8 +80,8 @@ pub fn gufi_run<R: Threads + Wait, F: Shelf, K: Sink, G: Gate>(
     ensures ended { IsVerdictStatus result.status → Ended (F.files shelf.old) (texts words.now) result.status result.numbers.items
         (K.taken out.old) (K.taken out.new) (K.taken notes.old) (K.taken notes.new) (K.faults notes.old) (K.faults notes.new) }
 
-    // A refusal of the words comes only where they are no command, whatever the shelf.
-    ensures words { result.status ≡ 2 → IsErr (command_in (texts words.now)) }
+    // A refusal of the words comes only where they are no open command, or one with a USER, whatever the shelf.
+    ensures words { result.status ≡ 2 → IsTrue (may_refuse_words (texts words.now)) }
 
     // A missing file is answered only where the shelf lacked one.
     ensures absent { result.status ≡ 8 → Rose (F.absents shelf.old) (F.absents shelf.new) }

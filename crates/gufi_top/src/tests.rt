@@ -65,17 +65,19 @@ fn shelf_of<R: AllocGlobal + Abort>(
     rt: &R,
     name: &str,
     bytes: Vec<u8>,
+    users: &[u8],
     bad_reads: &[u64],
 ) -> Result<MemShelf, Fail> {
     let alloc = rt.alloc();
     let mut files = Vec::new(alloc);
     files.push((String::from_str(alloc, name)?, bytes))?;
+    files.push((String::from_str(alloc, "p")?, users.to_vec(alloc)?))?;
     assert!(rt; names_differ(&files));
     Ok(MemShelf::new(files, 65_536, Vec::new(alloc), bad_reads.to_vec(alloc)?))
 }
 
 fn sink_of(alloc: Global, bad_writes: &[u64]) -> Result<MemSink, AllocError> {
-    let room = vec![in alloc; 0; 100]?;
+    let room = vec![in alloc; 0; 300]?;
     Ok(MemSink::new(room, 5, bad_writes.to_vec(alloc)?))
 }
 
@@ -91,6 +93,8 @@ fn words_of(alloc: Global, words: &[&str]) -> Result<Vec<String>, AllocError> {
 #[derive(Clone, Copy)]
 struct Case<'a> {
     words: &'a [&'a str],
+    // The passwd file p.
+    users: &'a [u8],
     bad_reads: &'a [u64],
     bad_writes: &'a [u64],
     status: u8,
@@ -106,7 +110,7 @@ fn check<R: AllocGlobal + Abort + Threads + Wait>(
 ) -> Result<(), Fail> {
     let alloc = rt.alloc();
     let words = words_of(alloc, case.words)?;
-    let mut shelf = shelf_of(rt, name, bytes, case.bad_reads)?;
+    let mut shelf = shelf_of(rt, name, bytes, case.users, case.bad_reads)?;
     let mut out = sink_of(alloc, case.bad_writes)?;
     let mut notes = sink_of(alloc, &[])?;
     let Outcome { status, numbers } = gufi_run(
@@ -129,6 +133,7 @@ fn check_run<R: AllocGlobal + Abort + Threads + Wait>(
 ) -> Result<(), Fail> {
     let case = Case {
         words,
+        users: b"",
         bad_reads: &[],
         bad_writes: &[],
         status,
@@ -215,10 +220,77 @@ fn refusals_name_their_causes(rt: HostRuntime) -> Result<(), Fail> {
     Ok(())
 }
 
+// Search alone for others on the middle directory.
+const C: &[u8] = b"/r|d|1|493|3|101|100|4096|4096|8|10|20|30|
+/r/p|d|2|457|3|101|100|4096|4096|8|10|20|30|
+/r/p/q|d|3|493|2|101|100|4096|4096|8|10|20|30|
+/r/p/q/y|f|4|420|1|101|100|5|4096|8|10|20|30|
+";
+
+const ALL_OF_B: &[u8] = b"path /
+type d mode 0755 links 3 uid 101 gid 100
+size 4096 blksize 4096 blocks 8 inode 1
+atime 10 mtime 20 ctime 30
+dirs 2 files 1 links 0 others 0 bytes 7 size 7 7 mtime 20 22 uid 101 102 gid 100 200
+";
+
+const ROOT_OF_B: &[u8] = b"path /
+type d mode 0755 links 3 uid 101 gid 100
+size 4096 blksize 4096 blocks 8 inode 1
+atime 10 mtime 20 ctime 30
+dirs 1 files 0 links 0 others 0 bytes 0 size - - mtime 20 20 uid 101 101 gid 100 100
+";
+
+fn check_stat<R: AllocGlobal + Abort + Threads + Wait>(
+    rt: &R,
+    bytes: &[u8],
+    user: &str,
+    start: &str,
+    status: u8,
+    text: &[u8],
+    note: &[u8],
+) -> Result<(), Fail> {
+    let case = Case {
+        words: &["stat", "--passwd=p", "--delim=|", "t", user, start],
+        users: b"ana:x:103:7:::\n",
+        bad_reads: &[],
+        bad_writes: &[],
+        status,
+        text,
+        note,
+    };
+    check(rt, "t", bytes.to_vec(rt.alloc())?, &case)
+}
+
+#[test]
+fn sums_count_no_hidden_row(rt: HostRuntime) -> Result<(), Fail> {
+    check_stat(&rt, B, "103", "/", 0, ALL_OF_B, b"")?;
+    check_stat(&rt, B, "ana", "/", 0, ALL_OF_B, b"")?;
+    check_stat(&rt, B, "102", "/", 0, ROOT_OF_B, b"")?;
+    let denied = b"gufi: denied at depth 1 class other\n";
+    check_stat(&rt, C, "102", "/p", 1, b"", denied)?;
+    check_stat(&rt, B, "bob", "/", 2, b"", b"gufi: word 5 refused\n")
+}
+
+#[test]
+fn files_of_users_come_first(rt: HostRuntime) -> Result<(), Fail> {
+    let case = Case {
+        words: &["stat", "--passwd=p", "--delim=|", "t", "102", "/"],
+        users: b"ana:x:10o1:1:::\n",
+        bad_reads: &[],
+        bad_writes: &[],
+        status: 5,
+        text: b"",
+        note: b"gufi: p line 1 Number\n",
+    };
+    check(&rt, "t", UNENDED.to_vec(rt.alloc())?, &case)
+}
+
 #[test]
 fn faults_have_causes(rt: HostRuntime) -> Result<(), Fail> {
     let read = Case {
         words: WALK,
+        users: b"",
         bad_reads: &[1],
         bad_writes: &[],
         status: 3,
@@ -228,6 +300,7 @@ fn faults_have_causes(rt: HostRuntime) -> Result<(), Fail> {
     check(&rt, "t", A.to_vec(rt.alloc())?, &read)?;
     let absent = Case {
         words: WALK,
+        users: b"",
         bad_reads: &[],
         bad_writes: &[],
         status: 8,
@@ -237,6 +310,7 @@ fn faults_have_causes(rt: HostRuntime) -> Result<(), Fail> {
     check(&rt, "A", A.to_vec(rt.alloc())?, &absent)?;
     let written = Case {
         words: WALK,
+        users: b"",
         bad_reads: &[],
         bad_writes: &[1],
         status: 4,
@@ -254,6 +328,7 @@ fn one_directory_too_many(rt: HostRuntime) -> Result<(), Fail> {
     }
     let case = Case {
         words: WALK,
+        users: b"",
         bad_reads: &[],
         bad_writes: &[],
         status: 6,

@@ -1,0 +1,109 @@
+-- Lemmas on what a command asks of one tree.
+use Rattle.std.proofs.Common.{◌≡◌, ◌≢◌, ℕ, ◌<◌, true, List, [], ◌∷◌, length, get_or, refl, sym, ap, ◌∙◌, subst}
+use Rattle.std.specs.Prelude.{Option, Some, None, Result, Ok, Err, filter, IsTrue}
+use Rattle.std.specs.List.{flat_map}
+use Rattle.std.proofs.lemmas.List.{append-nil}
+use Rattle.gufi_base.specs.declared.record.Row.{Row}
+use Rattle.gufi_base.specs.Words.{◌>>=◌, ascends}
+use Rattle.gufi_base.specs.Paths.{Components, path_eq}
+use Rattle.gufi_base.specs.Rows.{row_cmp}
+use Rattle.gufi_base.specs.PathLines.{path_lines, ArePathsOf}
+use Rattle.gufi_access.specs.declared.class.Principal.{Principal}
+use Rattle.gufi_tree.specs.Tree.{Directory, dir_row, may_list, HasTreeShape}
+use Rattle.gufi_tree.specs.declared.tree.DirId.{DirId}
+use Rattle.gufi_tree.specs.declared.resolve.Resolved.TheVariants.{Found}
+use Rattle.gufi_tree.specs.Resolve.{resolve}
+use Rattle.gufi_tree.proofs.Built.{Has}
+use Rattle.gufi_tree.proofs.Descent.{same_from_paths}
+use Rattle.gufi_tree.proofs.Flat.{distinct}
+use Rattle.gufi_tree.proofs.FoundStart.{found_place_of_start}
+use Rattle.gufi_tree.proofs.Kids.{Has-get_or}
+use Rattle.gufi_tree.proofs.Linked.{path_at-get}
+use Rattle.gufi_sums.specs.declared.summary.Summary.{Summary}
+use Rattle.gufi_sums.specs.Total.{total}
+use Rattle.gufi_list.specs.Texts.{stat_text}
+use Rattle.gufi_walk.specs.declared.refusal.Refusal.{Refusal}
+use Rattle.gufi_walk.specs.Answer.{answer, refusal_of, reply_rows, rows_or, Alike}
+use Rattle.gufi_walk.proofs.Isolation.{alike_replies}
+use Rattle.gufi_walk.proofs.Pieces.{answer-ascends}
+use Rattle.gufi_walk.proofs.StartRow.{start_row}
+use Rattle.gufi_walk.specs.declared.refusal.Refusal.TheVariants as refusals
+use Rattle.gufi_top.specs.declared.halt.Text.{Text}
+use Rattle.gufi_top.specs.declared.halt.Halt.{Halt}
+use Rattle.gufi_top.specs.declared.halt.Halt.TheVariants as halts
+use Rattle.gufi_top.specs.Views.{text_view}
+use Rattle.gufi_top.specs.Calls.{Gives}
+use Rattle.gufi_top.specs.Reasons.{start_reason}
+use Rattle.gufi_top.specs.Verdict.{asked}
+use Rattle.gufi_top.proofs.ReadingLemmas.{given_as}
+use Rattle.gufi_top.specs.Asks.{Ask, walk_ask, stat_ask, ask_holds, ask_text, ask_reply, AsksArePrivate}
+
+-- where the start is found, the text of the answer
+pub reply_found : (tree : List Directory) (who : Principal) (start : Components) (ask : Ask) → refusal_of (resolve tree who start) ≡ None
+    → ask_reply tree who start ask ≡ Ok (ask_text ask start (answer tree who start (ask_holds ask)))
+unfolding ask_reply
+reply_found tree who start ask found = ap (λ (o : Option Refusal). rows_or o (answer tree who start (ask_holds ask)) >>= λ rows. Ok (ask_text ask start rows)) found
+
+-- where it isn't, the refusal
+pub reply_refused : (tree : List Directory) (who : Principal) (start : Components) (ask : Ask) (refusal : Refusal) → refusal_of (resolve tree who start) ≡ Some refusal → ask_reply tree who start ask ≡ Err refusal
+unfolding ask_reply
+reply_refused tree who start ask refusal is = ap (λ (o : Option Refusal). rows_or o (answer tree who start (ask_holds ask)) >>= λ rows. Ok (ask_text ask start rows)) is
+
+-- the lines of the one row that has the start's path
+pub stat_found : (tree : List Directory) (who : Principal) (start : Components) (row : Row) (sum : Summary) → refusal_of (resolve tree who start) ≡ None
+    → filter (λ other. path_eq start other.path) (answer tree who start (λ row depth. true)) ≡ row ∷ [] → sum ≡ total (answer tree who start (λ row depth. true))
+    → ask_reply tree who start stat_ask ≡ Ok (stat_text row sum)
+stat_found tree who start row sum found one is =
+    reply_found tree who start stat_ask found
+    ∙ ap Ok (ap (flat_map (λ r. stat_text r (total (answer tree who start (λ row depth. true))))) one ∙ append-nil (stat_text row (total (answer tree who start (λ row depth. true)))) ∙ ap (stat_text row) (sym is))
+
+-- a directory's row is the one of its path
+pub start_row_at : (tree : List Directory) (shape : HasTreeShape tree) (who : Principal) (start : Components) (d : Directory) (row : Row) → Has tree d → may_list who d ≡ true → d.path ≡ start → row ≡ dir_row d
+    → filter (λ other. path_eq start other.path) (answer tree who start (λ row depth. true)) ≡ row ∷ []
+start_row_at tree shape who start d row there on at is =
+    subst (λ s. filter (λ other. path_eq s other.path) (answer tree who s (λ row depth. true)) ≡ row ∷ []) at (start_row tree shape who d there on ∙ ap (λ r. r ∷ []) (sym is))
+
+-- the lines of the paths of the answer
+pub paths_found : (tree : List Directory) (who : Principal) (start : Components) (paths : List Components) (text : List ℕ) → HasTreeShape tree → refusal_of (resolve tree who start) ≡ None
+    → ArePathsOf paths (answer tree who start (λ row depth. true)) → ((rows : List Row) → ArePathsOf paths rows → ascends row_cmp rows ≡ true → text ≡ path_lines rows)
+    → ask_reply tree who start walk_ask ≡ Ok text
+paths_found tree who start paths text shape found are given =
+    let rows = answer tree who start (λ row depth. true) in
+    reply_found tree who start walk_ask found ∙ ap Ok (sym (given rows are (answer-ascends tree shape who start (λ row depth. true))))
+
+-- the start's place
+pub place_found : (tree : List Directory) (who : Principal) (start : Components) (id : DirId) → HasTreeShape tree → resolve tree who start ≡ Found id → id.0 < length tree
+place_found tree who start id shape found = (found_place_of_start tree who start id shape found).within
+
+-- its row
+pub row_found : (tree : List Directory) (who : Principal) (start : Components) (id : DirId) (row : Row) → HasTreeShape tree → resolve tree who start ≡ Found id
+    → ((d : Directory) → row ≡ dir_row (get_or tree id.0 d)) → filter (λ other. path_eq start other.path) (answer tree who start (λ row depth. true)) ≡ row ∷ []
+row_found tree who start id row shape found is =
+    let w = found_place_of_start tree who start id shape found in
+    let own = get_or tree id.0 w.dir in
+    let same : own ≡ w.dir = same_from_paths tree own w.dir (distinct tree shape.order) (Has-get_or tree id.0 w.dir w.within) w.there (sym (path_at-get tree id.0 w.dir w.within) ∙ w.path ∙ sym w.at) in
+    start_row_at tree shape who start w.dir row w.there w.on w.at (is w.dir ∙ ap dir_row same)
+
+-- ---- what is written of it
+
+pub asked_text : (tree : List Directory) (who : Principal) (start : Components) (ask : Ask) (text : Text) (out : List ℕ) → ask_reply tree who start ask ≡ Ok out
+    → (text.out.items ≡ out) × (text.notes.items ≡ []) → asked tree who start ask ≡ Ok (text_view text)
+unfolding asked
+asked_text tree who start ask text out is (same, none) = rw (is, same, none) refl
+
+refused_as : (tree : List Directory) (who : Principal) (start : Components) (ask : Ask) (refusal : Refusal) (r : Result Text Halt) → ask_reply tree who start ask ≡ Err refusal
+    → Gives (λ x. x) r (Err (start_reason refusal)) → Gives text_view r (asked tree who start ask)
+unfolding asked
+refused_as tree who start ask refusal r is given = given_as text_view r (start_reason refusal) _ given (rw is refl)
+
+pub asked_refused : (tree : List Directory) (who : Principal) (start : Components) (ask : Ask) (refusal : Refusal) (r : Result Text Halt)
+    → (refusal ≢ refusals.Memory → ask_reply tree who start ask ≡ Err refusal) → (refusal ≢ refusals.Memory → Gives (λ x. x) r (Err (start_reason refusal)))
+    → (refusal ≡ refusals.Memory → r ≡ Err halts.Memory) → Gives text_view r (asked tree who start ask)
+asked_refused tree who start ask (refusals.Denied depth class) r is reason memory = refused_as tree who start ask _ r (is (λ e. cc)) (reason (λ e. cc))
+asked_refused tree who start ask (refusals.NoSuch depth) r is reason memory = refused_as tree who start ask _ r (is (λ e. cc)) (reason (λ e. cc))
+asked_refused tree who start ask (refusals.NotDir depth) r is reason memory = refused_as tree who start ask _ r (is (λ e. cc)) (reason (λ e. cc))
+asked_refused tree who start ask refusals.Memory r is reason memory = rw (memory refl) tt
+
+pub asks_private : AsksArePrivate
+unfolding ask_reply
+asks_private tree other who start alike ask = ap (λ (r : Result (List Row) Refusal). r >>= λ rows. Ok (ask_text ask start rows)) (alike_replies tree other who start alike (ask_holds ask))

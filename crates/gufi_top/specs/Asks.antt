@@ -1,0 +1,40 @@
+-- What the commands of one answer ask of the rows, and what they write of them.
+use Rattle.std.specs.Prelude.{◌≡◌, ℕ, Bool, true, List, filter, Result, Ok}
+use Rattle.std.specs.List.{flat_map}
+use Rattle.gufi_base.specs.declared.record.Row.{Row}
+use Rattle.gufi_base.specs.Words.{◌>>=◌}
+use Rattle.gufi_base.specs.Paths.{Components, path_eq}
+use Rattle.gufi_base.specs.PathLines.{path_lines}
+use Rattle.gufi_access.specs.declared.class.Principal.{Principal}
+use Rattle.gufi_tree.specs.Tree.{Directory}
+use Rattle.gufi_sums.specs.Total.{total}
+use Rattle.gufi_list.specs.Texts.{stat_text}
+use Rattle.gufi_walk.specs.declared.refusal.Refusal.{Refusal}
+use Rattle.gufi_walk.specs.Answer.{reply_rows, Alike}
+
+pub data Ask : Type 0 where
+  walk_ask : Ask
+  stat_ask : Ask
+
+-- whether an ask admits a row at a depth below its start
+abbrev pub ask_holds : Ask → Row → ℕ → Bool
+ask_holds walk_ask row depth = true
+ask_holds stat_ask row depth = true
+
+-- The start's own row is among those of an answer.
+abbrev pub stat_lines : Components → List Row → List ℕ
+stat_lines start rows = flat_map (λ row. stat_text row (total rows)) (filter (λ row. path_eq start row.path) rows)
+
+-- what is written of the rows that an ask admits below a start
+abbrev pub ask_text : Ask → Components → List Row → List ℕ
+ask_text walk_ask start rows = path_lines rows
+ask_text stat_ask start rows = stat_lines start rows
+
+-- the refusal of the start, or what is written
+unfoldable pub ask_reply : List Directory → Principal → Components → Ask → Result (List ℕ) Refusal
+ask_reply tree who start ask = reply_rows tree who start (ask_holds ask) >>= λ rows. Ok (ask_text ask start rows)
+
+-- To one who can't tell two trees apart by what may be listed, each ask has one reply in both.
+abbrev pub AsksArePrivate : Type 0
+AsksArePrivate = (tree other : List Directory) (who : Principal) (start : Components) → Alike tree other who start
+    → (ask : Ask) → ask_reply tree who start ask ≡ ask_reply other who start ask

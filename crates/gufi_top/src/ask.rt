@@ -1,0 +1,133 @@
+//! What a command asks of one tree, and what it writes of the answer.
+ghost use Rattle.std.specs.Prelude.{◌≡◌, ◌≢◌, ◌<◌, true, length, slice_index_or, Ok, Err, Some, None, IfOk, IfErr, OnOk};
+ghost use Rattle.gufi_tree.specs.Tree.{Directory, HasTreeShape, dir_row};
+ghost use Rattle.gufi_tree.specs.Resolve.{resolve};
+ghost use Rattle.gufi_walk.specs.Answer.{answer, refusal_of};
+ghost use Rattle.gufi_top.specs.Asks.{walk_ask, stat_ask, ask_reply};
+ghost use Rattle.gufi_top.specs.Starts.{StartsWithRow};
+
+use gufi_access::Principal;
+use gufi_base::{Always, Bytes, Memory, Path, PathList, Rec, Row, Yield};
+use gufi_list::stat_text;
+use gufi_snap::Snapshot;
+use gufi_sums::{NoSkip, Summary};
+use gufi_tree::{DirId, Resolved, Tree};
+use gufi_walk::{Refusal, answer_uncounted};
+use std::alloc::{AllocError, Global};
+
+/// All rows that the principal lists from the start.
+fn all_listed<Y: Yield>(
+    alloc: Global,
+    snap: &Snapshot,
+    who: &Principal,
+    start: &Path,
+) -> Result<Y, Refusal>
+    ensures rows { IfOk result (λ y. Y.stands_for y (answer snap.now.tree who.now start.now (λ row depth. true))) }
+    ensures found { OnOk result (refusal_of (resolve snap.now.tree who.now start.now) ≡ None) }
+    ensures refusal { IfErr result (λ refusal. refusal ≢ Refusal.Memory → refusal_of (resolve snap.now.tree who.now start.now) ≡ Some refusal) }
+{
+    answer_uncounted(alloc, snap, who, start, &Always, &NoSkip)
+}
+
+/// The paths of all rows that the principal lists from the start, a line each, in path order.
+pub(crate) fn paths_text(
+    alloc: Global,
+    snap: &Snapshot,
+    who: &Principal,
+    start: &Path,
+) -> Result<Vec<u8>, Refusal>
+    ensures text { IfOk result (λ text. ask_reply snap.now.tree who.now start.now walk_ask ≡ Ok text.items) }
+    ensures refusal { IfErr result (λ refusal. refusal ≢ Refusal.Memory → ask_reply snap.now.tree who.now start.now walk_ask ≡ Err refusal) }
+{
+    let _tree = snap.tree();
+    match all_listed::<PathList>(alloc, snap, who, start) {
+        Ok(paths) => Ok(paths.lines(alloc)?),
+        Err(refusal) => Err(refusal),
+    }
+}
+
+fn copy_of(alloc: Global, rec: &Rec) -> Result<Rec, AllocError>
+    ensures { IfOk result (λ copy. copy ≡ rec.now) }
+{
+    Ok(Rec {
+        meta: rec.meta,
+        link: Bytes::from_slice(alloc, rec.link.as_slice())?,
+    })
+}
+
+/// The row of a directory, in memory of its own.
+fn row_at(alloc: Global, tree: &Tree, id: DirId) -> Result<Row, Memory>
+    requires { id.0 < length tree.now }
+    ensures { IfOk result (λ row. (d : Directory) → row ≡ dir_row (slice_index_or tree.now id.0 d)) }
+{
+    Ok(Row {
+        path: tree.path_of(alloc, id)?,
+        rec: copy_of(alloc, tree.rec(id))?,
+    })
+}
+
+/// The row of the directory at the start.
+fn start_row_at(
+    alloc: Global,
+    snap: &Snapshot,
+    who: &Principal,
+    start: &Path,
+    id: DirId,
+) -> Result<Row, Refusal>
+    requires { resolve snap.now.tree who.now start.now ≡ Resolved.Found id }
+    ensures row { IfOk result (λ row. StartsWithRow snap.now.tree who.now start.now row) }
+    ensures memory { IfErr result (λ refusal. refusal ≡ Refusal.Memory) }
+{
+    match row_at(alloc, snap.tree(), id) {
+        Ok(row) => Ok(row),
+        Err(_) => Err(Refusal::Memory),
+    }
+}
+
+/// The start's own row.
+fn start_row(alloc: Global, snap: &Snapshot, who: &Principal, start: &Path) -> Result<Row, Refusal>
+    ensures row { IfOk result (λ row. StartsWithRow snap.now.tree who.now start.now row) }
+    ensures refusal { IfErr result (λ refusal. refusal ≢ Refusal.Memory → refusal_of (resolve snap.now.tree who.now start.now) ≡ Some refusal) }
+{
+    let tree = snap.tree();
+    match tree.resolve(who, start) {
+        Resolved::Found(id) => start_row_at(alloc, snap, who, start, id),
+        Resolved::Denied { depth, class } => Err(Refusal::Denied { depth, class }),
+        Resolved::NoSuch { depth } => Err(Refusal::NoSuch { depth }),
+        Resolved::NotDir { depth } => Err(Refusal::NotDir { depth }),
+    }
+}
+
+/// The start's record, whose row is known, and the sum of all rows that the principal lists from it.
+fn record_with(
+    alloc: Global,
+    snap: &Snapshot,
+    who: &Principal,
+    start: &Path,
+    row: &Row,
+) -> Result<Vec<u8>, Refusal>
+    requires { StartsWithRow snap.now.tree who.now start.now row.now }
+    ensures text { IfOk result (λ text. ask_reply snap.now.tree who.now start.now stat_ask ≡ Ok text.items) }
+    ensures refusal { IfErr result (λ refusal. refusal ≢ Refusal.Memory → ask_reply snap.now.tree who.now start.now stat_ask ≡ Err refusal) }
+{
+    match all_listed::<Summary>(alloc, snap, who, start) {
+        Ok(sum) => Ok(stat_text(alloc, row, &sum)?),
+        Err(refusal) => Err(refusal),
+    }
+}
+
+/// The start's record, and the sum of all rows that the principal lists from it.
+pub(crate) fn record_text(
+    alloc: Global,
+    snap: &Snapshot,
+    who: &Principal,
+    start: &Path,
+) -> Result<Vec<u8>, Refusal>
+    ensures text { IfOk result (λ text. ask_reply snap.now.tree who.now start.now stat_ask ≡ Ok text.items) }
+    ensures refusal { IfErr result (λ refusal. refusal ≢ Refusal.Memory → ask_reply snap.now.tree who.now start.now stat_ask ≡ Err refusal) }
+{
+    match start_row(alloc, snap, who, start) {
+        Ok(row) => record_with(alloc, snap, who, start, &row),
+        Err(refusal) => Err(refusal),
+    }
+}

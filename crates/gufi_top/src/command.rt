@@ -1,0 +1,77 @@
+//! Commands.
+ghost use Rattle.std.specs.Prelude.{◌≡◌, Err, IfErr, IfOk, IsTrue};
+ghost use Rattle.gufi_top.specs.Views.{text_view};
+ghost use Rattle.gufi_access.specs.Access.{principal};
+ghost use Rattle.gufi_top.specs.Reasons.{word_refused};
+ghost use Rattle.gufi_top.specs.Verdict.{walk_over, command_over, may_refuse};
+ghost use Rattle.gufi_top.specs.Calls.{Gives, GivesOver, OfWordsOnlyIf, IsOfBytes, IsPastWords, HaltHasCause};
+
+use crate::halt::{Halt, Text, refused};
+use crate::note;
+use crate::query::stat;
+use crate::walk::walk;
+use gufi_access::{Groups, Principal};
+use gufi_base::Nums;
+use gufi_io::Shelf;
+use gufi_words::Command;
+use std::alloc::{AllocError, Global};
+
+fn principal_of(alloc: Global, uid: u32, gids: &Nums) -> Result<Principal, AllocError>
+    ensures { IfOk result (λ who. who ≡ principal uid gids.now) }
+{
+    let groups = Vec::from_slice(alloc, gids.as_slice())?;
+    Ok(Principal {
+        uid,
+        groups: Groups::of(groups),
+    })
+}
+
+// What `walk` writes for a principal in numbers.
+fn walk_as<F: Shelf>(
+    alloc: Global,
+    shelf: &mut F,
+    trace: &str,
+    uid: u32,
+    gids: &Nums,
+    delim: u8,
+) -> Result<Text, Halt>
+    ensures text { GivesOver (F.files shelf.old) text_view result (walk_over trace.now (principal uid gids.now) delim) }
+    ensures past_words { IfErr result IsPastWords }
+    ensures cause { IfErr result (HaltHasCause (F.faults shelf.old) (F.faults shelf.new) (F.absents shelf.old) (F.absents shelf.new)) }
+{
+    match principal_of(alloc, uid, gids) {
+        Ok(who) => walk(alloc, shelf, trace, &who, delim),
+        Err(_) => Err(Halt::Memory),
+    }
+}
+
+// A command whose work hasn't come.
+fn not_open(alloc: Global) -> Result<Text, Halt>
+    ensures text { Gives text_view result (Err (word_refused 1)) }
+    ensures of_bytes { IfErr result IsOfBytes }
+{
+    refused(2, note::word_refused(alloc, 1)?)
+}
+
+/// What a command writes. One whose work hasn't come is refused at its name.
+#[tactic(auto, using(crate::proofs::StepLemmas::given_over, crate::proofs::StepLemmas::cause_of_bytes), unfolding(crate::specs::Verdict::command_over))]
+pub(crate) fn answer_command<F: Shelf>(
+    alloc: Global,
+    command: &Command,
+    shelf: &mut F,
+) -> Result<Text, Halt>
+    ensures text { GivesOver (F.files shelf.old) text_view result (command_over command.now) }
+    ensures words { IfErr result (OfWordsOnlyIf (IsTrue (may_refuse command.now))) }
+    ensures cause { IfErr result (HaltHasCause (F.faults shelf.old) (F.faults shelf.new) (F.absents shelf.old) (F.absents shelf.new)) }
+{
+    match command {
+        Command::Walk {
+            trace,
+            uid,
+            gids,
+            delim,
+        } => walk_as(alloc, shelf, trace.as_str(), *uid, gids, *delim),
+        Command::Stat { common } => stat(alloc, shelf, common),
+        _ => not_open(alloc),
+    }
+}
