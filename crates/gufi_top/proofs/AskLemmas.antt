@@ -1,6 +1,6 @@
 -- Lemmas on what a command asks of one tree.
 use Rattle.std.proofs.Common.{◌≡◌, ◌≢◌, ℕ, ◌<◌, true, List, [], ◌∷◌, length, get_or, refl, sym, ap, ◌∙◌, subst}
-use Rattle.std.specs.Prelude.{Bool, Option, Some, None, Result, Ok, Err, filter, Vec}
+use Rattle.std.specs.Prelude.{Bool, Option, Some, None, Result, Ok, Err, IfOk, OnOk, IfErr, filter, Vec}
 use Rattle.std.specs.declared.alloc.Global.{Global}
 use Rattle.std.specs.List.Sorted.{IsPermutation}
 use Rattle.std.specs.List.{flat_map}
@@ -36,7 +36,7 @@ use Rattle.gufi_top.specs.declared.halt.Halt.TheVariants as halts
 use Rattle.gufi_top.specs.Views.{text_view}
 use Rattle.gufi_top.specs.Calls.{Gives, Replies}
 use Rattle.gufi_top.specs.Reasons.{start_reason}
-use Rattle.gufi_top.specs.Verdict.{writes_only, asked}
+use Rattle.gufi_top.specs.Verdict.{replied, asked}
 use Rattle.gufi_top.proofs.ReadingLemmas.{given_as}
 use Rattle.gufi_top.specs.Asks.{Ask, walk_ask, stat_ask, ask_holds, ask_text, ask_reply, AsksArePrivate}
 
@@ -75,7 +75,12 @@ pub replies_refused : (tree : List Directory) (who : Principal) (start : Compone
     → (refusal ≢ refusals.Memory → refusal_of (resolve tree who start) ≡ Some refusal) → Replies (Err refusal) (ask_reply tree who start ask)
 replies_refused tree who start ask refusal is = λ other. reply_refused tree who start ask refusal (is other)
 
-pub ruleset replying = (replies_found, replies_refused)
+-- what a call returned, of which all is known
+pub replies_as : (tree : List Directory) (who : Principal) (start : Components) (ask : Ask) (r : Result (Vec ℕ Global) Refusal)
+    → IfOk r (λ text. text.items ≡ ask_text ask start (answer tree who start (ask_holds ask))) → OnOk r (refusal_of (resolve tree who start) ≡ None)
+    → IfErr r (λ refusal. refusal ≢ refusals.Memory → refusal_of (resolve tree who start) ≡ Some refusal) → Replies r (ask_reply tree who start ask)
+replies_as tree who start ask (Ok text) is found refused = replies_found tree who start ask text found is
+replies_as tree who start ask (Err refusal) is found refused = replies_refused tree who start ask refusal refused
 
 -- ---- the answer's rows ascend, so what is given of every ascending list is given of them
 
@@ -105,16 +110,16 @@ row_found tree who start id row shape found is =
 -- ---- what is written of it
 
 pub written_text : (text : Text) (out : Vec ℕ Global) (given : Result (List ℕ) Refusal) → Replies (Ok out) given
-    → (text.out.items ≡ out.items) × (text.notes.items ≡ []) → Gives text_view (Ok text) (result_map_err start_reason given >>= writes_only)
+    → (text.out.items ≡ out.items) × (text.notes.items ≡ []) → Gives text_view (Ok text) (replied given)
 written_text text out given is (same, none) = rw (is, same, none) refl
 
 refused_as : (refusal : Refusal) (r : Result Text Halt) (given : Result (List ℕ) Refusal) → given ≡ Err refusal
-    → Gives (λ x. x) r (Err (start_reason refusal)) → Gives text_view r (result_map_err start_reason given >>= writes_only)
+    → Gives (λ x. x) r (Err (start_reason refusal)) → Gives text_view r (replied given)
 refused_as refusal r given is reason = given_as text_view r (start_reason refusal) _ reason (rw is refl)
 
 pub written_refusal : (refusal : Refusal) (r : Result Text Halt) (given : Result (List ℕ) Refusal) → Replies (Err refusal) given
     → (refusal ≢ refusals.Memory → Gives (λ x. x) r (Err (start_reason refusal))) → (refusal ≡ refusals.Memory → r ≡ Err halts.Memory)
-    → Gives text_view r (result_map_err start_reason given >>= writes_only)
+    → Gives text_view r (replied given)
 written_refusal (refusals.Denied depth class) r given is reason memory = refused_as _ r given (is (λ e. cc)) (reason (λ e. cc))
 written_refusal (refusals.NoSuch depth) r given is reason memory = refused_as _ r given (is (λ e. cc)) (reason (λ e. cc))
 written_refusal (refusals.NotDir depth) r given is reason memory = refused_as _ r given (is (λ e. cc)) (reason (λ e. cc))
@@ -125,7 +130,7 @@ pub ruleset writing = (written_text, written_refusal)
 -- the reply to an ask over a tree, written
 pub asked_written : (tree seen : List Directory) (who : Principal) (start : Components) (ask : Ask) (reply : Result (Vec ℕ Global) Refusal) (r : Result Text Halt) → seen ≡ tree
     → Replies reply (ask_reply seen who start ask)
-    → ((given : Result (List ℕ) Refusal) → Replies reply given → Gives text_view r (result_map_err start_reason given >>= writes_only))
+    → ((given : Result (List ℕ) Refusal) → Replies reply given → Gives text_view r (replied given))
     → Gives text_view r (asked tree who start ask)
 unfolding asked
 asked_written tree seen who start ask reply r same is given = given (ask_reply tree who start ask) (subst (λ t. Replies reply (ask_reply t who start ask)) same is)

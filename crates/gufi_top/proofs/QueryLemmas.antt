@@ -8,7 +8,7 @@ use Rattle.gufi_tree.specs.Tree.{Directory}
 use Rattle.gufi_users.specs.Entries.{UserTables}
 use Rattle.gufi_words.specs.declared.command.Common.{Common}
 use Rattle.gufi_top.specs.Reasons.{Reason, tables_in, trace_in}
-use Rattle.gufi_top.specs.Verdict.{Asking, asked, user_in, asked_by, index_over, ask_over}
+use Rattle.gufi_top.specs.Verdict.{Asking, asked_if, user_in, asked_by, index_over, ask_over}
 use Rattle.gufi_top.specs.Calls.{Gives, GivesOver}
 use Rattle.gufi_top.specs.Views.{text_view}
 use Rattle.gufi_top.specs.declared.halt.Text.{Text}
@@ -19,7 +19,7 @@ use Rattle.gufi_top.proofs.StepLemmas.{fails_on, over_ok, over_err, given_over}
 -- ---- the principal, and then the tree
 
 pub by_ok : (common : Common) (asking : Asking) (tables : UserTables) (tree : List Directory) (who : Principal) (r : Result Text Halt)
-    → Gives {A = Principal} (λ w. w) (Ok who) (user_in common tables) → Gives text_view r (asking tables >>= asked tree who common.start) → Gives text_view r (asked_by common asking tables tree)
+    → Gives {A = Principal} (λ w. w) (Ok who) (user_in common tables) → Gives text_view r (asked_if tree who common.start (asking tables)) → Gives text_view r (asked_by common asking tables tree)
 by_ok common asking tables tree who r read given = rw read given
 
 pub by_err : (common : Common) (asking : Asking) (tables : UserTables) (tree : List Directory) (e : Halt)

@@ -9,6 +9,7 @@ use Rattle.gufi_tree.specs.Tree.{Directory}
 use Rattle.gufi_users.specs.Entries.{UserTables}
 use Rattle.gufi_users.specs.Users.{principal_of}
 use Rattle.gufi_roll.specs.CanRoll.{roll_flags, roll_report, report_text}
+use Rattle.gufi_walk.specs.declared.refusal.Refusal.{Refusal}
 use Rattle.gufi_words.specs.CommandWords.{read_words}
 use Rattle.gufi_words.specs.declared.command.Common.{Common}
 use Rattle.gufi_words.specs.declared.command.Command.{Command}
@@ -27,9 +28,17 @@ pub data Verdict : Type 0 where
 abbrev pub writes_only : List ℕ → Result Verdict Reason
 writes_only text = Ok (writes (record { out = text; notes = [] }))
 
+-- what a reply writes
+abbrev pub replied : Result (List ℕ) Refusal → Result Verdict Reason
+replied reply = result_map_err start_reason reply >>= writes_only
+
 -- the text of an ask over a tree
 unfoldable pub asked : List Directory → Principal → Components → Ask → Result Verdict Reason
-asked tree who start ask = result_map_err start_reason (ask_reply tree who start ask) >>= writes_only
+asked tree who start ask = replied (ask_reply tree who start ask)
+
+-- the same where the query words may be refused
+abbrev pub asked_if : List Directory → Principal → Components → Result Ask Reason → Result Verdict Reason
+asked_if tree who start ask = ask >>= asked tree who start
 
 -- ---- walk: from the root, for a principal in numbers
 
@@ -48,7 +57,7 @@ Asking = UserTables → Result Ask Reason
 
 -- USER is judged behind the files, and the query words behind USER
 abbrev pub asked_by : Common → Asking → UserTables → List Directory → Result Verdict Reason
-asked_by common asking tables tree = user_in common tables >>= λ who. asking tables >>= asked tree who common.start
+asked_by common asking tables tree = user_in common tables >>= λ who. asked_if tree who common.start (asking tables)
 
 unfoldable pub index_over : Common → Asking → UserTables → Files → Result Verdict Reason
 index_over common asking tables files = trace_in common.delim common.index files >>= asked_by common asking tables

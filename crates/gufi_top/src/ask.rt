@@ -57,7 +57,6 @@ fn rows_of<P: Pred>(
 }
 
 /// The paths of all rows that the principal lists from the start.
-#[tactic(auto, using(crate::proofs::AskLemmas::replying))]
 pub(crate) fn walk_text(
     alloc: Global,
     snap: &Snapshot,
@@ -70,7 +69,6 @@ pub(crate) fn walk_text(
 }
 
 /// The lines of `ls`: the rows one level below the start.
-#[tactic(auto, using(crate::proofs::AskLemmas::replying))]
 pub(crate) fn listing_text(
     alloc: Global,
     snap: &Snapshot,

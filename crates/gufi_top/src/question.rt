@@ -1,11 +1,10 @@
 //! What the commands with a USER and a START ask.
 ghost use Rattle.std.specs.Prelude.{◌≡◌, ◌≢◌, ℕ, List, Result, IfErr};
-ghost use Rattle.gufi_base.specs.Words.{◌>>=◌};
 ghost use Rattle.gufi_users.specs.Entries.{UserTables};
 ghost use Rattle.gufi_top.specs.Asks.{Ask};
 ghost use Rattle.gufi_top.specs.Reasons.{Reason};
 ghost use Rattle.gufi_top.specs.Views.{text_view};
-ghost use Rattle.gufi_top.specs.Verdict.{asked, ls_asking, stat_asking};
+ghost use Rattle.gufi_top.specs.Verdict.{asked_if, ls_asking, stat_asking};
 ghost use Rattle.gufi_top.specs.Calls.{Gives, IsOfBytes};
 
 use crate::ask::{listing_text, record_text};
@@ -33,16 +32,18 @@ pub(crate) trait Question {
         who: &Principal,
         start: &Path,
     ) -> Result<Text, Halt>
-        ensures text { Gives text_view result (asks self.now users.now >>= asked tree who.now start.now) }
+        ensures text { Gives text_view result (asked_if tree who.now start.now (asks self.now users.now)) }
         ensures of_bytes { IfErr result IsOfBytes };
 }
 
 /// The start's record, and the sum of the rows that the user lists from it.
+#[derive(Clone, Copy)]
 pub(crate) struct Stat;
 
 impl Question for Stat {
     ghost asks = { λ _. stat_asking };
 
+    #[tactic(auto, using(crate::proofs::AskLemmas::asking))]
     fn answer(
         &self,
         alloc: Global,
@@ -58,6 +59,7 @@ impl Question for Stat {
 }
 
 /// The rows one level below the start.
+#[derive(Clone, Copy)]
 pub(crate) struct Ls {
     pub(crate) long: bool,
     pub(crate) all: bool,
@@ -66,6 +68,7 @@ pub(crate) struct Ls {
 impl Question for Ls {
     ghost asks = { λ ls. ls_asking ls.long ls.all };
 
+    #[tactic(auto, using(crate::proofs::AskLemmas::asking))]
     fn answer(
         &self,
         alloc: Global,

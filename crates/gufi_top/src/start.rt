@@ -1,9 +1,8 @@
 //! What is written of a start, or why it can't be walked from.
 ghost use Rattle.std.specs.Prelude.{◌≡◌, ◌≢◌, ℕ, List, [], Result, Err, IfErr};
-ghost use Rattle.gufi_base.specs.Words.{◌>>=◌, result_map_err};
 ghost use Rattle.gufi_walk.specs.declared.refusal.Refusal.{Refusal as SeenRefusal};
 ghost use Rattle.gufi_top.specs.Reasons.{start_reason};
-ghost use Rattle.gufi_top.specs.Verdict.{writes_only};
+ghost use Rattle.gufi_top.specs.Verdict.{replied};
 ghost use Rattle.gufi_top.specs.Views.{text_view};
 ghost use Rattle.gufi_top.specs.Calls.{Gives, IsOfBytes, IsPastWords, Replies};
 
@@ -40,7 +39,7 @@ fn text_of(alloc: Global, out: Vec<u8>) -> Text
 /// What a reply writes: its text, or the note of its start's refusal.
 #[tactic(auto, using(crate::proofs::AskLemmas::writing))]
 pub(crate) fn written(alloc: Global, reply: Result<Vec<u8>, Refusal>) -> Result<Text, Halt>
-    ensures text { (given : Result (List ℕ) SeenRefusal) → Replies reply given → Gives text_view result (result_map_err start_reason given >>= writes_only) }
+    ensures text { (given : Result (List ℕ) SeenRefusal) → Replies reply given → Gives text_view result (replied given) }
     ensures of_bytes { IfErr result IsOfBytes }
     ensures past_words { IfErr result IsPastWords }
 {
