@@ -1,0 +1,21 @@
+//! Why bytes are no pattern.
+ghost use Rattle.std.specs.Prelude.{◌≡◌};
+ghost use Rattle.gufi_glob.specs.declared.fault.GlobFault.TheVariants.{Memory};
+
+use std::alloc::AllocError;
+
+/// Why bytes are no pattern.
+#[derive(Clone, Copy, Debug, PartialEq, Eq)]
+pub enum GlobFault {
+    /// A last backslash that makes nothing ordinary, a range that falls, or `[:`, `[.` or `[=` in a bracket.
+    BadPattern,
+    Memory,
+}
+
+impl From<AllocError> for GlobFault {
+    ghost from_gives = { λ _ e. e ≡ Memory };
+
+    fn from(_: AllocError) -> GlobFault {
+        GlobFault::Memory
+    }
+}
