@@ -2,7 +2,7 @@
 ghost use Rattle.std.specs.Prelude.{◌≡◌};
 ghost use Rattle.gufi_glob.specs.declared.fault.GlobFault.TheVariants.{Memory};
 
-use std::alloc::AllocError;
+use std::alloc::{AllocError, AllocFailed};
 
 /// Why bytes are no pattern.
 #[derive(Clone, Copy, Debug, PartialEq, Eq)]
@@ -16,6 +16,14 @@ impl From<AllocError> for GlobFault {
     ghost from_gives = { λ _ e. e ≡ Memory };
 
     fn from(_: AllocError) -> GlobFault {
+        GlobFault::Memory
+    }
+}
+
+impl<T: Drop> From<AllocFailed<T>> for GlobFault {
+    ghost from_gives = { λ _ e. e ≡ Memory };
+
+    fn from(_: AllocFailed<T>) -> GlobFault {
         GlobFault::Memory
     }
 }
