@@ -8,7 +8,10 @@ use Rattle.gufi_tree.specs.Tree.{Directory}
 use Rattle.gufi_users.specs.Entries.{UserTables}
 use Rattle.gufi_words.specs.declared.command.Common.{Common}
 use Rattle.gufi_top.specs.Reasons.{Reason, tables_in, trace_in}
-use Rattle.gufi_top.specs.Verdict.{Asking, asked_if, user_in, asked_by, index_over, ask_over}
+use Rattle.gufi_top.specs.Verdict.{Asking, asked, asked_if, user_in, asked_by, index_over, ask_over}
+use Rattle.gufi_find.specs.Expressions.{Find}
+use Rattle.gufi_base.specs.Paths.{Components}
+use Rattle.gufi_top.specs.Asks.{find_ask}
 use Rattle.gufi_top.specs.Calls.{Gives, GivesOver}
 use Rattle.gufi_top.specs.Views.{text_view}
 use Rattle.gufi_top.specs.declared.halt.Text.{Text}
@@ -29,6 +32,21 @@ by_err common asking tables tree halts.ReadFault read = tt
 by_err common asking tables tree halts.Memory read = tt
 
 pub ruleset users = (by_ok, by_err)
+
+-- ---- the words of an expression, and then its rows
+
+pub expression_ok : (tree : List Directory) (who : Principal) (start : Components) (read : Result Find Reason) (expression : Find) (r : Result Text Halt)
+    → Gives {A = Find} (λ f. f) (Ok expression) read → Gives text_view r (asked tree who start (find_ask expression))
+    → Gives text_view r (asked_if tree who start (read >>= λ f. Ok (find_ask f)))
+expression_ok tree who start read expression r is given = rw is given
+
+pub expression_err : (tree : List Directory) (who : Principal) (start : Components) (read : Result Find Reason) (e : Halt)
+    → Gives {A = Find} (λ f. f) (Err e) read → Gives text_view (Err e) (asked_if tree who start (read >>= λ f. Ok (find_ask f)))
+expression_err tree who start read (halts.Refused status note) is = rw is refl
+expression_err tree who start read halts.ReadFault is = tt
+expression_err tree who start read halts.Memory is = tt
+
+pub ruleset expressions = (expression_ok, expression_err)
 
 -- ---- the index's file, and then the principal
 

@@ -1,8 +1,8 @@
 -- Why a command is refused, and what its files mean or are refused for.
-use Rattle.std.specs.Prelude.{ℕ, nat_lt, List, [], ◌++◌, length, Option, Some, None, ok_or, unwrap_or, Result, Ok, Err, codes, decimal}
+use Rattle.std.specs.Prelude.{ℕ, ◌+◌, nat_lt, List, [], ◌++◌, length, Option, Some, None, ok_or, unwrap_or, Result, Ok, Err, codes, decimal}
 use Rattle.gufi_io.specs.Files.{Files}
 use Rattle.gufi_base.specs.Limits.{max_trace, max_users}
-use Rattle.gufi_base.specs.Words.{line, ◌>>=◌, ◌>>◌, refuse, result_map_err}
+use Rattle.gufi_base.specs.Words.{line, capped_number, ◌>>=◌, ◌>>◌, refuse, result_map_err}
 use Rattle.gufi_access.specs.declared.class.Class.{Class}
 use Rattle.gufi_access.specs.declared.class.Class.TheVariants.{Owner, Group, Other}
 use Rattle.gufi_tree.specs.Tree.{Directory}
@@ -17,6 +17,9 @@ use Rattle.gufi_users.specs.declared.fault.UserError.{UserError}
 use Rattle.gufi_users.specs.declared.fault.UserError.TheVariants as user_errors
 use Rattle.gufi_users.specs.Entries.{PasswdEntry, GroupEntry, UserTables}
 use Rattle.gufi_users.specs.Users.{read_passwd, read_group, user_kind_text}
+use Rattle.gufi_find.specs.declared.fault.FindError.{FindError}
+use Rattle.gufi_find.specs.declared.fault.FindError.TheVariants as find_errors
+use Rattle.gufi_find.specs.Faults.{find_kind_text}
 use Rattle.gufi_words.specs.declared.word.WordError.{WordError}
 use Rattle.gufi_words.specs.declared.word.WordError.TheVariants as word_errors
 use Rattle.gufi_trace.specs.TraceText.{trace_means, TraceFailure, of_line, of_tree, failure_text}
@@ -87,6 +90,15 @@ failure_limit (of_tree fault) = None
 
 unfoldable pub trace_reason : List ℕ → TraceFailure → Reason
 trace_reason file failure = limit_or file (line_refused file (failure_text failure)) (failure_limit failure)
+
+-- ---- the words of an expression, which come after the word START
+
+abbrev pub word_fault : ℕ → List ℕ → Reason
+word_fault k text = reason 2 (codes "word " ++ (decimal k ++ codes " " ++ text))
+
+abbrev pub find_reason : ℕ → FindError → Reason
+find_reason user_at (find_errors.Fault word kind) = word_fault (capped_number (user_at + 1 + word)) (find_kind_text kind)
+find_reason user_at find_errors.Memory = no_memory
 
 -- ---- a start that can't be walked from
 

@@ -1,5 +1,5 @@
 -- What the words and the files come to: a reason with its status and note, or a text.
-use Rattle.std.specs.Prelude.{ℕ, Bool, true, false, List, [], ok_or, Result, Ok, Err}
+use Rattle.std.specs.Prelude.{ℕ, ℤ, Bool, true, false, List, [], Option, ok_or, Result, Ok, Err}
 use Rattle.gufi_io.specs.Files.{Files}
 use Rattle.gufi_base.specs.Words.{◌>>=◌, result_map_err}
 use Rattle.gufi_base.specs.Paths.{Components}
@@ -8,14 +8,16 @@ use Rattle.gufi_access.specs.Access.{principal}
 use Rattle.gufi_tree.specs.Tree.{Directory}
 use Rattle.gufi_users.specs.Entries.{UserTables}
 use Rattle.gufi_users.specs.Users.{principal_of}
+use Rattle.gufi_find.specs.Expressions.{Find}
+use Rattle.gufi_find.specs.Reading.{read_find}
 use Rattle.gufi_roll.specs.CanRoll.{roll_flags, roll_report, report_text}
 use Rattle.gufi_walk.specs.declared.refusal.Refusal.{Refusal}
 use Rattle.gufi_words.specs.CommandWords.{read_words}
 use Rattle.gufi_words.specs.declared.command.Common.{Common}
 use Rattle.gufi_words.specs.declared.command.Command.{Command}
 use Rattle.gufi_words.specs.declared.command.Command.TheVariants as commands
-use Rattle.gufi_top.specs.Reasons.{Reason, word_refused, words_reason, start_reason, tables_in, trace_in}
-use Rattle.gufi_top.specs.Asks.{Ask, walk_ask, ls_ask, stat_ask, ask_reply}
+use Rattle.gufi_top.specs.Reasons.{Reason, word_refused, words_reason, find_reason, start_reason, tables_in, trace_in}
+use Rattle.gufi_top.specs.Asks.{Ask, walk_ask, find_ask, ls_ask, stat_ask, ask_reply}
 
 -- what goes to the output, and the note of status 0
 pub record Written : Type 0 where
@@ -68,6 +70,13 @@ ask_over common asking files = tables_in common.passwd common.group files >>= λ
 abbrev pub stat_asking : Asking
 stat_asking tables = Ok stat_ask
 
+-- the words of an expression, judged with the users
+abbrev pub expression_in : ℕ → Option ℤ → List (List ℕ) → UserTables → Result Find Reason
+expression_in user_at now words tables = result_map_err (find_reason user_at) (read_find words tables now)
+
+abbrev pub find_asking : ℕ → Option ℤ → List (List ℕ) → Asking
+find_asking user_at now words tables = expression_in user_at now words tables >>= λ expression. Ok (find_ask expression)
+
 abbrev pub ls_asking : Bool → Bool → Asking
 ls_asking long all tables = Ok (ls_ask tables long all)
 
@@ -89,7 +98,7 @@ command_over (commands.Walk trace uid gids delim) = walk_over trace (principal u
 command_over (commands.Trace2index trace delim) = not_open
 command_over (commands.Rollup index delim limit) = rollup_over index delim limit
 command_over (commands.Query common text) = not_open
-command_over (commands.Find common now words) = not_open
+command_over (commands.Find common now words) = ask_over common (find_asking common.user_at now words)
 command_over (commands.Ls common long all) = ask_over common (ls_asking long all)
 command_over (commands.Stat common) = ask_over common stat_asking
 command_over (commands.Stats common report) = not_open

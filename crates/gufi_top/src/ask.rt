@@ -4,12 +4,13 @@ ghost use Rattle.gufi_base.specs.PathLines.{path_lines};
 ghost use Rattle.gufi_tree.specs.Tree.{Directory, HasTreeShape, dir_row};
 ghost use Rattle.gufi_tree.specs.Resolve.{resolve};
 ghost use Rattle.gufi_walk.specs.Answer.{answer, refusal_of};
-ghost use Rattle.gufi_top.specs.Asks.{walk_ask, ls_ask, stat_ask, ask_reply};
+ghost use Rattle.gufi_top.specs.Asks.{walk_ask, find_ask, ls_ask, stat_ask, ask_reply};
 ghost use Rattle.gufi_top.specs.Calls.{Replies};
 ghost use Rattle.gufi_top.specs.Starts.{StartsWithRow};
 
 use gufi_access::Principal;
 use gufi_base::{Always, Bytes, Memory, Path, PathList, Pred, Rec, Row, RowList};
+use gufi_find::FindExpr;
 use gufi_list::{OneBelow, ls_text, stat_text};
 use gufi_snap::Snapshot;
 use gufi_sums::{NoSkip, Summary};
@@ -66,6 +67,19 @@ pub(crate) fn walk_text(
     ensures { Replies result (ask_reply snap.now.tree who.now start.now walk_ask) }
 {
     paths_text(alloc, snap, who, start, &Always)
+}
+
+/// The paths of the rows that the principal lists from the start and for which an expression is true.
+pub(crate) fn find_text(
+    alloc: Global,
+    snap: &Snapshot,
+    who: &Principal,
+    start: &Path,
+    expression: &FindExpr,
+) -> Result<Vec<u8>, Refusal>
+    ensures { Replies result (ask_reply snap.now.tree who.now start.now (find_ask expression.now)) }
+{
+    paths_text(alloc, snap, who, start, expression)
 }
 
 /// The lines of `ls`: the rows one level below the start.

@@ -9,7 +9,7 @@ ghost use Rattle.gufi_top.specs.Calls.{Gives, GivesOver, OfWordsOnlyIf, IsOfByte
 use crate::halt::{Halt, Text, refused};
 use crate::note;
 use crate::query::ask;
-use crate::question::{Ls, Stat};
+use crate::question::{Find, Ls, Stat};
 use crate::rollup::rollup;
 use crate::walk::walk;
 use gufi_access::{Groups, Principal};
@@ -78,6 +78,16 @@ pub(crate) fn answer_command<F: Shelf>(
             delim,
             limit,
         } => rollup(alloc, shelf, index.as_str(), *delim, *limit),
+        Command::Find { common, now, words } => ask(
+            alloc,
+            shelf,
+            common,
+            &Find {
+                user_at: common.user_at,
+                moment: *now,
+                words: words.as_slice(),
+            },
+        ),
         Command::Ls { common, long, all } => ask(
             alloc,
             shelf,

@@ -1,14 +1,16 @@
 //! The notes of refusals.
 ghost use Rattle.std.specs.Prelude.{◌≡◌, IfOk};
-ghost use Rattle.gufi_top.specs.Reasons.{word_refused, not_found, past_limit, line_refused, denied, no_such, not_dir, class_text};
+ghost use Rattle.gufi_top.specs.Reasons.{word_refused, word_fault, not_found, past_limit, line_refused, denied, no_such, not_dir, class_text};
 ghost use Rattle.gufi_top.specs.Ends.{read_fault_note, write_fault_note, memory_note};
 ghost use Rattle.gufi_trace.specs.TraceText.{fault_text, failure_text, of_tree};
 ghost use Rattle.std.specs.Prelude.{◌++◌, codes, decimal};
 ghost use Rattle.gufi_users.specs.Users.{user_kind_text};
 ghost use Rattle.gufi_roll.specs.CanRoll.{report_text};
+ghost use Rattle.gufi_find.specs.Faults.{find_kind_text};
 ghost use Rattle.gufi_base.specs.Words.{line};
 
 use gufi_access::Class;
+use gufi_find::FindKind;
 use gufi_roll::RollReport;
 use gufi_trace::{TraceFault, put_tree_fault};
 use gufi_tree::TreeFault;
@@ -77,6 +79,13 @@ pub(crate) fn report(alloc: Global, report: RollReport) -> Result<Vec<u8>, Alloc
         rows,
     } = report;
     Ok(format!(in alloc; "rolled {rolled} of {dirs} tops {tops} rows {rows}\n")?.into_bytes())
+}
+
+/// A word of an expression that is at fault.
+pub(crate) fn find_word(alloc: Global, word: u32, kind: FindKind) -> Result<Vec<u8>, AllocError>
+    ensures { IfOk result (λ note. note.items ≡ (word_fault word (find_kind_text kind)).note) }
+{
+    Ok(format!(in alloc; "gufi: word {word} {kind}\n")?.into_bytes())
 }
 
 pub(crate) fn read_fault() -> &'static [u8]

@@ -1,18 +1,23 @@
 //! What the commands with a USER and a START ask.
-ghost use Rattle.std.specs.Prelude.{◌≡◌, ◌≢◌, ℕ, List, Result, IfErr};
+ghost use Rattle.std.specs.Prelude.{◌≡◌, ◌≢◌, ℕ, ◌+◌, List, Result, Err, IfErr};
+ghost use Rattle.gufi_base.specs.Words.{capped_number};
+ghost use Rattle.gufi_find.specs.Expressions.{Find as SeenFind};
+ghost use Rattle.gufi_find.specs.Faults.{find_kind_text};
 ghost use Rattle.gufi_users.specs.Entries.{UserTables};
-ghost use Rattle.gufi_top.specs.Asks.{Ask};
-ghost use Rattle.gufi_top.specs.Reasons.{Reason};
+ghost use Rattle.gufi_top.specs.Asks.{Ask, find_ask};
+ghost use Rattle.gufi_top.specs.Reasons.{Reason, word_fault};
 ghost use Rattle.gufi_top.specs.Views.{text_view};
-ghost use Rattle.gufi_top.specs.Verdict.{asked_if, ls_asking, stat_asking};
+ghost use Rattle.gufi_top.specs.Verdict.{asked, asked_if, expression_in, find_asking, ls_asking, stat_asking};
 ghost use Rattle.gufi_top.specs.Calls.{Gives, IsOfBytes};
 
-use crate::ask::{listing_text, record_text};
-use crate::halt::{Halt, Text};
+use crate::ask::{find_text, listing_text, record_text};
+use crate::halt::{Halt, Text as Written, refused};
+use crate::note;
 use crate::start::written;
 use crate::walk::snapshot_of;
 use gufi_access::Principal;
-use gufi_base::Path;
+use gufi_base::{Path, Text};
+use gufi_find::{FindError, FindExpr, FindKind, read_find};
 use gufi_tree::Tree;
 use gufi_users::Users;
 use std::alloc::Global;
@@ -31,7 +36,7 @@ pub(crate) trait Question {
         limit: u64,
         who: &Principal,
         start: &Path,
-    ) -> Result<Text, Halt>
+    ) -> Result<Written, Halt>
         ensures text { Gives text_view result (asked_if tree who.now start.now (asks self.now users.now)) }
         ensures of_bytes { IfErr result IsOfBytes };
 }
@@ -52,9 +57,87 @@ impl Question for Stat {
         limit: u64,
         who: &Principal,
         start: &Path,
-    ) -> Result<Text, Halt> {
+    ) -> Result<Written, Halt> {
         let snap = snapshot_of(alloc, tree, limit)?;
         written(alloc, record_text(alloc, &snap, who, start))
+    }
+}
+
+/// The rows for which an expression is true.
+#[derive(Clone, Copy)]
+pub(crate) struct Find<'a> {
+    /// The number of the word USER, behind which START and the expression stand.
+    pub(crate) user_at: u32,
+    /// From which times count back, in seconds.
+    pub(crate) moment: Option<i64>,
+    pub(crate) words: &'a [Text],
+}
+
+// The number of a word of an expression; the last that can be told stands for all above it.
+fn expression_word(user_at: u32, word: u32) -> u32
+    ensures { result ≡ capped_number (user_at + 1 + word) }
+{
+    user_at.saturating_add(1).saturating_add(word)
+}
+
+// An expression isn't read: a word is faulty.
+fn refuse_word<T>(alloc: Global, word: u32, kind: FindKind) -> Result<T, Halt>
+    ensures reason { Gives (λ (x : T). x) result (Err (word_fault word (find_kind_text kind))) }
+    ensures of_bytes { IfErr result IsOfBytes }
+{
+    refused(2, note::find_word(alloc, word, kind)?)
+}
+
+impl Find<'_> {
+    // The expression that the words are.
+    fn expression(&self, alloc: Global, users: &Users) -> Result<FindExpr, Halt>
+        ensures expression { Gives (λ (f : SeenFind). f) result (expression_in self.now.user_at self.now.moment self.now.words.now users.now) }
+        ensures of_bytes { IfErr result IsOfBytes }
+    {
+        match read_find(alloc, self.words, users, self.moment) {
+            Ok(expression) => Ok(expression),
+            Err(FindError::Fault { word, kind }) => {
+                refuse_word(alloc, expression_word(self.user_at, word), kind)
+            }
+            Err(FindError::Memory) => Err(Halt::Memory),
+        }
+    }
+}
+
+// What is written of the rows for which an expression is true.
+#[tactic(auto, using(crate::proofs::AskLemmas::asking))]
+fn find_in(
+    alloc: Global,
+    expression: &FindExpr,
+    tree: Tree,
+    limit: u64,
+    who: &Principal,
+    start: &Path,
+) -> Result<Written, Halt>
+    ensures text { Gives text_view result (asked tree who.now start.now (find_ask expression.now)) }
+    ensures of_bytes { IfErr result IsOfBytes }
+{
+    let snap = snapshot_of(alloc, tree, limit)?;
+    written(alloc, find_text(alloc, &snap, who, start, expression))
+}
+
+impl Question for Find<'_> {
+    ghost asks = { λ find. find_asking find.user_at find.moment find.words.now };
+
+    #[tactic(auto, using(crate::proofs::QueryLemmas::expressions))]
+    fn answer(
+        &self,
+        alloc: Global,
+        users: &Users,
+        tree: Tree,
+        limit: u64,
+        who: &Principal,
+        start: &Path,
+    ) -> Result<Written, Halt> {
+        match self.expression(alloc, users) {
+            Ok(expression) => find_in(alloc, &expression, tree, limit, who, start),
+            Err(halt) => Err(halt),
+        }
     }
 }
 
@@ -77,7 +160,7 @@ impl Question for Ls {
         limit: u64,
         who: &Principal,
         start: &Path,
-    ) -> Result<Text, Halt> {
+    ) -> Result<Written, Halt> {
         let snap = snapshot_of(alloc, tree, limit)?;
         written(
             alloc,
