@@ -1,19 +1,22 @@
 -- What a snapshot knows of the rows of a directory, and of those at and below it.
-use Rattle.std.proofs.Common.{◌≡◌, ℕ, ◌<◌, ◌≤◌, ◌^◌, Bool, true, false, not, ◌&&◌, ◌||◌, List, ◌++◌, length, get_or, refl, ap, ◌∙◌, arith, length-append}
+use Rattle.std.proofs.Common.{◌≡◌, ℕ, ◌<◌, ◌≤◌, ◌^◌, Bool, true, false, cond, List, ◌++◌, length, get_or, arith}
 use Rattle.std.specs.Prelude.{Result, Ok, Err, OnOk}
-use Rattle.std.specs.List.{filter, flat_map, list_all}
+use Rattle.std.specs.List.{filter, flat_map}
 use Rattle.std.specs.List.Sorted.{IsPermutation}
 use Rattle.std.proofs.lemmas.List.Sorted.{IsPermutation-append_right, IsPermutation-sym, length_permutation}
 use Rattle.gufi_base.specs.declared.record.Row.{Row}
-use Rattle.gufi_base.specs.Paths.{Components}
-use Rattle.gufi_base.specs.Rows.{row_cmp}
+use Rattle.gufi_base.specs.Paths.{Components, path_eq, is_prefix}
+use Rattle.gufi_base.specs.Rows.{row_cmp, home}
 use Rattle.gufi_base.proofs.Permutations.{IsPermutation-filter}
 use Rattle.gufi_base.proofs.Sorting.{IsPermutation-sort_by}
 use Rattle.gufi_tree.specs.Tree.{Directory, own_rows, all_rows, home_rows, subtree_rows, HasTreeShape}
-use Rattle.gufi_tree.specs.Places.{path_at, child_ids}
+use Rattle.gufi_tree.specs.Places.{path_at}
 use Rattle.gufi_tree.proofs.Kids.{at_place, rows_under, subtree_rows-under, home_rows-own}
+use Rattle.gufi_store.proofs.Entries.{length-filter_le}
+use Rattle.gufi_roll.specs.CanRoll.{can_roll}
 use Rattle.gufi_sums.specs.declared.summary.Summary.{Summary}
 use Rattle.gufi_sums.specs.Laws.{IsTotal-reordered}
+use Rattle.gufi_snap.specs.Pieces.{piece}
 use Rattle.gufi_snap.specs.SumsByPlace.{AreOwn, AreUnderFrom}
 use Rattle.gufi_snap.specs.Kept.{AreOwnSums, AreTreeSums}
 
@@ -23,6 +26,13 @@ on_ok (Err e) P Q f h = tt
 
 pub few_rows : (tree : List Directory) → length (flat_map own_rows tree) < 2 ^ 32 → length (all_rows tree) < 2 ^ 40
 few_rows tree few = let a = length_permutation _ _ (IsPermutation-sort_by row_cmp (flat_map own_rows tree)) in omega arith
+
+-- no piece has more rows than there are
+pub piece-few : (tree : List Directory) (path : Components) (limit : ℕ) → length (piece tree path limit) ≤ length (all_rows tree)
+piece-few tree path limit = by (can_roll tree limit path) where
+  by : (b : Bool) → length (cond b (subtree_rows tree path) (home_rows tree path)) ≤ length (all_rows tree)
+  by true = length-filter_le (λ row. is_prefix path (home row)) (all_rows tree)
+  by false = length-filter_le (λ row. path_eq path (home row)) (all_rows tree)
 
 module _ (tree : List Directory) (shape : HasTreeShape tree) (k : ℕ) (within : k < length tree) where
   -- a directory's rows are its own rows, up to their order

@@ -1,8 +1,7 @@
 -- In path order the directories at a path and below it stand side by side, and a sum of their rows counts them.
-use Rattle.std.proofs.Common.{◌≡◌, ℕ, zero, suc, ◌+◌, ◌-◌, ◌<◌, ◌≤◌, Bool, true, false, not, cond, List, [], ◌∷◌, ◌++◌, length, get_or, take, drop, map, refl, sym, ap, ◌∙◌, subst, arith, length-append, length-drop}
+use Rattle.std.proofs.Common.{◌≡◌, ℕ, zero, suc, ◌+◌, ◌-◌, ◌<◌, ◌≤◌, Bool, true, false, not, cond, List, [], ◌∷◌, length, take, drop, map, refl, sym, ap, ◌∙◌, subst, arith, length-append, length-drop}
 use Rattle.std.specs.Prelude.{All}
 use Rattle.std.specs.List.{AllByRecursion, filter, flat_map, list_all}
-use Rattle.std.specs.declared.cmp.Ordering.{Ordering}
 use Rattle.std.specs.declared.cmp.Ordering.TheVariants.{Less, Greater}
 use Rattle.std.proofs.lemmas.Bool.{false≢true, false_from_ne_true, and_parts, and_from}
 use Rattle.std.proofs.lemmas.List.{append-nil, length-take}
@@ -18,7 +17,7 @@ use Rattle.gufi_tree.specs.Places.{path_at}
 use Rattle.gufi_tree.proofs.Below.{below_dirs}
 use Rattle.gufi_tree.proofs.Built.{dir_cmp-total}
 use Rattle.gufi_tree.proofs.Flat.{is_prefix-append, is_prefix-rest}
-use Rattle.gufi_tree.proofs.Kids.{rows_under, subtree_rows-under}
+use Rattle.gufi_tree.proofs.Kids.{subtree_rows-under}
 use Rattle.gufi_sums.specs.declared.summary.Summary.{Summary}
 use Rattle.gufi_sums.specs.Total.{total, IsTotal}
 use Rattle.gufi_sums.specs.Laws.{total-append, IsTotal-reordered}

@@ -93,11 +93,7 @@ impl Snapshot {
         Snapshot::under(alloc, Arc::try_clone(&self.contents)?, limit)
     }
 
-    fn under(
-        alloc: Global,
-        contents: Arc<Contents, Global>,
-        limit: u64,
-    ) -> Result<Snapshot, Memory>
+    fn under(alloc: Global, contents: Arc<Contents, Global>, limit: u64) -> Result<Snapshot, Memory>
         ensures { IfOk result (λ snap. snap ≡ record { tree = arc_value contents; limit = limit }) }
     {
         let flags = roll(alloc, contents.tree(), limit)?;

@@ -1,4 +1,4 @@
-use Rattle.std.proofs.Common.{◌≡◌, ◌≤◌, ◌∙◌, ◌++◌, length, ap, sym, subst, append_assoc}
+use Rattle.std.proofs.Common.{◌≤◌, ◌∙◌, ◌++◌, length, ap, sym, subst, append_assoc}
 use Rattle.std.proofs.lemmas.List.{append-nil}
 use Rattle.gufi_tree.specs.Tree.{Directory}
 use Rattle.gufi_store.specs.Scan.{is_met}

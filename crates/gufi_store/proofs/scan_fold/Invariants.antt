@@ -1,4 +1,4 @@
-use Rattle.std.proofs.Common.{◌≡◌, ◌+◌, ◌++◌, List, take}
+use Rattle.std.proofs.Common.{◌++◌, List, take}
 use Rattle.gufi_base.specs.declared.record.Row.{Row}
 use Rattle.gufi_store.specs.Scan.{rows_met_in}
 use Rattle.gufi_store.proofs.scan_fold.Given as goal

@@ -1,8 +1,8 @@
-use Rattle.std.proofs.Common.{◌≡◌, Bool, ◌+◌, ◌<◌, ◌^◌, List, ◌++◌, length, sym, ap, ◌∙◌, subst}
+use Rattle.std.proofs.Common.{Bool, ◌+◌, ◌<◌, ◌^◌, List, ◌++◌, length, sym, ap, ◌∙◌, subst}
 use Rattle.std.specs.Prelude.{filter}
 use Rattle.std.specs.List.{flat_map}
 use Rattle.gufi_base.specs.declared.record.Row.{Row}
-use Rattle.gufi_tree.specs.Tree.{Directory, own_rows, HasTreeShape}
+use Rattle.gufi_tree.specs.Tree.{Directory, own_rows}
 use Rattle.gufi_tree.specs.Places.{path_at}
 use Rattle.gufi_store.specs.Scan.{is_met}
 use Rattle.gufi_snap.proofs.Pieces.{on_ok, under-length, under-met}

@@ -2,7 +2,6 @@ use Rattle.std.proofs.Common.{◌≡◌, ◌+◌, ◌-◌, ◌≤◌, List, leng
 use Rattle.std.specs.Prelude.{All}
 use Rattle.gufi_tree.specs.Tree.{Directory, HasTreeShape}
 use Rattle.gufi_tree.specs.Places.{path_at}
-use Rattle.gufi_tree.proofs.Below.{below_dirs}
 use Rattle.gufi_snap.proofs.Ranges.{range_within, range_is, below_deep}
 use Rattle.gufi_snap.proofs.contents.Contents.stores_below.Goals as goal
 
@@ -34,5 +33,5 @@ returns-clause-deep c =
     let stores : c.as_slice-stores.result.now ≡ c.args.self.now = c.as_slice-stores.ensures.value ∙ c.self.invariant.same ∙ c.self.view_is in
     let path = path_at c.args.self.now c.args.id.0 in
     let below = ap (λ (ds : List Directory). take (c.args.id.0 + c.tree_sum.result.now.dirs - c.args.id.0) (drop c.args.id.0 ds)) stores
-        ∙ range_is c.args.self.now shape c.args.id.0 c.requires c.tree_sum.result.now c.tree_sum.ensures in
+    ∙ range_is c.args.self.now shape c.args.id.0 c.requires c.tree_sum.result.now c.tree_sum.ensures in
     subst (All (λ (dir : Directory). length path ≤ length dir.path)) (sym below) (below_deep path c.args.self.now)

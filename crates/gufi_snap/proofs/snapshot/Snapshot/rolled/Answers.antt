@@ -1,7 +1,6 @@
-use Rattle.std.proofs.Common.{◌≡◌, Bool, List, map, length, get_or, false, sym, ap, ◌∙◌, subst}
+use Rattle.std.proofs.Common.{Bool, List, get_or, ap, ◌∙◌}
 use Rattle.std.proofs.lemmas.List.{get_or-map}
 use Rattle.gufi_tree.specs.Tree.{Directory}
-use Rattle.gufi_tree.specs.Places.{path_at}
 use Rattle.gufi_tree.proofs.Kids.{at_place}
 use Rattle.gufi_roll.specs.CanRoll.{can_roll, roll_flags}
 use Rattle.gufi_snap.specs.Snap.{Snap}
