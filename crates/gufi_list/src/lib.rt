@@ -10,7 +10,7 @@ mod put;
 mod record;
 mod total;
 
-pub use listing::ls_text;
+pub use listing::{OneBelow, ls_text};
 pub use mode::mode_text;
 pub use record::stat_text;
 pub use total::total_text;

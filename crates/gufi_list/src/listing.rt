@@ -4,11 +4,11 @@ ghost use Rattle.std.specs.Prelude.{◌≡◌, ◌++◌, IfOk, OnOk};
 ghost use Rattle.gufi_base.specs.Kinds.{is_link};
 ghost use Rattle.gufi_base.specs.Words.{line};
 ghost use Rattle.gufi_list.specs.Columns.{links_column, owners_column, sizes_column, meta_columns, shown_line};
-ghost use Rattle.gufi_list.specs.Listings.{owner_text, group_text, target_text, long_text, ls_line, is_hidden, is_shown, ls_text};
+ghost use Rattle.gufi_list.specs.Listings.{owner_text, group_text, target_text, long_text, ls_line, is_hidden, is_shown, ls_text, ls_asks};
 
 use crate::mode::mode_text;
 use crate::put::{put_named, put_signed, put_word};
-use gufi_base::{Kind, Memory, Meta, Row, put_u64};
+use gufi_base::{Kind, Memory, Meta, Pred, Row, RowRef, put_u64};
 use gufi_users::Users;
 use std::alloc::Global;
 
@@ -108,6 +108,20 @@ fn is_shown(all: bool, row: &Row) -> bool
     ensures { result ≡ is_shown all row.now }
 {
     all || !is_hidden(row.path.base_name())
+}
+
+/// The rows that `ls` shows of a start: those one level below it, and no name that begins with a dot unless `all`.
+#[derive(Clone, Copy, Debug)]
+pub struct OneBelow {
+    pub all: bool,
+}
+
+impl Pred for OneBelow {
+    ghost sat = { λ shown row depth. ls_asks shown.all row depth };
+
+    fn test(&self, _alloc: Global, row: RowRef<'_>, depth: u32) -> Result<bool, Memory> {
+        Ok(depth == 1 && (self.all || !is_hidden(row.base)))
+    }
 }
 
 /// The line of a row that is shown.

@@ -1,10 +1,12 @@
 -- Lemmas on what a command asks of one tree.
 use Rattle.std.proofs.Common.{◌≡◌, ◌≢◌, ℕ, ◌<◌, true, List, [], ◌∷◌, length, get_or, refl, sym, ap, ◌∙◌, subst}
-use Rattle.std.specs.Prelude.{Option, Some, None, Result, Ok, Err, filter, IsTrue}
+use Rattle.std.specs.Prelude.{Bool, Option, Some, None, Result, Ok, Err, IfOk, OnOk, IfErr, filter, Vec}
+use Rattle.std.specs.declared.alloc.Global.{Global}
+use Rattle.std.specs.List.Sorted.{IsPermutation}
 use Rattle.std.specs.List.{flat_map}
 use Rattle.std.proofs.lemmas.List.{append-nil}
 use Rattle.gufi_base.specs.declared.record.Row.{Row}
-use Rattle.gufi_base.specs.Words.{◌>>=◌, ascends}
+use Rattle.gufi_base.specs.Words.{◌>>=◌, result_map_err, ascends}
 use Rattle.gufi_base.specs.Paths.{Components, path_eq}
 use Rattle.gufi_base.specs.Rows.{row_cmp}
 use Rattle.gufi_base.specs.PathLines.{path_lines, ArePathsOf}
@@ -32,9 +34,9 @@ use Rattle.gufi_top.specs.declared.halt.Text.{Text}
 use Rattle.gufi_top.specs.declared.halt.Halt.{Halt}
 use Rattle.gufi_top.specs.declared.halt.Halt.TheVariants as halts
 use Rattle.gufi_top.specs.Views.{text_view}
-use Rattle.gufi_top.specs.Calls.{Gives}
+use Rattle.gufi_top.specs.Calls.{Gives, Replies}
 use Rattle.gufi_top.specs.Reasons.{start_reason}
-use Rattle.gufi_top.specs.Verdict.{asked}
+use Rattle.gufi_top.specs.Verdict.{replied, asked}
 use Rattle.gufi_top.proofs.ReadingLemmas.{given_as}
 use Rattle.gufi_top.specs.Asks.{Ask, walk_ask, stat_ask, ask_holds, ask_text, ask_reply, AsksArePrivate}
 
@@ -63,13 +65,34 @@ pub start_row_at : (tree : List Directory) (shape : HasTreeShape tree) (who : Pr
 start_row_at tree shape who start d row there on at is =
     subst (λ s. filter (λ other. path_eq s other.path) (answer tree who s (λ row depth. true)) ≡ row ∷ []) at (start_row tree shape who d there on ∙ ap (λ r. r ∷ []) (sym is))
 
--- the lines of the paths of the answer
-pub paths_found : (tree : List Directory) (who : Principal) (start : Components) (paths : List Components) (text : List ℕ) → HasTreeShape tree → refusal_of (resolve tree who start) ≡ None
-    → ArePathsOf paths (answer tree who start (λ row depth. true)) → ((rows : List Row) → ArePathsOf paths rows → ascends row_cmp rows ≡ true → text ≡ path_lines rows)
-    → ask_reply tree who start walk_ask ≡ Ok text
-paths_found tree who start paths text shape found are given =
-    let rows = answer tree who start (λ row depth. true) in
-    reply_found tree who start walk_ask found ∙ ap Ok (sym (given rows are (answer-ascends tree shape who start (λ row depth. true))))
+-- ---- what a reply returned is the one that is given
+
+pub replies_found : (tree : List Directory) (who : Principal) (start : Components) (ask : Ask) (text : Vec ℕ Global) → refusal_of (resolve tree who start) ≡ None
+    → text.items ≡ ask_text ask start (answer tree who start (ask_holds ask)) → Replies (Ok text) (ask_reply tree who start ask)
+replies_found tree who start ask text found is = reply_found tree who start ask found ∙ ap Ok (sym is)
+
+pub replies_refused : (tree : List Directory) (who : Principal) (start : Components) (ask : Ask) (refusal : Refusal)
+    → (refusal ≢ refusals.Memory → refusal_of (resolve tree who start) ≡ Some refusal) → Replies (Err refusal) (ask_reply tree who start ask)
+replies_refused tree who start ask refusal is = λ other. reply_refused tree who start ask refusal (is other)
+
+-- what a call returned, of which all is known
+pub replies_as : (tree : List Directory) (who : Principal) (start : Components) (ask : Ask) (r : Result (Vec ℕ Global) Refusal)
+    → IfOk r (λ text. text.items ≡ ask_text ask start (answer tree who start (ask_holds ask))) → OnOk r (refusal_of (resolve tree who start) ≡ None)
+    → IfErr r (λ refusal. refusal ≢ refusals.Memory → refusal_of (resolve tree who start) ≡ Some refusal) → Replies r (ask_reply tree who start ask)
+replies_as tree who start ask (Ok text) is found refused = replies_found tree who start ask text found is
+replies_as tree who start ask (Err refusal) is found refused = replies_refused tree who start ask refusal refused
+
+-- ---- the answer's rows ascend, so what is given of every ascending list is given of them
+
+pub lines_of_answer : (tree : List Directory) (who : Principal) (start : Components) (asks : Row → ℕ → Bool) (paths : List Components) (text : List ℕ) → HasTreeShape tree
+    → ArePathsOf paths (answer tree who start asks) → ((rows : List Row) → ArePathsOf paths rows → ascends row_cmp rows ≡ true → text ≡ path_lines rows)
+    → text ≡ path_lines (answer tree who start asks)
+lines_of_answer tree who start asks paths text shape are given = given (answer tree who start asks) are (answer-ascends tree shape who start asks)
+
+pub rows_of_answer : (tree : List Directory) (who : Principal) (start : Components) (asks : Row → ℕ → Bool) (kept rows : List Row) → HasTreeShape tree
+    → IsPermutation kept (answer tree who start asks) → ((other : List Row) → IsPermutation kept other → ascends row_cmp other ≡ true → rows ≡ other)
+    → rows ≡ answer tree who start asks
+rows_of_answer tree who start asks kept rows shape are given = given (answer tree who start asks) are (answer-ascends tree shape who start asks)
 
 -- the start's place
 pub place_found : (tree : List Directory) (who : Principal) (start : Components) (id : DirId) → HasTreeShape tree → resolve tree who start ≡ Found id → id.0 < length tree
@@ -86,23 +109,33 @@ row_found tree who start id row shape found is =
 
 -- ---- what is written of it
 
-pub asked_text : (tree : List Directory) (who : Principal) (start : Components) (ask : Ask) (text : Text) (out : List ℕ) → ask_reply tree who start ask ≡ Ok out
-    → (text.out.items ≡ out) × (text.notes.items ≡ []) → asked tree who start ask ≡ Ok (text_view text)
-unfolding asked
-asked_text tree who start ask text out is (same, none) = rw (is, same, none) refl
+pub written_text : (text : Text) (out : Vec ℕ Global) (given : Result (List ℕ) Refusal) → Replies (Ok out) given
+    → (text.out.items ≡ out.items) × (text.notes.items ≡ []) → Gives text_view (Ok text) (replied given)
+written_text text out given is (same, none) = rw (is, same, none) refl
 
-refused_as : (tree : List Directory) (who : Principal) (start : Components) (ask : Ask) (refusal : Refusal) (r : Result Text Halt) → ask_reply tree who start ask ≡ Err refusal
-    → Gives (λ x. x) r (Err (start_reason refusal)) → Gives text_view r (asked tree who start ask)
-unfolding asked
-refused_as tree who start ask refusal r is given = given_as text_view r (start_reason refusal) _ given (rw is refl)
+refused_as : (refusal : Refusal) (r : Result Text Halt) (given : Result (List ℕ) Refusal) → given ≡ Err refusal
+    → Gives (λ x. x) r (Err (start_reason refusal)) → Gives text_view r (replied given)
+refused_as refusal r given is reason = given_as text_view r (start_reason refusal) _ reason (rw is refl)
 
-pub asked_refused : (tree : List Directory) (who : Principal) (start : Components) (ask : Ask) (refusal : Refusal) (r : Result Text Halt)
-    → (refusal ≢ refusals.Memory → ask_reply tree who start ask ≡ Err refusal) → (refusal ≢ refusals.Memory → Gives (λ x. x) r (Err (start_reason refusal)))
-    → (refusal ≡ refusals.Memory → r ≡ Err halts.Memory) → Gives text_view r (asked tree who start ask)
-asked_refused tree who start ask (refusals.Denied depth class) r is reason memory = refused_as tree who start ask _ r (is (λ e. cc)) (reason (λ e. cc))
-asked_refused tree who start ask (refusals.NoSuch depth) r is reason memory = refused_as tree who start ask _ r (is (λ e. cc)) (reason (λ e. cc))
-asked_refused tree who start ask (refusals.NotDir depth) r is reason memory = refused_as tree who start ask _ r (is (λ e. cc)) (reason (λ e. cc))
-asked_refused tree who start ask refusals.Memory r is reason memory = rw (memory refl) tt
+pub written_refusal : (refusal : Refusal) (r : Result Text Halt) (given : Result (List ℕ) Refusal) → Replies (Err refusal) given
+    → (refusal ≢ refusals.Memory → Gives (λ x. x) r (Err (start_reason refusal))) → (refusal ≡ refusals.Memory → r ≡ Err halts.Memory)
+    → Gives text_view r (replied given)
+written_refusal (refusals.Denied depth class) r given is reason memory = refused_as _ r given (is (λ e. cc)) (reason (λ e. cc))
+written_refusal (refusals.NoSuch depth) r given is reason memory = refused_as _ r given (is (λ e. cc)) (reason (λ e. cc))
+written_refusal (refusals.NotDir depth) r given is reason memory = refused_as _ r given (is (λ e. cc)) (reason (λ e. cc))
+written_refusal refusals.Memory r given is reason memory = rw (memory refl) tt
+
+pub ruleset writing = (written_text, written_refusal)
+
+-- the reply to an ask over a tree, written
+pub asked_written : (tree seen : List Directory) (who : Principal) (start : Components) (ask : Ask) (reply : Result (Vec ℕ Global) Refusal) (r : Result Text Halt) → seen ≡ tree
+    → Replies reply (ask_reply seen who start ask)
+    → ((given : Result (List ℕ) Refusal) → Replies reply given → Gives text_view r (replied given))
+    → Gives text_view r (asked tree who start ask)
+unfolding asked
+asked_written tree seen who start ask reply r same is given = given (ask_reply tree who start ask) (subst (λ t. Replies reply (ask_reply t who start ask)) same is)
+
+pub ruleset asking = asked_written
 
 pub asks_private : AsksArePrivate
 unfolding ask_reply

@@ -7,9 +7,8 @@ use Rattle.gufi_access.specs.declared.class.Principal.{Principal}
 use Rattle.gufi_tree.specs.Tree.{Directory}
 use Rattle.gufi_users.specs.Entries.{UserTables}
 use Rattle.gufi_words.specs.declared.command.Common.{Common}
-use Rattle.gufi_top.specs.Asks.{Ask}
 use Rattle.gufi_top.specs.Reasons.{Reason, tables_in, trace_in}
-use Rattle.gufi_top.specs.Verdict.{asked, user_in, asked_by, index_over, ask_over}
+use Rattle.gufi_top.specs.Verdict.{Asking, asked_if, user_in, asked_by, index_over, ask_over}
 use Rattle.gufi_top.specs.Calls.{Gives, GivesOver}
 use Rattle.gufi_top.specs.Views.{text_view}
 use Rattle.gufi_top.specs.declared.halt.Text.{Text}
@@ -19,43 +18,43 @@ use Rattle.gufi_top.proofs.StepLemmas.{fails_on, over_ok, over_err, given_over}
 
 -- ---- the principal, and then the tree
 
-pub by_ok : (common : Common) (ask : Ask) (tables : UserTables) (tree : List Directory) (who : Principal) (r : Result Text Halt)
-    → Gives {A = Principal} (λ w. w) (Ok who) (user_in common tables) → Gives text_view r (asked tree who common.start ask) → Gives text_view r (asked_by common ask tables tree)
-by_ok common ask tables tree who r read given = rw read given
+pub by_ok : (common : Common) (asking : Asking) (tables : UserTables) (tree : List Directory) (who : Principal) (r : Result Text Halt)
+    → Gives {A = Principal} (λ w. w) (Ok who) (user_in common tables) → Gives text_view r (asked_if tree who common.start (asking tables)) → Gives text_view r (asked_by common asking tables tree)
+by_ok common asking tables tree who r read given = rw read given
 
-pub by_err : (common : Common) (ask : Ask) (tables : UserTables) (tree : List Directory) (e : Halt)
-    → Gives {A = Principal} (λ w. w) (Err e) (user_in common tables) → Gives text_view (Err e) (asked_by common ask tables tree)
-by_err common ask tables tree (halts.Refused status note) read = rw read refl
-by_err common ask tables tree halts.ReadFault read = tt
-by_err common ask tables tree halts.Memory read = tt
+pub by_err : (common : Common) (asking : Asking) (tables : UserTables) (tree : List Directory) (e : Halt)
+    → Gives {A = Principal} (λ w. w) (Err e) (user_in common tables) → Gives text_view (Err e) (asked_by common asking tables tree)
+by_err common asking tables tree (halts.Refused status note) read = rw read refl
+by_err common asking tables tree halts.ReadFault read = tt
+by_err common asking tables tree halts.Memory read = tt
 
 pub ruleset users = (by_ok, by_err)
 
 -- ---- the index's file, and then the principal
 
-pub index_ok : (told : Option Files) (common : Common) (ask : Ask) (tables : UserTables) (tree : List Directory) (r : Result Text Halt)
-    → GivesOver {A = List Directory} told (λ t. t) (Ok tree) (trace_in common.delim common.index) → Gives text_view r (asked_by common ask tables tree) → GivesOver told text_view r (index_over common ask tables)
+pub index_ok : (told : Option Files) (common : Common) (asking : Asking) (tables : UserTables) (tree : List Directory) (r : Result Text Halt)
+    → GivesOver {A = List Directory} told (λ t. t) (Ok tree) (trace_in common.delim common.index) → Gives text_view r (asked_by common asking tables tree) → GivesOver told text_view r (index_over common asking tables)
 unfolding index_over
-index_ok told common ask tables tree r read given =
-    over_ok told (λ t. t) text_view tree r (trace_in common.delim common.index) (λ t files. asked_by common ask tables t) read (given_over told text_view r _ given)
+index_ok told common asking tables tree r read given =
+    over_ok told (λ t. t) text_view tree r (trace_in common.delim common.index) (λ t files. asked_by common asking tables t) read (given_over told text_view r _ given)
 
-pub index_err : (told : Option Files) (common : Common) (ask : Ask) (tables : UserTables) (e : Halt)
-    → GivesOver {A = List Directory} told (λ t. t) (Err e) (trace_in common.delim common.index) → GivesOver told text_view (Err e) (index_over common ask tables)
+pub index_err : (told : Option Files) (common : Common) (asking : Asking) (tables : UserTables) (e : Halt)
+    → GivesOver {A = List Directory} told (λ t. t) (Err e) (trace_in common.delim common.index) → GivesOver told text_view (Err e) (index_over common asking tables)
 unfolding index_over
-index_err told common ask tables e read = over_err told (λ t. t) text_view e (trace_in common.delim common.index) (λ t files. asked_by common ask tables t) read
+index_err told common asking tables e read = over_err told (λ t. t) text_view e (trace_in common.delim common.index) (λ t files. asked_by common asking tables t) read
 
 pub ruleset indexes = (index_ok, index_err)
 
 -- ---- the files of users, and then the index
 
-pub ask_ok : (told : Option Files) (common : Common) (ask : Ask) (tables : UserTables) (r : Result Text Halt)
-    → GivesOver {A = UserTables} told (λ t. t) (Ok tables) (tables_in common.passwd common.group) → GivesOver told text_view r (index_over common ask tables) → GivesOver told text_view r (ask_over common ask)
+pub ask_ok : (told : Option Files) (common : Common) (asking : Asking) (tables : UserTables) (r : Result Text Halt)
+    → GivesOver {A = UserTables} told (λ t. t) (Ok tables) (tables_in common.passwd common.group) → GivesOver told text_view r (index_over common asking tables) → GivesOver told text_view r (ask_over common asking)
 unfolding ask_over
-ask_ok told common ask tables r read given = over_ok told (λ t. t) text_view tables r (tables_in common.passwd common.group) (λ t files. index_over common ask t files) read given
+ask_ok told common asking tables r read given = over_ok told (λ t. t) text_view tables r (tables_in common.passwd common.group) (λ t files. index_over common asking t files) read given
 
-pub ask_err : (told : Option Files) (common : Common) (ask : Ask) (e : Halt)
-    → GivesOver {A = UserTables} told (λ t. t) (Err e) (tables_in common.passwd common.group) → GivesOver told text_view (Err e) (ask_over common ask)
+pub ask_err : (told : Option Files) (common : Common) (asking : Asking) (e : Halt)
+    → GivesOver {A = UserTables} told (λ t. t) (Err e) (tables_in common.passwd common.group) → GivesOver told text_view (Err e) (ask_over common asking)
 unfolding ask_over
-ask_err told common ask e read = over_err told (λ t. t) text_view e (tables_in common.passwd common.group) (λ t files. index_over common ask t files) read
+ask_err told common asking e read = over_err told (λ t. t) text_view e (tables_in common.passwd common.group) (λ t files. index_over common asking t files) read
 
 pub ruleset asks = (ask_ok, ask_err)

@@ -8,17 +8,22 @@ use Rattle.gufi_base.specs.PathLines.{path_lines}
 use Rattle.gufi_access.specs.declared.class.Principal.{Principal}
 use Rattle.gufi_tree.specs.Tree.{Directory}
 use Rattle.gufi_sums.specs.Total.{total}
+use Rattle.gufi_users.specs.Entries.{UserTables}
 use Rattle.gufi_list.specs.Texts.{stat_text}
+use Rattle.gufi_list.specs.Listings.{ls_text, ls_asks}
 use Rattle.gufi_walk.specs.declared.refusal.Refusal.{Refusal}
 use Rattle.gufi_walk.specs.Answer.{reply_rows, Alike}
 
+-- ls has the names of owners, and whether it is long and shows all
 pub data Ask : Type 0 where
   walk_ask : Ask
+  ls_ask : UserTables → Bool → Bool → Ask
   stat_ask : Ask
 
 -- whether an ask admits a row at a depth below its start
 abbrev pub ask_holds : Ask → Row → ℕ → Bool
 ask_holds walk_ask row depth = true
+ask_holds (ls_ask tables long all) row depth = ls_asks all row depth
 ask_holds stat_ask row depth = true
 
 -- The start's own row is among those of an answer.
@@ -28,6 +33,7 @@ stat_lines start rows = flat_map (λ row. stat_text row (total rows)) (filter (�
 -- what is written of the rows that an ask admits below a start
 abbrev pub ask_text : Ask → Components → List Row → List ℕ
 ask_text walk_ask start rows = path_lines rows
+ask_text (ls_ask tables long all) start rows = ls_text rows tables long all
 ask_text stat_ask start rows = stat_lines start rows
 
 -- the refusal of the start, or what is written

@@ -1,7 +1,10 @@
 -- What the program's own calls give: the value of a step, or the reason for which it gives none.
-use Rattle.std.specs.Prelude.{◌≡◌, ◌≢◌, ℕ, ⊤, Option, Some, None, Result, Ok, Err}
+use Rattle.std.specs.Prelude.{◌≡◌, ◌≢◌, ℕ, List, Vec, ⊤, Option, Some, None, Result, Ok, Err}
+use Rattle.std.specs.declared.alloc.Global.{Global}
 use Rattle.gufi_io.specs.Files.{Files}
 use Rattle.gufi_io.specs.Causes.{Rose}
+use Rattle.gufi_walk.specs.declared.refusal.Refusal.{Refusal}
+use Rattle.gufi_walk.specs.declared.refusal.Refusal.TheVariants as refusals
 use Rattle.gufi_top.specs.declared.halt.Halt.{Halt}
 use Rattle.gufi_top.specs.declared.halt.Halt.TheVariants as halts
 use Rattle.gufi_top.specs.Reasons.{Reason}
@@ -21,6 +24,11 @@ Gives view (Err e) step = Fails e step
 abbrev pub GivesOver : {A B : Type 0} → Option Files → (A → B) → Result A Halt → (Files → Result B Reason) → Type 0
 GivesOver None view call step = ⊤
 GivesOver (Some files) view call step = Gives view call (step files)
+
+-- what a reply to an ask returned is the one that is given, unless memory ran out
+abbrev pub Replies : Result (Vec ℕ Global) Refusal → Result (List ℕ) Refusal → Type 0
+Replies (Ok text) given = given ≡ Ok text.items
+Replies (Err refusal) given = refusal ≢ refusals.Memory → given ≡ Err refusal
 
 -- each reason comes only where its count rose
 abbrev pub HaltHasCause : ℕ → ℕ → ℕ → ℕ → Halt → Type 0

@@ -8,12 +8,14 @@ use Rattle.gufi_access.specs.Access.{principal}
 use Rattle.gufi_tree.specs.Tree.{Directory}
 use Rattle.gufi_users.specs.Entries.{UserTables}
 use Rattle.gufi_users.specs.Users.{principal_of}
+use Rattle.gufi_roll.specs.CanRoll.{roll_flags, roll_report, report_text}
+use Rattle.gufi_walk.specs.declared.refusal.Refusal.{Refusal}
 use Rattle.gufi_words.specs.CommandWords.{read_words}
 use Rattle.gufi_words.specs.declared.command.Common.{Common}
 use Rattle.gufi_words.specs.declared.command.Command.{Command}
 use Rattle.gufi_words.specs.declared.command.Command.TheVariants as commands
 use Rattle.gufi_top.specs.Reasons.{Reason, word_refused, words_reason, start_reason, tables_in, trace_in}
-use Rattle.gufi_top.specs.Asks.{Ask, walk_ask, stat_ask, ask_reply}
+use Rattle.gufi_top.specs.Asks.{Ask, walk_ask, ls_ask, stat_ask, ask_reply}
 
 -- what goes to the output, and the note of status 0
 pub record Written : Type 0 where
@@ -26,9 +28,17 @@ pub data Verdict : Type 0 where
 abbrev pub writes_only : List ℕ → Result Verdict Reason
 writes_only text = Ok (writes (record { out = text; notes = [] }))
 
+-- what a reply writes
+abbrev pub replied : Result (List ℕ) Refusal → Result Verdict Reason
+replied reply = result_map_err start_reason reply >>= writes_only
+
 -- the text of an ask over a tree
 unfoldable pub asked : List Directory → Principal → Components → Ask → Result Verdict Reason
-asked tree who start ask = result_map_err start_reason (ask_reply tree who start ask) >>= writes_only
+asked tree who start ask = replied (ask_reply tree who start ask)
+
+-- the same where the query words may be refused
+abbrev pub asked_if : List Directory → Principal → Components → Result Ask Reason → Result Verdict Reason
+asked_if tree who start ask = ask >>= asked tree who start
 
 -- ---- walk: from the root, for a principal in numbers
 
@@ -41,15 +51,33 @@ walk_over trace who delim files = trace_in delim trace files >>= λ tree. asked 
 unfoldable pub user_in : Common → UserTables → Result Principal Reason
 user_in common tables = ok_or (principal_of tables common.user) (word_refused common.user_at)
 
--- USER is judged behind the files
-abbrev pub asked_by : Common → Ask → UserTables → List Directory → Result Verdict Reason
-asked_by common ask tables tree = user_in common tables >>= λ who. asked tree who common.start ask
+-- what a command asks where these are the users, or the reason of its query words
+abbrev pub Asking : Type 0
+Asking = UserTables → Result Ask Reason
 
-unfoldable pub index_over : Common → Ask → UserTables → Files → Result Verdict Reason
-index_over common ask tables files = trace_in common.delim common.index files >>= asked_by common ask tables
+-- USER is judged behind the files, and the query words behind USER
+abbrev pub asked_by : Common → Asking → UserTables → List Directory → Result Verdict Reason
+asked_by common asking tables tree = user_in common tables >>= λ who. asked_if tree who common.start (asking tables)
 
-unfoldable pub ask_over : Common → Ask → Files → Result Verdict Reason
-ask_over common ask files = tables_in common.passwd common.group files >>= λ tables. index_over common ask tables files
+unfoldable pub index_over : Common → Asking → UserTables → Files → Result Verdict Reason
+index_over common asking tables files = trace_in common.delim common.index files >>= asked_by common asking tables
+
+unfoldable pub ask_over : Common → Asking → Files → Result Verdict Reason
+ask_over common asking files = tables_in common.passwd common.group files >>= λ tables. index_over common asking tables files
+
+abbrev pub stat_asking : Asking
+stat_asking tables = Ok stat_ask
+
+abbrev pub ls_asking : Bool → Bool → Asking
+ls_asking long all tables = Ok (ls_ask tables long all)
+
+-- ---- rollup: its report is a note
+
+abbrev pub rolled_up : ℕ → List Directory → Result Verdict Reason
+rolled_up limit tree = Ok (writes (record { out = []; notes = report_text (roll_report tree (roll_flags tree limit)) }))
+
+unfoldable pub rollup_over : List ℕ → ℕ → ℕ → Files → Result Verdict Reason
+rollup_over index delim limit files = trace_in delim index files >>= rolled_up limit
 
 -- ---- each command; one whose work hasn't come is refused at its name
 
@@ -59,11 +87,11 @@ not_open files = Err (word_refused 1)
 unfoldable pub command_over : Command → Files → Result Verdict Reason
 command_over (commands.Walk trace uid gids delim) = walk_over trace (principal uid gids) delim
 command_over (commands.Trace2index trace delim) = not_open
-command_over (commands.Rollup index delim limit) = not_open
+command_over (commands.Rollup index delim limit) = rollup_over index delim limit
 command_over (commands.Query common text) = not_open
 command_over (commands.Find common now words) = not_open
-command_over (commands.Ls common long all) = not_open
-command_over (commands.Stat common) = ask_over common stat_ask
+command_over (commands.Ls common long all) = ask_over common (ls_asking long all)
+command_over (commands.Stat common) = ask_over common stat_asking
 command_over (commands.Stats common report) = not_open
 command_over (commands.Session passwd group delim workers now script) = not_open
 command_over (commands.Gen n delim workers summary) = not_open
@@ -81,7 +109,7 @@ verdict words files = command_in words >>= λ command. command_over command file
 abbrev pub may_refuse : Command → Bool
 may_refuse (commands.Walk trace uid gids delim) = false
 may_refuse (commands.Trace2index trace delim) = true
-may_refuse (commands.Rollup index delim limit) = true
+may_refuse (commands.Rollup index delim limit) = false
 may_refuse (commands.Query common text) = true
 may_refuse (commands.Find common now words) = true
 may_refuse (commands.Ls common long all) = true

@@ -1,47 +1,87 @@
 //! What a command asks of one tree, and what it writes of the answer.
 ghost use Rattle.std.specs.Prelude.{◌≡◌, ◌≢◌, ◌<◌, true, length, slice_index_or, Ok, Err, Some, None, IfOk, IfErr, OnOk};
+ghost use Rattle.gufi_base.specs.PathLines.{path_lines};
 ghost use Rattle.gufi_tree.specs.Tree.{Directory, HasTreeShape, dir_row};
 ghost use Rattle.gufi_tree.specs.Resolve.{resolve};
 ghost use Rattle.gufi_walk.specs.Answer.{answer, refusal_of};
-ghost use Rattle.gufi_top.specs.Asks.{walk_ask, stat_ask, ask_reply};
+ghost use Rattle.gufi_top.specs.Asks.{walk_ask, ls_ask, stat_ask, ask_reply};
+ghost use Rattle.gufi_top.specs.Calls.{Replies};
 ghost use Rattle.gufi_top.specs.Starts.{StartsWithRow};
 
 use gufi_access::Principal;
-use gufi_base::{Always, Bytes, Memory, Path, PathList, Rec, Row, Yield};
-use gufi_list::stat_text;
+use gufi_base::{Always, Bytes, Memory, Path, PathList, Pred, Rec, Row, RowList};
+use gufi_list::{OneBelow, ls_text, stat_text};
 use gufi_snap::Snapshot;
 use gufi_sums::{NoSkip, Summary};
 use gufi_tree::{DirId, Resolved, Tree};
+use gufi_users::Users;
 use gufi_walk::{Refusal, answer_uncounted};
 use std::alloc::{AllocError, Global};
 
-/// All rows that the principal lists from the start.
-fn all_listed<Y: Yield>(
+/// The paths of the rows that the principal lists from the start and that meet the question, a line each, in path order.
+fn paths_text<P: Pred>(
     alloc: Global,
     snap: &Snapshot,
     who: &Principal,
     start: &Path,
-) -> Result<Y, Refusal>
-    ensures rows { IfOk result (λ y. Y.stands_for y (answer snap.now.tree who.now start.now (λ row depth. true))) }
+    pred: &P,
+) -> Result<Vec<u8>, Refusal>
+    ensures text { IfOk result (λ text. text.items ≡ path_lines (answer snap.now.tree who.now start.now (P.sat pred.now))) }
     ensures found { OnOk result (refusal_of (resolve snap.now.tree who.now start.now) ≡ None) }
     ensures refusal { IfErr result (λ refusal. refusal ≢ Refusal.Memory → refusal_of (resolve snap.now.tree who.now start.now) ≡ Some refusal) }
 {
-    answer_uncounted(alloc, snap, who, start, &Always, &NoSkip)
+    let _tree = snap.tree();
+    match answer_uncounted::<P, PathList, NoSkip>(alloc, snap, who, start, pred, &NoSkip) {
+        Ok(paths) => Ok(paths.lines(alloc)?),
+        Err(refusal) => Err(refusal),
+    }
 }
 
-/// The paths of all rows that the principal lists from the start, a line each, in path order.
-pub(crate) fn paths_text(
+/// The rows that the principal lists from the start and that meet the question, in path order.
+fn rows_of<P: Pred>(
+    alloc: Global,
+    snap: &Snapshot,
+    who: &Principal,
+    start: &Path,
+    pred: &P,
+) -> Result<Vec<Row>, Refusal>
+    ensures rows { IfOk result (λ rows. rows.items ≡ answer snap.now.tree who.now start.now (P.sat pred.now)) }
+    ensures found { OnOk result (refusal_of (resolve snap.now.tree who.now start.now) ≡ None) }
+    ensures refusal { IfErr result (λ refusal. refusal ≢ Refusal.Memory → refusal_of (resolve snap.now.tree who.now start.now) ≡ Some refusal) }
+{
+    let _tree = snap.tree();
+    match answer_uncounted::<P, RowList, NoSkip>(alloc, snap, who, start, pred, &NoSkip) {
+        Ok(rows) => Ok(rows.sorted(alloc)?),
+        Err(refusal) => Err(refusal),
+    }
+}
+
+/// The paths of all rows that the principal lists from the start.
+pub(crate) fn walk_text(
     alloc: Global,
     snap: &Snapshot,
     who: &Principal,
     start: &Path,
 ) -> Result<Vec<u8>, Refusal>
-    ensures text { IfOk result (λ text. ask_reply snap.now.tree who.now start.now walk_ask ≡ Ok text.items) }
-    ensures refusal { IfErr result (λ refusal. refusal ≢ Refusal.Memory → ask_reply snap.now.tree who.now start.now walk_ask ≡ Err refusal) }
+    ensures { Replies result (ask_reply snap.now.tree who.now start.now walk_ask) }
 {
-    let _tree = snap.tree();
-    match all_listed::<PathList>(alloc, snap, who, start) {
-        Ok(paths) => Ok(paths.lines(alloc)?),
+    paths_text(alloc, snap, who, start, &Always)
+}
+
+/// The lines of `ls`: the rows one level below the start.
+pub(crate) fn listing_text(
+    alloc: Global,
+    snap: &Snapshot,
+    who: &Principal,
+    start: &Path,
+    users: &Users,
+    long: bool,
+    all: bool,
+) -> Result<Vec<u8>, Refusal>
+    ensures { Replies result (ask_reply snap.now.tree who.now start.now (ls_ask users.now long all)) }
+{
+    match rows_of(alloc, snap, who, start, &OneBelow { all }) {
+        Ok(rows) => Ok(ls_text(alloc, &rows, users, long, all)?),
         Err(refusal) => Err(refusal),
     }
 }
@@ -107,10 +147,9 @@ fn record_with(
     row: &Row,
 ) -> Result<Vec<u8>, Refusal>
     requires { StartsWithRow snap.now.tree who.now start.now row.now }
-    ensures text { IfOk result (λ text. ask_reply snap.now.tree who.now start.now stat_ask ≡ Ok text.items) }
-    ensures refusal { IfErr result (λ refusal. refusal ≢ Refusal.Memory → ask_reply snap.now.tree who.now start.now stat_ask ≡ Err refusal) }
+    ensures { Replies result (ask_reply snap.now.tree who.now start.now stat_ask) }
 {
-    match all_listed::<Summary>(alloc, snap, who, start) {
+    match answer_uncounted::<Always, Summary, NoSkip>(alloc, snap, who, start, &Always, &NoSkip) {
         Ok(sum) => Ok(stat_text(alloc, row, &sum)?),
         Err(refusal) => Err(refusal),
     }
@@ -123,8 +162,7 @@ pub(crate) fn record_text(
     who: &Principal,
     start: &Path,
 ) -> Result<Vec<u8>, Refusal>
-    ensures text { IfOk result (λ text. ask_reply snap.now.tree who.now start.now stat_ask ≡ Ok text.items) }
-    ensures refusal { IfErr result (λ refusal. refusal ≢ Refusal.Memory → ask_reply snap.now.tree who.now start.now stat_ask ≡ Err refusal) }
+    ensures { Replies result (ask_reply snap.now.tree who.now start.now stat_ask) }
 {
     match start_row(alloc, snap, who, start) {
         Ok(row) => record_with(alloc, snap, who, start, &row),

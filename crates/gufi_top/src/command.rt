@@ -8,7 +8,9 @@ ghost use Rattle.gufi_top.specs.Calls.{Gives, GivesOver, OfWordsOnlyIf, IsOfByte
 
 use crate::halt::{Halt, Text, refused};
 use crate::note;
-use crate::query::stat;
+use crate::query::ask;
+use crate::question::{Ls, Stat};
+use crate::rollup::rollup;
 use crate::walk::walk;
 use gufi_access::{Groups, Principal};
 use gufi_base::Nums;
@@ -71,7 +73,21 @@ pub(crate) fn answer_command<F: Shelf>(
             gids,
             delim,
         } => walk_as(alloc, shelf, trace.as_str(), *uid, gids, *delim),
-        Command::Stat { common } => stat(alloc, shelf, common),
+        Command::Rollup {
+            index,
+            delim,
+            limit,
+        } => rollup(alloc, shelf, index.as_str(), *delim, *limit),
+        Command::Ls { common, long, all } => ask(
+            alloc,
+            shelf,
+            common,
+            &Ls {
+                long: *long,
+                all: *all,
+            },
+        ),
+        Command::Stat { common } => ask(alloc, shelf, common, &Stat),
         _ => not_open(alloc),
     }
 }

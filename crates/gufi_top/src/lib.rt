@@ -10,7 +10,9 @@ mod halt;
 mod laws;
 mod note;
 mod query;
+mod question;
 mod reading;
+mod rollup;
 mod run;
 mod start;
 #[cfg(test)]

@@ -5,9 +5,11 @@ ghost use Rattle.gufi_top.specs.Ends.{read_fault_note, write_fault_note, memory_
 ghost use Rattle.gufi_trace.specs.TraceText.{fault_text, failure_text, of_tree};
 ghost use Rattle.std.specs.Prelude.{◌++◌, codes, decimal};
 ghost use Rattle.gufi_users.specs.Users.{user_kind_text};
+ghost use Rattle.gufi_roll.specs.CanRoll.{report_text};
 ghost use Rattle.gufi_base.specs.Words.{line};
 
 use gufi_access::Class;
+use gufi_roll::RollReport;
 use gufi_trace::{TraceFault, put_tree_fault};
 use gufi_tree::TreeFault;
 use gufi_users::UserKind;
@@ -62,6 +64,19 @@ pub(crate) fn word_refused(alloc: Global, word: u32) -> Result<Vec<u8>, AllocErr
     let mut note = format!(in alloc; "gufi: word {word} refused")?.into_bytes();
     note.push(b'\n')?;
     Ok(note)
+}
+
+/// What a roll-up comes to.
+pub(crate) fn report(alloc: Global, report: RollReport) -> Result<Vec<u8>, AllocError>
+    ensures { IfOk result (λ note. note.items ≡ report_text report) }
+{
+    let RollReport {
+        dirs,
+        rolled,
+        tops,
+        rows,
+    } = report;
+    Ok(format!(in alloc; "rolled {rolled} of {dirs} tops {tops} rows {rows}\n")?.into_bytes())
 }
 
 pub(crate) fn read_fault() -> &'static [u8]

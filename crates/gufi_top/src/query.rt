@@ -3,15 +3,14 @@ ghost use Rattle.std.specs.Prelude.{◌≡◌, ◌≢◌, ◌≤◌, IfOk, IfErr
 ghost use Rattle.gufi_users.specs.Entries.{UserTables};
 ghost use Rattle.gufi_access.specs.declared.class.Principal.{Principal as SeenPrincipal};
 ghost use Rattle.gufi_top.specs.Views.{text_view};
-ghost use Rattle.gufi_top.specs.Asks.{stat_ask};
-ghost use Rattle.gufi_top.specs.Verdict.{asked, user_in, asked_by, index_over, ask_over};
+ghost use Rattle.gufi_top.specs.Verdict.{user_in, asked_by, index_over, ask_over};
 ghost use Rattle.gufi_top.specs.Calls.{Gives, GivesOver, IsOfBytes, HaltHasCause};
 
 use crate::halt::{Halt, Text, refused};
 use crate::note;
+use crate::question::Question;
 use crate::reading::read_trace_file;
 use crate::users::read_users;
-use crate::walk::{snapshot_of, stat_snapshot};
 use gufi_access::Principal;
 use gufi_io::Shelf;
 use gufi_tree::Tree;
@@ -32,52 +31,56 @@ fn principal_of(alloc: Global, common: &Common, users: &Users) -> Result<Princip
     }
 }
 
-// What `stat` writes of a tree for a principal.
-fn stat_tree(alloc: Global, common: &Common, tree: Tree, who: &Principal) -> Result<Text, Halt>
-    ensures text { Gives text_view result (asked tree who.now common.now.start stat_ask) }
-    ensures of_bytes { IfErr result IsOfBytes }
-{
-    let snap = snapshot_of(alloc, tree)?;
-    stat_snapshot(alloc, &snap, who, &common.start)
-}
-
-// The same for the word USER.
+// What is written of a tree for the word USER.
 #[tactic(auto, using(crate::proofs::QueryLemmas::users))]
-fn stat_by(alloc: Global, common: &Common, users: &Users, tree: Tree) -> Result<Text, Halt>
-    ensures text { Gives text_view result (asked_by common.now stat_ask users.now tree) }
+fn ask_by<Q: Question>(
+    alloc: Global,
+    common: &Common,
+    question: &Q,
+    users: &Users,
+    tree: Tree,
+) -> Result<Text, Halt>
+    ensures text { Gives text_view result (asked_by common.now (Q.asks question.now) users.now tree) }
     ensures of_bytes { IfErr result IsOfBytes }
 {
     match principal_of(alloc, common, users) {
-        Ok(who) => stat_tree(alloc, common, tree, &who),
+        Ok(who) => question.answer(alloc, users, tree, common.limit, &who, &common.start),
         Err(halt) => Err(halt),
     }
 }
 
 // The same over the index's file.
 #[tactic(auto, using(crate::proofs::QueryLemmas::indexes, crate::proofs::StepLemmas::cause_of_bytes))]
-fn stat_index<F: Shelf>(
+fn ask_index<F: Shelf, Q: Question>(
     alloc: Global,
     shelf: &mut F,
     common: &Common,
+    question: &Q,
     users: &Users,
 ) -> Result<Text, Halt>
-    ensures text { GivesOver (F.files shelf.old) text_view result (index_over common.now stat_ask users.now) }
+    ensures text { GivesOver (F.files shelf.old) text_view result (index_over common.now (Q.asks question.now) users.now) }
     ensures cause { IfErr result (HaltHasCause (F.faults shelf.old) (F.faults shelf.new) (F.absents shelf.old) (F.absents shelf.new)) }
 {
     match read_trace_file(alloc, shelf, common.index.as_str(), common.delim) {
-        Ok(tree) => stat_by(alloc, common, users, tree),
+        Ok(tree) => ask_by(alloc, common, question, users, tree),
         Err(halt) => Err(halt),
     }
 }
 
-/// What `stat` writes: the start's record, and the sum of the rows that the user lists from it.
+/// What a command with a USER and a START writes: the files are read in the order passwd, group and index; then USER is
+/// judged, then the query words, then the start.
 #[tactic(auto, using(crate::proofs::QueryLemmas::asks, crate::proofs::StepLemmas::cause_later))]
-pub(crate) fn stat<F: Shelf>(alloc: Global, shelf: &mut F, common: &Common) -> Result<Text, Halt>
-    ensures text { GivesOver (F.files shelf.old) text_view result (ask_over common.now stat_ask) }
+pub(crate) fn ask<F: Shelf, Q: Question>(
+    alloc: Global,
+    shelf: &mut F,
+    common: &Common,
+    question: &Q,
+) -> Result<Text, Halt>
+    ensures text { GivesOver (F.files shelf.old) text_view result (ask_over common.now (Q.asks question.now)) }
     ensures cause { IfErr result (HaltHasCause (F.faults shelf.old) (F.faults shelf.new) (F.absents shelf.old) (F.absents shelf.new)) }
 {
     match read_users(alloc, shelf, &common.passwd, &common.group) {
-        Ok(users) => stat_index(alloc, shelf, common, &users),
+        Ok(users) => ask_index(alloc, shelf, common, question, &users),
         Err(halt) => Err(halt),
     }
 }

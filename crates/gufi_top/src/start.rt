@@ -1,15 +1,18 @@
-//! Starts that can't be walked from.
-ghost use Rattle.std.specs.Prelude.{◌≡◌, ◌≢◌, Err, IfErr};
+//! What is written of a start, or why it can't be walked from.
+ghost use Rattle.std.specs.Prelude.{◌≡◌, ◌≢◌, ℕ, List, [], Result, Err, IfErr};
+ghost use Rattle.gufi_walk.specs.declared.refusal.Refusal.{Refusal as SeenRefusal};
 ghost use Rattle.gufi_top.specs.Reasons.{start_reason};
-ghost use Rattle.gufi_top.specs.Calls.{Gives, IsOfBytes, IsPastWords};
+ghost use Rattle.gufi_top.specs.Verdict.{replied};
+ghost use Rattle.gufi_top.specs.Views.{text_view};
+ghost use Rattle.gufi_top.specs.Calls.{Gives, IsOfBytes, IsPastWords, Replies};
 
-use crate::halt::{Halt, refused};
+use crate::halt::{Halt, Text, refused};
 use crate::note;
 use gufi_walk::Refusal;
 use std::alloc::Global;
 
 /// The refusal of a start.
-pub(crate) fn refuse_start<T>(alloc: Global, refusal: Refusal) -> Result<T, Halt>
+fn refuse_start<T>(alloc: Global, refusal: Refusal) -> Result<T, Halt>
     ensures reason { refusal ≢ Refusal.Memory → Gives (λ (x : T). x) result (Err (start_reason refusal)) }
     ensures memory { refusal ≡ Refusal.Memory → result ≡ Err Halt.Memory }
     ensures of_bytes { IfErr result IsOfBytes }
@@ -20,5 +23,28 @@ pub(crate) fn refuse_start<T>(alloc: Global, refusal: Refusal) -> Result<T, Halt
         Refusal::NoSuch { depth } => refused(1, note::no_such(alloc, depth)?),
         Refusal::NotDir { depth } => refused(1, note::not_dir(alloc, depth)?),
         Refusal::Memory => Err(Halt::Memory),
+    }
+}
+
+/// A text alone, without a note.
+fn text_of(alloc: Global, out: Vec<u8>) -> Text
+    ensures { (result.out.items ≡ out.items) × (result.notes.items ≡ []) }
+{
+    Text {
+        out,
+        notes: Vec::new(alloc),
+    }
+}
+
+/// What a reply writes: its text, or the note of its start's refusal.
+#[tactic(auto, using(crate::proofs::AskLemmas::writing))]
+pub(crate) fn written(alloc: Global, reply: Result<Vec<u8>, Refusal>) -> Result<Text, Halt>
+    ensures text { (given : Result (List ℕ) SeenRefusal) → Replies reply given → Gives text_view result (replied given) }
+    ensures of_bytes { IfErr result IsOfBytes }
+    ensures past_words { IfErr result IsPastWords }
+{
+    match reply {
+        Ok(out) => Ok(text_of(alloc, out)),
+        Err(refusal) => refuse_start(alloc, refusal),
     }
 }

@@ -59,6 +59,24 @@ const DENIES_GROUP: &[u8] = b"/r|d|1|453|2|101|100|4096|4096|8|10|20|30|\n";
 
 const UNENDED: &[u8] = b"/r|d|1|493|2|101|100|4096|4096|8|10|20|30|";
 
+// Two homes; the second is a group's, and one of its files has a name that isn't UTF-8.
+const HOMES: &[u8] = b"/home|d|1|16877|4|0|0|4096|4096|8|1700000000|1700000000|1700000000|
+/home/ana|d|2|16832|2|1001|1001|4096|4096|8|1700000000|1700000000|1700000000|
+/home/ana/old.h5|f|3|33188|1|1001|1001|1048576|4096|2048|1700000000|1700000000|1700000000|
+/home/proj|d|4|17912|2|0|500|4096|4096|8|1700000000|1700000000|1700000000|
+/home/proj/b\xff.h5|f|5|33184|1|1001|500|100|4096|8|1700000000|1700000000|1700000000|
+/home/proj/run 1.h5|f|6|33184|1|1001|500|2000000|4096|3912|1700000000|1700000000|1700000000|
+";
+
+const USERS: &[u8] = b"root:x:0:0:root:/root:/bin/sh
+ana:x:1001:1001:Ana:/home/ana:/bin/sh
+";
+
+const GROUPS: &[u8] = b"root:x:0:
+ana:x:1001:
+lab:x:500:ana,bob
+";
+
 const WALK: &[&str] = &["walk", "t", "102", "-", "|"];
 
 fn shelf_of<R: AllocGlobal + Abort>(
@@ -72,6 +90,7 @@ fn shelf_of<R: AllocGlobal + Abort>(
     let mut files = Vec::new(alloc);
     files.push((String::from_str(alloc, name)?, bytes))?;
     files.push((String::from_str(alloc, "p")?, users.to_vec(alloc)?))?;
+    files.push((String::from_str(alloc, "g")?, GROUPS.to_vec(alloc)?))?;
     assert!(rt; names_differ(&files));
     Ok(MemShelf::new(files, 65_536, Vec::new(alloc), bad_reads.to_vec(alloc)?))
 }
@@ -133,7 +152,7 @@ fn check_run<R: AllocGlobal + Abort + Threads + Wait>(
 ) -> Result<(), Fail> {
     let case = Case {
         words,
-        users: b"",
+        users: USERS,
         bad_reads: &[],
         bad_writes: &[],
         status,
@@ -284,6 +303,47 @@ fn files_of_users_come_first(rt: HostRuntime) -> Result<(), Fail> {
         note: b"gufi: p line 1 Number\n",
     };
     check(&rt, "t", UNENDED.to_vec(rt.alloc())?, &case)
+}
+
+#[test]
+fn listings_have_names_of_owners(rt: HostRuntime) -> Result<(), Fail> {
+    check_run(
+        &rt,
+        HOMES,
+        &[
+            "ls",
+            "--passwd=p",
+            "--group=g",
+            "--delim=|",
+            "-l",
+            "t",
+            "ana",
+            "/",
+        ],
+        0,
+        b"drwx------ 2 ana ana 4096 1700000000 ana\ndrwxrws--- 2 root lab 4096 1700000000 proj\n",
+        b"",
+    )
+}
+
+#[test]
+fn roll_ups_are_reported(rt: HostRuntime) -> Result<(), Fail> {
+    for (bytes, limit, note) in [
+        (B, "--limit=100", b"rolled 1 of 2 tops 1 rows 2\n"),
+        (D, "--limit=100", b"rolled 3 of 3 tops 1 rows 3\n"),
+        (D, "--limit=2", b"rolled 2 of 3 tops 1 rows 2\n"),
+        (D, "--limit=0", b"rolled 0 of 3 tops 0 rows 0\n"),
+    ] {
+        check_run(
+            &rt,
+            bytes,
+            &["rollup", "--delim=|", limit, "t"],
+            0,
+            b"",
+            note,
+        )?;
+    }
+    Ok(())
 }
 
 #[test]

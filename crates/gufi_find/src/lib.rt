@@ -1,0 +1,13 @@
+//! The expressions of `find` (POSIX.1-2017 XCU find, in a profile of this program).
+//!
+//! Contracts see an expression as a formula of tests with bounds of depth. It stands on patterns, users and formulas;
+//! the top call stands on it.
+#![tactic(auto)]
+
+mod expression;
+mod fault;
+mod reading;
+
+pub use expression::FindExpr;
+pub use fault::{FindError, FindKind};
+pub use reading::read_find;

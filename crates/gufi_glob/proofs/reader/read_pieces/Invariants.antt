@@ -1,0 +1,10 @@
+use Rattle.std.proofs.Common.{length}
+use Rattle.gufi_glob.specs.Pieces.{parts_of}
+use Rattle.gufi_glob.proofs.Reading.{Reads}
+use Rattle.gufi_glob.proofs.reader.read_pieces.Given as goal
+
+abbrev pub invariant-bytes : goal.invariant-bytes
+invariant-bytes l = Reads l.bytes (parts_of l.pieces.items) l.rest
+
+abbrev pub decreases-bytes : goal.decreases-bytes
+decreases-bytes l = length l.rest

@@ -1,0 +1,113 @@
+//! Patterns.
+ghost use Rattle.std.specs.Prelude.{◌≡◌, ◌++◌, ◌&&◌, bytes_eq};
+ghost use Rattle.gufi_base.specs.Words.{GivesUnless};
+ghost use Rattle.gufi_glob.specs.Patterns.{matches, read_pattern};
+ghost use Rattle.gufi_glob.specs.Plain.{ends_with};
+
+use crate::fault::GlobFault;
+use crate::joined::Joined;
+use crate::matcher::match_whole;
+use crate::piece::Piece;
+use crate::reader::{behind_star, is_plain, read_pieces};
+use std::alloc::Global;
+use std::marker::Model;
+
+#[derive(Drop)]
+enum Form {
+    /// Bytes that match themselves.
+    Plain(Vec<u8>),
+    /// A `*` before such bytes.
+    Tail(Vec<u8>),
+    Pieces(Vec<Piece>),
+}
+
+/// A pattern.
+#[derive(Drop)]
+pub struct Glob {
+    form: Form,
+}
+
+impl Model for Glob {
+    ghost use Rattle.std.specs.Prelude.{List};
+    ghost use Rattle.gufi_glob.specs.Parts.{Part};
+
+    ghost Value = { List Part };
+
+    ghost use Rattle.gufi_glob.specs.Forms.{parts_in};
+
+    ghost view = { λ g. parts_in g.form };
+}
+
+/// Whether two pairs of texts are the same. The second is looked at first, as ends of names differ sooner.
+#[inline]
+fn are_same(left: &[u8], front: &[u8], right: &[u8], back: &[u8]) -> bool
+    ensures { result ≡ bytes_eq right.now back.now && bytes_eq left.now front.now }
+{
+    right == back && left == front
+}
+
+/// Whether a text in two pieces is these bytes.
+#[tactic(auto, using(crate::proofs::Texts::cut_eq, crate::proofs::Texts::unlike_short))]
+fn is_text(bytes: &[u8], front: &[u8], back: &[u8]) -> bool
+    ensures { result ≡ bytes_eq bytes.now (front.now ++ back.now) }
+{
+    if bytes.len() < front.len() {
+        return false;
+    }
+    let (left, right) = bytes.split_at(front.len());
+    are_same(left, front, right, back)
+}
+
+/// Whether a text in two pieces ends with these bytes.
+#[tactic(auto, using(crate::proofs::Texts::ends_in_back, crate::proofs::Texts::ends_in_both, crate::proofs::Texts::ends_nowhere))]
+fn ends_text(tail: &[u8], front: &[u8], back: &[u8]) -> bool
+    ensures { result ≡ ends_with (front.now ++ back.now) tail.now }
+{
+    if tail.len() <= back.len() {
+        let (_, last) = back.split_at(back.len() - tail.len());
+        return tail == last;
+    }
+    let (left, right) = tail.split_at(tail.len() - back.len());
+    if left.len() > front.len() {
+        return false;
+    }
+    let (_, last) = front.split_at(front.len() - left.len());
+    are_same(left, last, right, back)
+}
+
+impl Glob {
+    /// The pattern that the bytes write. One allocation where only a first `*` isn't plain.
+    #[tactic(auto, using(crate::proofs::Texts::plain_pattern, crate::proofs::Texts::tail_pattern))]
+    pub fn read(alloc: Global, bytes: &[u8]) -> Result<Glob, GlobFault>
+        ensures { GivesUnless GlobFault.Memory result (read_pattern bytes.now) }
+    {
+        if is_plain(bytes) {
+            let form = Form::Plain(Vec::from_slice(alloc, bytes)?);
+            return Ok(Glob { form });
+        }
+        match behind_star(bytes) {
+            Some(tail) if is_plain(tail) => {
+                let form = Form::Tail(Vec::from_slice(alloc, tail)?);
+                Ok(Glob { form })
+            }
+            _ => {
+                let form = Form::Pieces(read_pieces(alloc, bytes)?);
+                Ok(Glob { form })
+            }
+        }
+    }
+
+    /// Whether it matches a text, which comes in two pieces.
+    ///
+    /// At most as many steps as the pattern and the text are long, multiplied; no memory.
+    #[tactic(auto, using(crate::proofs::Texts::matches_plain, crate::proofs::Texts::matches_tail))]
+    pub fn matches(&self, front: &[u8], back: &[u8]) -> bool
+        ensures { result ≡ matches self.now (front.now ++ back.now) }
+    {
+        match &self.form {
+            Form::Plain(bytes) => is_text(bytes.as_slice(), front, back),
+            Form::Tail(tail) => ends_text(tail.as_slice(), front, back),
+            Form::Pieces(pieces) => match_whole(pieces.as_slice(), Joined { front, back }),
+        }
+    }
+}

@@ -1,0 +1,19 @@
+//! Patterns of file names (POSIX.1-2017 XCU 2.13, in the C locale by bytes).
+//!
+//! Contracts see a pattern as the list of its parts, and a match as a cut of the text into as many pieces.
+//! It stands on `gufi_base`; `find` stands on it.
+#![tactic(auto)]
+
+mod bracket;
+mod fault;
+mod glob;
+mod joined;
+mod matcher;
+mod piece;
+mod reader;
+
+pub use fault::GlobFault;
+pub use glob::Glob;
+
+#[cfg(test)]
+mod tests;

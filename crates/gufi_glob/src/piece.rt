@@ -1,0 +1,66 @@
+//! What a pattern is made of.
+ghost use Rattle.std.specs.Prelude.{◌≡◌, [], ◌∷◌, MatchOption};
+ghost use Rattle.gufi_glob.specs.Patterns.{is_within};
+ghost use Rattle.std.specs.List.{list_any};
+ghost use Rattle.gufi_glob.specs.Pieces.{part_of, takes, is_any_text};
+
+/// A part of a pattern.
+#[derive(Drop)]
+pub(crate) enum Piece {
+    /// Any text, also the empty one.
+    AnyText,
+    OneByte,
+    /// This byte.
+    Byte(u8),
+    /// One byte within some of the ranges, whose ends belong to them; or within none, where it is the complement.
+    ByteIn {
+        complement: bool,
+        ranges: Vec<(u8, u8)>,
+    },
+}
+
+/// Whether a byte is within some of the ranges.
+fn is_within_some(ranges: &[(u8, u8)], byte: u8) -> bool
+    ensures { result ≡ list_any (is_within byte) ranges.now }
+{
+    ranges
+        .iter()
+        .any(|range| range.0 <= byte && byte <= range.1)
+}
+
+impl Piece {
+    /// Whether it is one byte, and matches this one.
+    #[inline]
+    pub(crate) fn takes(&self, byte: u8) -> bool
+        ensures { result ≡ takes (part_of self.now) byte }
+    {
+        match self {
+            Piece::AnyText => false,
+            Piece::OneByte => true,
+            Piece::Byte(own) => *own == byte,
+            Piece::ByteIn { complement, ranges } => {
+                let within = is_within_some(ranges.as_slice(), byte);
+                if *complement { !within } else { within }
+            }
+        }
+    }
+
+    pub(crate) fn is_any_text(&self) -> bool
+        ensures { result ≡ is_any_text (part_of self.now) }
+    {
+        matches!(self, Piece::AnyText)
+    }
+}
+
+/// The first of the parts, and the others.
+#[inline]
+pub(crate) fn split_first(pieces: &[Piece]) -> Option<(&Piece, &[Piece])>
+    ensures { MatchOption result
+        (pieces.now ≡ [])
+        (λ cut. pieces.now ≡ cut.0.now ∷ cut.1.now) }
+{
+    match pieces {
+        [first, others @ ..] => Some((first, others)),
+        [] => None,
+    }
+}

@@ -1,0 +1,116 @@
+//! How a pattern is read.
+ghost use Rattle.std.specs.Prelude.{◌≡◌, ◌≢◌, ◌≤◌, length, [], ◌∷◌, MatchOption, MatchResult, IfOk, IfSome, Ok, Err};
+ghost use Rattle.std.specs.List.{list_all};
+ghost use Rattle.gufi_glob.specs.Patterns.{front_part, escaped_part, bracket_part, closing, sign_length, read_pattern};
+ghost use Rattle.gufi_glob.specs.Pieces.{part_of, parts_of};
+ghost use Rattle.gufi_glob.specs.Plain.{is_plain_byte};
+
+use crate::bracket::{bracket, closing, has_class, is_complemented};
+use crate::fault::GlobFault;
+use crate::piece::Piece;
+use std::alloc::Global;
+
+/// The part at the front of a pattern, and how many bytes behind the first one belong to it.
+#[derive(Drop)]
+struct Front {
+    piece: Piece,
+    used: usize,
+}
+
+fn front_of(piece: Piece, used: usize) -> Front
+    ensures piece { result.piece ≡ piece }
+    ensures used { result.used ≡ used }
+{
+    Front { piece, used }
+}
+
+/// A bracket, of which these bytes stand behind the `[`; or the `[` alone, where nothing closes it.
+fn bracket_front(alloc: Global, rest: &[u8]) -> Result<Front, GlobFault>
+    ensures value { MatchResult result
+        (λ front. front_part 91 rest.now ≡ Ok (part_of front.piece, front.used))
+        (λ e. e ≢ GlobFault.Memory → front_part 91 rest.now ≡ Err e) }
+    ensures within { IfOk result (λ front. front.used ≤ length rest.now) }
+{
+    let complement = is_complemented(rest);
+    let sign = usize::from(complement);
+    let inside = &rest[sign..];
+    match closing(inside) {
+        Some(at) => {
+            let piece = bracket(alloc, complement, &inside[..at])?;
+            Ok(front_of(piece, sign + at + 1))
+        }
+        None => {
+            if has_class(rest) {
+                return Err(GlobFault::BadPattern);
+            }
+            Ok(front_of(Piece::Byte(b'['), 0))
+        }
+    }
+}
+
+/// The part that a byte begins, before these.
+fn front_piece(alloc: Global, first: u8, rest: &[u8]) -> Result<Front, GlobFault>
+    ensures value { MatchResult result
+        (λ front. front_part first rest.now ≡ Ok (part_of front.piece, front.used))
+        (λ e. e ≢ GlobFault.Memory → front_part first rest.now ≡ Err e) }
+    ensures within { IfOk result (λ front. front.used ≤ length rest.now) }
+{
+    match first {
+        b'*' => Ok(front_of(Piece::AnyText, 0)),
+        b'?' => Ok(front_of(Piece::OneByte, 0)),
+        b'\\' => match rest {
+            [next, ..] => Ok(front_of(Piece::Byte(*next), 1)),
+            [] => Err(GlobFault::BadPattern),
+        },
+        b'[' => bracket_front(alloc, rest),
+        _ => Ok(front_of(Piece::Byte(first), 0)),
+    }
+}
+
+/// The first byte, and those behind it.
+fn split_byte(bytes: &[u8]) -> Option<(u8, &[u8])>
+    ensures { MatchOption result
+        (bytes.now ≡ [])
+        (λ cut. bytes.now ≡ cut.0 ∷ cut.1.now) }
+{
+    match bytes {
+        [first, behind @ ..] => Some((*first, behind)),
+        [] => None,
+    }
+}
+
+/// The parts of a pattern.
+pub(crate) fn read_pieces(alloc: Global, bytes: &[u8]) -> Result<Vec<Piece>, GlobFault>
+    ensures { MatchResult result
+        (λ pieces. read_pattern bytes.now ≡ Ok (parts_of pieces.items))
+        (λ e. e ≢ GlobFault.Memory → read_pattern bytes.now ≡ Err e) }
+{
+    let mut pieces = Vec::new(alloc);
+    let mut rest = bytes;
+    'bytes: while let Some((first, behind)) = split_byte(rest) {
+        let front = front_piece(alloc, first, behind)?;
+        pieces.push(front.piece)?;
+        let (_, left) = behind.split_at(front.used);
+        rest = left;
+    }
+    Ok(pieces)
+}
+
+/// Whether each byte matches itself alone.
+pub(crate) fn is_plain(bytes: &[u8]) -> bool
+    ensures { result ≡ list_all is_plain_byte bytes.now }
+{
+    bytes
+        .iter()
+        .all(|b| *b != b'*' && *b != b'?' && *b != b'[' && *b != b'\\')
+}
+
+/// What is behind a first `*`.
+pub(crate) fn behind_star(bytes: &[u8]) -> Option<&[u8]>
+    ensures { IfSome result (λ tail. bytes.now ≡ 42 ∷ tail.now) }
+{
+    match split_byte(bytes) {
+        Some((b'*', tail)) => Some(tail),
+        _ => None,
+    }
+}
