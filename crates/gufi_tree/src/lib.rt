@@ -6,6 +6,7 @@
 
 mod fault;
 mod gather;
+mod likely;
 mod lines;
 mod link;
 mod place;

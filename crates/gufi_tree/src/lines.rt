@@ -7,6 +7,7 @@ ghost use Rattle.gufi_tree.specs.Gathered.{IsArranged};
 
 use crate::fault::{TreeFault, find_fault};
 use crate::gather::gather;
+use crate::likely::order_likely;
 use crate::place::place;
 use crate::sort::{sort_directories, sort_entries};
 use crate::sound::is_sound;
@@ -23,6 +24,7 @@ fn arrange(alloc: Global, lines: Vec<Line>) -> Result<Vec<Stored>, AllocError>
 {
     let gathered = gather(alloc, lines)?;
     let mut stored = gathered.stored;
+    order_likely(alloc, &mut stored)?;
     sort_directories(&mut stored);
     place(&mut stored, gathered.loose)?;
     sort_entries(&mut stored);
