@@ -14,6 +14,7 @@ mod resolve;
 mod shared;
 mod sort;
 mod sound;
+mod stanza;
 mod tree;
 
 pub use fault::TreeFault;

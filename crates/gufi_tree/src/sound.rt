@@ -1,6 +1,6 @@
 //! A quick test that lines are a tree, for lines in which each entry stands behind its directory.
 
-ghost use Rattle.std.specs.Prelude.{◌≡◌, ◌<◌, ◌≤◌, not, ◌&&◌, ◌||◌, false, true, ℕ, List, Bool, map, length, slice_set, None, IsTrue, IfOk, OnOk, IfSome};
+ghost use Rattle.std.specs.Prelude.{◌≡◌, ◌<◌, ◌≤◌, not, ◌&&◌, ◌||◌, false, true, ℕ, List, Bool, map, reverse, length, slice_set, None, IsTrue, IfOk, OnOk, IfSome};
 ghost use Rattle.std.specs.List.{list_any, list_all};
 ghost use Rattle.std.specs.List.Sorted.{IsPermutation};
 ghost use Rattle.std.specs.Ordering.{nat_cmp};
@@ -12,6 +12,7 @@ ghost use Rattle.gufi_base.specs.PathTexts.{kept_text};
 ghost use Rattle.gufi_base.proofs.SortedOnce.{times};
 ghost use Rattle.gufi_tree.specs.Build.{is_dir_line, tree_fault};
 ghost use Rattle.gufi_tree.specs.Texts.{has_text, has_dir_text, is_orphan_by};
+ghost use Rattle.gufi_tree.specs.Grouped.{AreGrouped};
 ghost use Rattle.gufi_tree.specs.Sound.{HasDirTexts, IsStanza, AreStanzas, is_own_entry, rest_of_text, end_of_text, is_marked, IsFilter};
 
 use gufi_base::Line;
@@ -204,40 +205,43 @@ pub(crate) fn stanza_end(lines: &[Line], at: usize) -> usize
     end
 }
 
-fn are_stanzas<'a>(
+/// How many entries each stanza has, where the lines are stanzas without a fault.
+fn stanza_sizes<'a>(
     alloc: Global,
     dirs: &HashSet<&'a [u8]>,
     marks: &[bool],
     lines: &'a [Line],
-) -> Result<bool, AllocError>
+) -> Result<Option<Vec<usize>>, AllocError>
     requires texts { HasDirTexts lines.now (has_text dirs.now) }
     requires filter { IsFilter marks.now (has_text dirs.now) }
-    ensures { IfOk result (λ sound. IsTrue sound → AreStanzas lines.now lines.now) }
+    ensures { IfOk result (λ found. IfSome found (λ sizes. AreStanzas lines.now lines.now × AreGrouped (reverse sizes.items) lines.now)) }
 {
     let mut names = Vec::new(alloc);
+    let mut sizes = Vec::with_capacity(alloc, dirs.len())?;
     let mut at = 0;
     while at < lines.len() {
         let end = stanza_end(lines, at);
         if !is_stanza(dirs, marks, &mut names, &lines[at], &lines[at + 1..end])? {
-            return Ok(false);
+            return Ok(None);
         }
+        sizes.push(end - (at + 1))?;
         at = end;
     }
-    Ok(true)
+    Ok(Some(sizes))
 }
 
-/// Whether lines without a fault are soon seen to be so. Looks each directory's text up twice among hashed texts, and an entry's
-/// only where a directory's name has the same two last bytes.
-pub(crate) fn is_sound(alloc: Global, lines: &[Line]) -> Result<bool, AllocError>
-    ensures { IfOk result (λ sound. IsTrue sound → tree_fault lines.now ≡ None) }
+/// How many entries each stanza has, where lines without a fault are soon seen to be so. Looks each directory's text up twice among
+/// hashed texts, and an entry's only where a directory's name has the same two last bytes.
+pub(crate) fn sound_sizes(alloc: Global, lines: &[Line]) -> Result<Option<Vec<usize>>, AllocError>
+    ensures { IfOk result (λ found. IfSome found (λ sizes. (tree_fault lines.now ≡ None) × AreGrouped (reverse sizes.items) lines.now)) }
 {
     let Some(dirs) = distinct_dirs(alloc, lines)? else {
-        return Ok(false);
+        return Ok(None);
     };
     let root: &[u8] = b"/";
     if !dirs.contains(&root) {
-        return Ok(false);
+        return Ok(None);
     }
     let marks = marks_of(alloc, lines)?;
-    are_stanzas(alloc, &dirs, marks.as_slice(), lines)
+    stanza_sizes(alloc, &dirs, marks.as_slice(), lines)
 }
