@@ -13,7 +13,7 @@ use crate::likely::order_likely;
 use crate::place::place;
 use crate::shared::{share_all, sort_shared};
 use crate::sort::{sort_directories, sort_entries};
-use crate::sound::sound_sizes;
+use crate::sound::{Stanzas, sound_stanzas};
 use crate::stanza::gather_stanzas;
 use crate::tree::{Stored, Tree};
 use gufi_base::Line;
@@ -35,19 +35,19 @@ fn arrange(alloc: Global, lines: Vec<Line>) -> Result<Vec<Arc<Stored, Global>>, 
     share_all(alloc, stored)
 }
 
-/// The directories of the lines, which are stanzas of these sizes, in order.
+/// The directories of the lines, which are these stanzas, in order.
 ///
 /// Linear but for the sorts, of siblings and of the entries of each directory.
 fn arrange_stanzas(
     alloc: Global,
     lines: Vec<Line>,
-    sizes: Vec<usize>,
+    stanzas: Stanzas,
 ) -> Result<Vec<Arc<Stored, Global>>, AllocError>
     requires sound { tree_fault lines.items ≡ None }
-    requires grouped { AreGrouped (reverse sizes.items) lines.items }
+    requires grouped { AreGrouped (reverse stanzas.sizes.items) lines.items }
     ensures { IfOk result (λ shared. IsArranged lines.items (values_of shared.items)) }
 {
-    let mut shared = gather_stanzas(alloc, lines, sizes)?;
+    let mut shared = gather_stanzas(alloc, lines, stanzas)?;
     order_likely(alloc, &mut shared)?;
     sort_shared(&mut shared);
     Ok(shared)
@@ -59,8 +59,8 @@ fn arranged(alloc: Global, lines: Vec<Line>) -> Result<Vec<Arc<Stored, Global>>,
         (λ shared. (tree_fault lines.items ≡ None) × IsArranged lines.items (values_of shared.items))
         (λ fault. fault ≢ TreeFault.Memory → tree_fault lines.items ≡ Some fault) }
 {
-    if let Some(sizes) = sound_sizes(alloc, lines.as_slice())? {
-        return Ok(arrange_stanzas(alloc, lines, sizes)?);
+    if let Some(stanzas) = sound_stanzas(alloc, lines.as_slice())? {
+        return Ok(arrange_stanzas(alloc, lines, stanzas)?);
     }
     if let Some(fault) = find_fault(alloc, lines.as_slice())? {
         return Err(fault);

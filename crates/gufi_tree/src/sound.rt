@@ -19,6 +19,21 @@ use gufi_base::Line;
 use std::alloc::{AllocError, Global};
 use std::collections::HashSet;
 
+/// Stanzas by how many entries each has, and the places that these have in it, in name order.
+#[derive(Drop)]
+pub(crate) struct Stanzas {
+    pub(crate) sizes: Vec<usize>,
+    /// For speed alone: nothing is known of it.
+    pub(crate) order: Vec<u32>,
+}
+
+/// What is left of the text of an entry's path, and the entry's place in its stanza.
+#[derive(Clone, Copy)]
+struct Named<'a> {
+    rest: &'a [u8],
+    place: usize,
+}
+
 /// Adds the text of a directory's path; whether none was there that is equal.
 fn note_new<'a>(texts: &mut HashSet<&'a [u8]>, line: &'a Line) -> Result<bool, AllocError>
     ensures texts { OnOk result ((text : List ℕ) → has_text texts.new text ≡ (has_text texts.old text || has_dir_text text line.now)) }
@@ -124,16 +139,16 @@ fn are_apart<'a>(dirs: &HashSet<&'a [u8]>, marks: &[bool], entries: &'a [Line]) 
 }
 
 /// Whether each name is before the next one.
-fn ascend(names: &[&[u8]]) -> bool
-    ensures { IsTrue result → IsTrue (ascends (slice_cmp nat_cmp) (map (λ name. name.now) names.now)) }
+fn ascend(names: &[Named<'_>]) -> bool
+    ensures { IsTrue result → IsTrue (ascends (slice_cmp nat_cmp) (map (λ name. name.rest.now) names.now)) }
 {
-    names.is_sorted_by(|a, b| a.cmp(b).is_lt())
+    names.is_sorted_by(|a, b| a.rest.cmp(b.rest).is_lt())
 }
 
-fn sort_names(names: &mut Vec<&[u8]>)
+fn sort_names(names: &mut Vec<Named<'_>>)
     ensures { IsPermutation names.old.items names.new.items }
 {
-    names.sort_unstable_by(|a, b| a.cmp(b));
+    names.sort_unstable_by(|a, b| a.rest.cmp(b.rest));
 }
 
 /// What is left of a path's text behind so many bytes.
@@ -147,15 +162,16 @@ fn text_behind(line: &Line, front: usize) -> &[u8]
 
 /// Whether no two of the lines have one path, by what is left of each behind so many bytes.
 fn are_distinct<'a>(
-    names: &mut Vec<&'a [u8]>,
+    names: &mut Vec<Named<'a>>,
     front: usize,
     entries: &'a [Line],
 ) -> Result<bool, AllocError>
     ensures { IfOk result (λ distinct. IsTrue distinct → (path : Components) → times (λ line. path_eq path line.path) entries.now ≤ 1) }
 {
     names.clear();
-    for entry in entries {
-        names.push(text_behind(entry, front))?;
+    for (place, entry) in entries.iter().enumerate() {
+        let rest = text_behind(entry, front);
+        names.push(Named { rest, place })?;
     }
     sort_names(names);
     Ok(ascend(names.as_slice()))
@@ -176,7 +192,7 @@ fn has_parent<'a>(dirs: &HashSet<&'a [u8]>, dir: &'a Line) -> bool
 fn is_stanza<'a>(
     dirs: &HashSet<&'a [u8]>,
     marks: &[bool],
-    names: &mut Vec<&'a [u8]>,
+    names: &mut Vec<Named<'a>>,
     dir: &'a Line,
     entries: &'a [Line],
 ) -> Result<bool, AllocError>
@@ -205,35 +221,44 @@ pub(crate) fn stanza_end(lines: &[Line], at: usize) -> usize
     end
 }
 
-/// How many entries each stanza has, where the lines are stanzas without a fault.
-fn stanza_sizes<'a>(
+/// Adds the places of names.
+fn keep_places(order: &mut Vec<u32>, names: &[Named<'_>]) -> Result<(), AllocError> {
+    for name in names {
+        order.push(u32::try_from(name.place).unwrap_or(0))?;
+    }
+    Ok(())
+}
+
+/// The stanzas of lines without a fault.
+fn stanzas_of<'a>(
     alloc: Global,
     dirs: &HashSet<&'a [u8]>,
     marks: &[bool],
     lines: &'a [Line],
-) -> Result<Option<Vec<usize>>, AllocError>
+) -> Result<Option<Stanzas>, AllocError>
     requires texts { HasDirTexts lines.now (has_text dirs.now) }
     requires filter { IsFilter marks.now (has_text dirs.now) }
-    ensures { IfOk result (λ found. IfSome found (λ sizes. AreStanzas lines.now lines.now × AreGrouped (reverse sizes.items) lines.now)) }
+    ensures { IfOk result (λ found. IfSome found (λ stanzas. AreStanzas lines.now lines.now × AreGrouped (reverse stanzas.sizes.items) lines.now)) }
 {
     let mut names = Vec::new(alloc);
     let mut sizes = Vec::with_capacity(alloc, dirs.len())?;
+    let mut order = Vec::with_capacity(alloc, lines.len())?;
     let mut at = 0;
     while at < lines.len() {
         let end = stanza_end(lines, at);
         if !is_stanza(dirs, marks, &mut names, &lines[at], &lines[at + 1..end])? {
             return Ok(None);
         }
+        keep_places(&mut order, names.as_slice())?;
         sizes.push(end - (at + 1))?;
         at = end;
     }
-    Ok(Some(sizes))
+    Ok(Some(Stanzas { sizes, order }))
 }
 
-/// How many entries each stanza has, where lines without a fault are soon seen to be so. Looks each directory's text up twice among
-/// hashed texts, and an entry's only where a directory's name has the same two last bytes.
-pub(crate) fn sound_sizes(alloc: Global, lines: &[Line]) -> Result<Option<Vec<usize>>, AllocError>
-    ensures { IfOk result (λ found. IfSome found (λ sizes. (tree_fault lines.now ≡ None) × AreGrouped (reverse sizes.items) lines.now)) }
+/// The stanzas, where lines without a fault are soon seen to be so. Looks each directory's text up twice among hashed texts, and an entry's only where a directory's name has the same two last bytes.
+pub(crate) fn sound_stanzas(alloc: Global, lines: &[Line]) -> Result<Option<Stanzas>, AllocError>
+    ensures { IfOk result (λ found. IfSome found (λ stanzas. (tree_fault lines.now ≡ None) × AreGrouped (reverse stanzas.sizes.items) lines.now)) }
 {
     let Some(dirs) = distinct_dirs(alloc, lines)? else {
         return Ok(None);
@@ -243,5 +268,5 @@ pub(crate) fn sound_sizes(alloc: Global, lines: &[Line]) -> Result<Option<Vec<us
         return Ok(None);
     }
     let marks = marks_of(alloc, lines)?;
-    stanza_sizes(alloc, &dirs, marks.as_slice(), lines)
+    stanzas_of(alloc, &dirs, marks.as_slice(), lines)
 }

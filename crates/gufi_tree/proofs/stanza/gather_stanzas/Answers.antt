@@ -8,7 +8,7 @@ use Rattle.gufi_tree.proofs.Grouped.{stanza_taken, none_taken, all_taken, nil_fr
 use Rattle.gufi_tree.proofs.stanza.gather_stanzas.Goals as goal
 
 pub loop-size-init : goal.loop-size-init
-loop-size-init c = rw c.in_ok-shared.ensures.items (none_taken c.args.lines.items c.args.sizes.items c.requires)
+loop-size-init c = rw c.in_ok-shared.ensures.items (none_taken c.args.lines.items c.args.stanzas.sizes.items c.requires)
 
 pub loop-size-preserved : goal.loop-size-preserved
 loop-size-preserved c =

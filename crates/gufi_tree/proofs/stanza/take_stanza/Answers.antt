@@ -1,6 +1,7 @@
 use Rattle.std.proofs.Common.{◌++◌, ◌∷◌, [], length, sym, ap, ◌∙◌, subst, arith, append_assoc, refl}
 use Rattle.std.proofs.lemmas.List.{length-append, map_push}
 use Rattle.std.specs.Arc.{arc_value}
+use Rattle.std.proofs.lemmas.List.Sorted.{IsPermutation-trans}
 use Rattle.gufi_tree.specs.declared.tree.Stored.{Stored}
 use Rattle.gufi_tree.specs.Stored.{values_of}
 use Rattle.gufi_tree.specs.Grouped.{IsStoredOf}
@@ -22,6 +23,6 @@ returns c = λ front entries dir e n stanza.
       (
         arc_value c.in_ok-new.field-0,
         ap values_of c.in_ok-push.ensures.items ∙ map_push arc_value c.args.shared.now.items c.in_ok-new.field-0,
-        subst (IsStoredOf dir entries) (sym made) (stored_of dir c.in-Some.line entries c.in_ok-entries.entries.items _ same t.1 refl refl c.sort_names.ensures.permutation c.sort_names.ensures.order),
+        subst (IsStoredOf dir entries) (sym made) (stored_of dir c.in-Some.line entries c.in_ok-entries.entries.items _ same t.1 refl refl (IsPermutation-trans _ _ _ c.order_entries.ensures c.sort_names.ensures.permutation) c.sort_names.ensures.order),
       ),
     )

@@ -4,7 +4,7 @@ use Rattle.gufi_tree.specs.Texts.{has_text}
 use Rattle.gufi_tree.proofs.Sets.{rooted_is}
 use Rattle.gufi_tree.proofs.Stanzas.{sound_lines}
 use Rattle.gufi_tree.proofs.Grouped.{sized}
-use Rattle.gufi_tree.proofs.sound.sound_sizes.Goals as goal
+use Rattle.gufi_tree.proofs.sound.sound_stanzas.Goals as goal
 
 pub returns : goal.returns
 returns c =
@@ -12,4 +12,4 @@ returns c =
     let dirs = has_text c.in-Some.dirs in
     let known = rw c.in-Some.is at c.in_ok-dirs.ensures in
     let root = sym (rooted_is c.args.lines.now (has_text c.in-Some.dirs) known.named known.texts) ∙ sym c.contains.ensures ∙ c.if-not-contains.false in
-    IfOk-weaker c.stanza_sizes.result _ _ (λ found h. sized _ _ _ found (sound_lines c.args.lines.now (has_text c.in-Some.dirs) known root) h) c.stanza_sizes.ensures
+    IfOk-weaker c.stanzas_of.result _ _ (λ found h. sized _ _ _ found (sound_lines c.args.lines.now (has_text c.in-Some.dirs) known root) h) c.stanzas_of.ensures

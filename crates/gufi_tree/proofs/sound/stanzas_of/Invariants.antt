@@ -2,7 +2,7 @@ use Rattle.std.proofs.Common.{length, ◌-◌, ◌≤◌, take}
 use Rattle.std.specs.Prelude.{reverse}
 use Rattle.gufi_tree.specs.Grouped.{AreGrouped}
 use Rattle.gufi_tree.specs.Sound.{AreStanzas}
-use Rattle.gufi_tree.proofs.sound.stanza_sizes.Given as goal
+use Rattle.gufi_tree.proofs.sound.stanzas_of.Given as goal
 
 abbrev pub invariant-loop-at : goal.invariant-loop-at
 invariant-loop-at l = record {
