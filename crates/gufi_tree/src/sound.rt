@@ -27,6 +27,13 @@ pub(crate) struct Stanzas {
     pub(crate) order: Vec<u32>,
 }
 
+/// The texts of the paths of directories, and marks on how they end.
+#[derive(Drop)]
+struct Dirs<'a> {
+    texts: HashSet<&'a [u8]>,
+    marks: Vec<bool>,
+}
+
 /// What is left of the text of an entry's path, and the entry's place in its stanza.
 #[derive(Clone, Copy)]
 struct Named<'a> {
@@ -46,19 +53,6 @@ fn note_new<'a>(texts: &mut HashSet<&'a [u8]>, line: &'a Line) -> Result<bool, A
     }
     let new = texts.insert(text)?;
     Ok(new)
-}
-
-/// The texts of the paths of the directories, where no two are equal.
-fn distinct_dirs(alloc: Global, lines: &[Line]) -> Result<Option<HashSet<&[u8]>>, AllocError>
-    ensures { IfOk result (λ found. IfSome found (λ set. HasDirTexts lines.now (has_text set))) }
-{
-    let mut texts = HashSet::with_capacity(alloc, lines.len() / 4)?;
-    for line in lines {
-        if !note_new(&mut texts, line)? {
-            return Ok(None);
-        }
-    }
-    Ok(Some(texts))
 }
 
 /// A number for the two last bytes of a text before its last slash.
@@ -102,15 +96,20 @@ fn no_marks(alloc: Global) -> Result<Vec<bool>, AllocError> {
     vec![in alloc; false; 65536]
 }
 
-/// Marks how the texts of the directories end.
-fn marks_of(alloc: Global, lines: &[Line]) -> Result<Vec<bool>, AllocError>
-    ensures { IfOk result (λ marks. IsFilter marks.items (λ text. list_any (has_dir_text text) lines.now)) }
+/// The texts of the paths of the directories, where no two are equal, and marks on how they end.
+fn distinct_dirs(alloc: Global, lines: &[Line]) -> Result<Option<Dirs<'_>>, AllocError>
+    ensures texts { IfOk result (λ found. IfSome found (λ dirs. HasDirTexts lines.now (has_text dirs.texts))) }
+    ensures marks { IfOk result (λ found. IfSome found (λ dirs. IsFilter dirs.marks.items (λ text. list_any (has_dir_text text) lines.now))) }
 {
+    let mut texts = HashSet::with_capacity(alloc, lines.len() / 4)?;
     let mut marks = no_marks(alloc)?;
     for line in lines {
+        if !note_new(&mut texts, line)? {
+            return Ok(None);
+        }
         mark_dir(&mut marks, line);
     }
-    Ok(marks)
+    Ok(Some(Dirs { texts, marks }))
 }
 
 /// Whether a text is no directory's. Looks it up only where a directory's text ends as it does.
@@ -264,9 +263,8 @@ pub(crate) fn sound_stanzas(alloc: Global, lines: &[Line]) -> Result<Option<Stan
         return Ok(None);
     };
     let root: &[u8] = b"/";
-    if !dirs.contains(&root) {
+    if !dirs.texts.contains(&root) {
         return Ok(None);
     }
-    let marks = marks_of(alloc, lines)?;
-    stanzas_of(alloc, &dirs, marks.as_slice(), lines)
+    stanzas_of(alloc, &dirs.texts, dirs.marks.as_slice(), lines)
 }
