@@ -1,24 +1,22 @@
 -- Stanzas, and directories that are made of them from the last one on.
-use Rattle.std.proofs.Common.{◌≡◌, Bool, ℕ, ◌+◌, ◌-◌, ◌<◌, ◌≤◌, true, false, not, ◌&&◌, List, [], ◌∷◌, ◌++◌, map, length, take, drop, get_or, Option, Some, None, refl, sym, ap, ◌∙◌, subst, arith, append_assoc}
+use Rattle.std.proofs.Common.{◌≡◌, Bool, ℕ, ◌+◌, ◌-◌, ◌<◌, ◌≤◌, true, not, List, [], ◌∷◌, ◌++◌, map, length, take, drop, get_or, Option, Some, None, refl, sym, ap, ◌∙◌, subst, arith, append_assoc}
 use Rattle.std.specs.Prelude.{reverse, IfSome}
 use Rattle.std.specs.List.{list_all, flat_map, All}
 use Rattle.std.specs.List.Sorted.{IsPermutation, IsSortedBy}
-use Rattle.std.proofs.lemmas.Bool.{and_parts, and_from, false≢true}
-use Rattle.std.proofs.lemmas.List.{reverse-append, length-append, length-take, length-drop, map_push, map-append, append-nil, get_or-map, length-map}
+use Rattle.std.proofs.lemmas.Bool.{and_parts, and_from}
+use Rattle.std.proofs.lemmas.List.{reverse-append, length-take, length-drop, map_push, map-append, append-nil, get_or-map, length-map}
 use Rattle.std.specs.declared.sync.Arc.{Arc}
 use Rattle.std.specs.Arc.{arc_value}
-use Rattle.std.specs.Ordering.{is_lt}
 use Rattle.gufi_tree.specs.Stored.{values_of}
 use Rattle.gufi_tree.specs.Gathered.{IsGathered}
 use Rattle.gufi_tree.specs.Grouped.{IsTaken}
 use Rattle.gufi_base.specs.Kinds.{is_dir}
 use Rattle.gufi_tree.proofs.Placed.{list_all-IsPermutation}
-use Rattle.std.proofs.lemmas.List.Folds.{list_all-map}
 use Rattle.gufi_base.proofs.Permutations.{IsPermutation-flat_map}
 use Rattle.std.proofs.lemmas.List.Folds.{list_all-append}
 use Rattle.std.proofs.lemmas.List.Elements.{All-push, All-nil}
 use Rattle.std.proofs.lemmas.List.Concat.{flat_map-append}
-use Rattle.std.proofs.lemmas.List.Sorted.{IsPermutation-refl, IsPermutation-trans, IsPermutation-sym, IsPermutation-map, IsPermutation-reverse, IsPermutation-append_left, IsPermutation-append_right, IsPermutation-append_comm, All-permutation}
+use Rattle.std.proofs.lemmas.List.Sorted.{IsPermutation-refl, IsPermutation-trans, IsPermutation-map, IsPermutation-reverse, IsPermutation-append_right, IsPermutation-append_comm}
 use Rattle.gufi_base.specs.declared.record.Line.{Line}
 use Rattle.gufi_base.specs.declared.record.Row.{Row}
 use Rattle.gufi_base.specs.declared.record.Rec.{Rec}
@@ -27,11 +25,11 @@ use Rattle.gufi_base.specs.Paths.{Components, is_child_of}
 use Rattle.gufi_base.proofs.Parts.{all_but_last_push, last_of_push}
 use Rattle.gufi_tree.specs.declared.tree.Entry.{Entry}
 use Rattle.gufi_tree.specs.declared.tree.Stored.{Stored}
-use Rattle.gufi_tree.specs.Tree.{Directory, dir_row, entry_row, own_rows, is_kinded}
+use Rattle.gufi_tree.specs.Tree.{entry_row, own_rows, is_kinded}
 use Rattle.gufi_tree.specs.Stored.{directory_of, directories_of}
-use Rattle.gufi_tree.specs.Build.{is_dir_line, entry_of_line, tree_fault}
+use Rattle.gufi_tree.specs.Build.{is_dir_line, entry_of_line}
 use Rattle.gufi_tree.specs.Gathered.{row_of_line, rows_of}
-use Rattle.gufi_tree.specs.Sound.{is_own_entry, AreStanzas}
+use Rattle.gufi_tree.specs.Sound.{is_own_entry}
 use Rattle.gufi_tree.specs.Grouped.{IsStanzaOf, AreGrouped, HasOrder, IsStoredOf, IsOneMore}
 use Rattle.gufi_tree.proofs.Pushed.{child_path}
 use Rattle.gufi_tree.proofs.Stanzas.{take_stanza}

@@ -20,9 +20,7 @@ use gufi_base::Line;
 use std::alloc::{AllocError, Global};
 use std::sync::Arc;
 
-/// The directories of the lines, in order.
-///
-/// Linear but for the sorts, where each entry stands behind its directory.
+/// The directories of the lines, in order, also where entries stand apart from their directories.
 fn arrange(alloc: Global, lines: Vec<Line>) -> Result<Vec<Arc<Stored, Global>>, AllocError>
     requires { tree_fault lines.items ≡ None }
     ensures { IfOk result (λ shared. IsArranged lines.items (values_of shared.items)) }

@@ -1,4 +1,4 @@
-use Rattle.std.proofs.Common.{◌≡◌, ◌∙◌, ap, List, ℕ, map, subst, arith, true}
+use Rattle.std.proofs.Common.{◌≡◌, ◌∙◌, ap, List, map, subst, arith, true}
 use Rattle.gufi_tree.specs.declared.sound.Named.{Named}
 use Rattle.std.specs.Ordering.{nat_cmp}
 use Rattle.std.specs.Cmp.Lexicographic.{slice_cmp}

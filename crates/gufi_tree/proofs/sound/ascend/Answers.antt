@@ -1,4 +1,4 @@
-use Rattle.std.proofs.Common.{◌≡◌, Bool, List, ℕ, sym, subst, rules, is_lt}
+use Rattle.std.proofs.Common.{◌≡◌, Bool, sym, subst, rules, is_lt}
 use Rattle.gufi_tree.specs.declared.sound.Named.{Named}
 use Rattle.std.specs.Ordering.{nat_cmp}
 use Rattle.std.specs.Cmp.Lexicographic.{slice_cmp}

@@ -2,7 +2,6 @@ use Rattle.std.proofs.Common.{◌++◌, ◌∷◌, [], length, sym, ap, ◌∙�
 use Rattle.std.proofs.lemmas.List.{length-append, map_push}
 use Rattle.std.specs.Arc.{arc_value}
 use Rattle.std.proofs.lemmas.List.Sorted.{IsPermutation-trans}
-use Rattle.gufi_tree.specs.declared.tree.Stored.{Stored}
 use Rattle.gufi_tree.specs.Stored.{values_of}
 use Rattle.gufi_tree.specs.Grouped.{IsStoredOf}
 use Rattle.gufi_tree.proofs.Grouped.{front_same, last_same, stored_of}
