@@ -58,11 +58,11 @@ pub fn read_kind(text: &[u8]) -> Option<Kind>
 }
 
 /// What a file system says of a file: sizes in bytes, blocks of 512 bytes, times in seconds since the epoch.
+///
+/// Fields lie in this order, so the short ones come last.
 #[derive(Clone, Copy, Debug, PartialEq, Eq)]
 pub struct Meta {
-    pub kind: Kind,
     pub inode: u64,
-    pub mode: u16,
     pub nlink: u64,
     pub uid: u32,
     pub gid: u32,
@@ -72,6 +72,8 @@ pub struct Meta {
     pub atime: i64,
     pub mtime: i64,
     pub ctime: i64,
+    pub mode: u16,
+    pub kind: Kind,
 }
 
 /// The record of a file, with the target of a link.

@@ -1,41 +1,63 @@
 //! Expressions, and their truth at a row.
-ghost use Rattle.std.specs.Prelude.{◌≡◌};
+ghost use Rattle.std.specs.Prelude.{◌≡◌, ◌&&◌, nat_le};
 ghost use Rattle.gufi_base.specs.declared.record.Row.{Row};
 ghost use Rattle.gufi_base.specs.Rows.{Stands, StandsForSome};
-ghost use Rattle.gufi_find.specs.Expressions.{find_holds};
+ghost use Rattle.gufi_find.specs.Expressions.{find_holds, is_at_most};
 
+use crate::condition::Condition;
 use gufi_base::{Memory, Pred, RowRef};
 use std::alloc::Global;
-use std::convert::Infallible;
 use std::marker::Model;
 
 /// An expression, which is true or false of a row and its depth below the start.
 #[derive(Drop)]
 pub struct FindExpr {
-    never: Infallible,
+    condition: Condition,
+    least_depth: u32,
+    most_depth: Option<u32>,
 }
 
 impl Model for FindExpr {
-    ghost use Rattle.std.specs.Prelude.{None};
-    ghost use Rattle.gufi_formula.specs.Formulas.{test};
-    ghost use Rattle.gufi_find.specs.Expressions.{Find, always};
     ghost use Rattle.std.specs.Coded.{codes};
     ghost use Rattle.gufi_formula.specs.FormulaCodes.{formula_coded};
+    ghost use Rattle.gufi_find.specs.Expressions.{Find};
 
     ghost Value = { Find };
 
     ghost coded = { Prim.hlevel (codes, formula_coded) };
 
-    ghost view = { λ _. record { expr = test always; least_depth = 0; most_depth = None } };
+    ghost view = { λ e. record { expr = e.condition; least_depth = e.least_depth; most_depth = e.most_depth } };
 }
 
 impl FindExpr {
-    /// Whether it is true of a row at that depth below the start, and the depth within its bounds.
+    pub(crate) fn of(condition: Condition, least_depth: u32, most_depth: Option<u32>) -> FindExpr
+        ensures { result ≡ record { expr = condition; least_depth = least_depth; most_depth = most_depth } }
+    {
+        FindExpr {
+            condition,
+            least_depth,
+            most_depth,
+        }
+    }
+
+    /// Whether a depth is within the bounds.
+    fn is_within(&self, depth: u32) -> bool
+        ensures { result ≡ nat_le self.now.least_depth depth && is_at_most self.now.most_depth depth }
+    {
+        self.least_depth <= depth
+            && match self.most_depth {
+                Some(most) => depth <= most,
+                None => true,
+            }
+    }
+
+    /// Whether it is true of a row at that depth below the start, and the depth within its bounds. No memory.
+    #[tactic(auto, using(crate::proofs::RowLemmas::truth_of_parts))]
     pub fn sat(&self, row: RowRef<'_>, depth: u32) -> bool
         requires { StandsForSome row }
         ensures { (of : Row) → Stands row.entry of → result ≡ find_holds self.now of depth }
     {
-        match self.never {}
+        self.is_within(depth) && self.condition.is_true(row)
     }
 }
 

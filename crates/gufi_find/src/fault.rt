@@ -1,8 +1,5 @@
 //! What may be wrong with the words of an expression.
-ghost use Rattle.std.specs.Prelude.{◌≡◌};
-ghost use Rattle.gufi_find.specs.declared.fault.FindError.TheVariants.{Memory};
-
-use std::alloc::AllocError;
+use std::alloc::{AllocError, AllocFailed};
 use std::fmt;
 use thiserror::Error;
 
@@ -58,9 +55,41 @@ pub enum FindError {
 }
 
 impl From<AllocError> for FindError {
+    ghost use Rattle.std.specs.Prelude.{◌≡◌};
+    ghost use Rattle.gufi_find.specs.declared.fault.FindError.TheVariants.{Memory};
+
     ghost from_gives = { λ _ e. e ≡ Memory };
 
     fn from(_: AllocError) -> FindError {
         FindError::Memory
+    }
+}
+
+/// Why a word isn't taken.
+#[derive(Clone, Copy, Debug, PartialEq, Eq)]
+pub(crate) enum WordFault {
+    Kind(FindKind),
+    Memory,
+}
+
+impl From<AllocError> for WordFault {
+    ghost use Rattle.std.specs.Prelude.{◌≡◌};
+    ghost use Rattle.gufi_find.specs.declared.fault.WordFault.TheVariants.{Memory};
+
+    ghost from_gives = { λ _ e. e ≡ Memory };
+
+    fn from(_: AllocError) -> WordFault {
+        WordFault::Memory
+    }
+}
+
+impl<T: Drop> From<AllocFailed<T>> for WordFault {
+    ghost use Rattle.std.specs.Prelude.{◌≡◌};
+    ghost use Rattle.gufi_find.specs.declared.fault.WordFault.TheVariants.{Memory};
+
+    ghost from_gives = { λ _ e. e ≡ Memory };
+
+    fn from(_: AllocFailed<T>) -> WordFault {
+        WordFault::Memory
     }
 }

@@ -4,9 +4,19 @@
 //! the top call stands on it.
 #![tactic(auto)]
 
+mod comparison;
+mod condition;
 mod expression;
 mod fault;
+mod level;
+mod numbers;
+mod operand;
+mod place;
+mod primary;
 mod reading;
+mod state;
+mod step;
+mod test;
 
 pub use expression::FindExpr;
 pub use fault::{FindError, FindKind};

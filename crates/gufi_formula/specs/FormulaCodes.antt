@@ -1,5 +1,5 @@
 -- A code for formulas, by which a type that contracts see as something with a formula in it is told apart.
-use Rattle.std.specs.Prelude.{◌≡◌, ◌⊎◌, ℕ, zero, suc, List, [], ◌∷◌, ◌++◌, Option, Some, None, slice_get, refl}
+use Rattle.std.specs.Prelude.{◌≡◌, ◌⊎◌, ℕ, zero, suc, List, [], ◌∷◌, ◌++◌, refl}
 use Rattle.std.proofs.Common.{ap, ◌∙◌, sym, inl, inr, append_assoc, append-nil}
 use Rattle.std.specs.Coded.{Coded, coded_ℕ, coded_list, coded⊎}
 use base.Stored.{coded_via}

@@ -1,7 +1,8 @@
 //! The rows at and below each directory, and whether all below it is covered.
 
-ghost use Rattle.std.specs.Prelude.{◌≡◌, ◌<◌, ◌+◌, ◌&&◌, length, slice_index_or, IfOk};
-ghost use Rattle.gufi_access.specs.Access.{rights};
+ghost use Rattle.std.specs.Prelude.{◌≡◌, ◌<◌, ◌+◌, ◌%◌, ◌&&◌, true, length, slice_index_or, IfOk, IsTrue};
+ghost use Rattle.gufi_access.specs.declared.class.Principal.{Principal};
+ghost use Rattle.gufi_access.specs.Access.{rights, has_bits, can_list};
 ghost use Rattle.gufi_access.specs.Tried.{covers};
 ghost use Rattle.gufi_tree.specs.Tree.{Directory, rights_of};
 ghost use Rattle.gufi_roll.specs.Below.{IsBelow, AreBelow};
@@ -17,10 +18,30 @@ pub(crate) struct Below {
     pub(crate) covered: bool,
 }
 
-/// Whether a guard covers another; equal guards are not tried.
+/// Whether the three bits of a class, the lowest of these, let it read and search.
+fn let_list(bits: u16) -> bool
+    ensures { result ≡ has_bits (bits % 8) 5 }
+{
+    (bits & 7) & 5 == 5
+}
+
+/// Whether every class may read and search, so that everyone may list.
+fn is_open(guard: &Guard) -> bool
+    ensures { IsTrue result → (who : Principal) → can_list who (rights guard.now) ≡ true }
+{
+    let owner = let_list(guard.mode >> 6);
+    let group = let_list(guard.mode >> 3);
+    let other = let_list(guard.mode);
+    owner & group & other
+}
+
+/// Whether a guard covers another; no principal is tried where the two are equal or everyone may list the other.
 fn covers_next(parent: &Guard, child: &Guard) -> bool
     ensures { result ≡ covers (rights parent.now) (rights child.now) }
 {
+    if is_open(child) {
+        return true;
+    }
     parent == child || covers(parent, child)
 }
 

@@ -11,14 +11,24 @@ use std::alloc::{AllocError, Global};
 
 /// Which directories are rolled up where a roll-up may have so many rows: a flag for each directory, in path order.
 ///
-/// Linear in the directories: each parent and child are compared once.
+/// Linear in the directories: each parent and child are compared once. Under limit 0 nothing is looked at: each has a row.
 pub fn roll(alloc: Global, tree: &Tree, limit: u64) -> Result<Vec<bool>, Memory>
     ensures value { IfOk result (λ flags. flags.items ≡ roll_flags tree.now limit) }
     ensures known { IfOk result (λ flags. AreFlags tree.now flags.items) }
 {
+    if limit == 0 {
+        return Ok(none_rolled(alloc, tree)?);
+    }
     let found = all_below(alloc, tree)?;
     let flags = flags_of(alloc, tree, found.as_slice(), limit)?;
     Ok(flags)
+}
+
+/// The flags under limit 0.
+fn none_rolled(alloc: Global, tree: &Tree) -> Result<Vec<bool>, AllocError>
+    ensures { IfOk result (λ flags. flags.items ≡ roll_flags tree.now 0) }
+{
+    Vec::from_elem(alloc, false, tree.dirs() as usize)
 }
 
 fn fits(below: &Below, limit: u64) -> bool

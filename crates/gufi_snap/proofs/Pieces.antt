@@ -1,58 +1,54 @@
--- What a snapshot under limit 0 knows: nothing is rolled up, so a piece is a directory's own rows.
-use Rattle.std.proofs.Common.{◌≡◌, ℕ, ◌<◌, ◌≤◌, ◌^◌, Bool, true, false, not, ◌&&◌, ◌||◌, List, ◌++◌, length, get_or, refl, ap, ◌∙◌, arith, length-append}
-use Rattle.std.proofs.lemmas.Bool.Decides.{nat_tests}
-use Rattle.std.specs.Prelude.{nat_le}
-use Rattle.std.specs.List.{filter, flat_map, list_all}
+-- What a snapshot knows of the rows of a directory, and of those at and below it.
+use Rattle.std.proofs.Common.{◌≡◌, ℕ, ◌<◌, ◌≤◌, ◌^◌, Bool, true, false, cond, List, ◌++◌, length, get_or, arith}
+use Rattle.std.specs.Prelude.{Result, Ok, Err, OnOk}
+use Rattle.std.specs.List.{filter, flat_map}
 use Rattle.std.specs.List.Sorted.{IsPermutation}
 use Rattle.std.proofs.lemmas.List.Sorted.{IsPermutation-append_right, IsPermutation-sym, length_permutation}
 use Rattle.gufi_base.specs.declared.record.Row.{Row}
-use Rattle.gufi_base.specs.Paths.{is_proper_prefix}
-use Rattle.gufi_base.specs.Rows.{row_cmp}
+use Rattle.gufi_base.specs.Paths.{Components, path_eq, is_prefix}
+use Rattle.gufi_base.specs.Rows.{row_cmp, home}
 use Rattle.gufi_base.proofs.Permutations.{IsPermutation-filter}
 use Rattle.gufi_base.proofs.Sorting.{IsPermutation-sort_by}
-use Rattle.gufi_tree.specs.Tree.{Directory, own_rows, all_rows, HasTreeShape}
-use Rattle.gufi_tree.specs.Places.{path_at, child_ids}
-use Rattle.gufi_tree.proofs.Kids.{at_place, rows_under, rows_under-step, subtree_rows-under, home_rows-own}
-use Rattle.gufi_roll.specs.CanRoll.{is_covered, can_roll, rows_below}
+use Rattle.gufi_tree.specs.Tree.{Directory, own_rows, all_rows, home_rows, subtree_rows, HasTreeShape}
+use Rattle.gufi_tree.specs.Places.{path_at}
+use Rattle.gufi_tree.proofs.Kids.{at_place, rows_under, subtree_rows-under, home_rows-own}
+use Rattle.gufi_store.proofs.Entries.{length-filter_le}
+use Rattle.gufi_roll.specs.CanRoll.{can_roll}
 use Rattle.gufi_sums.specs.declared.summary.Summary.{Summary}
 use Rattle.gufi_sums.specs.Laws.{IsTotal-reordered}
 use Rattle.gufi_snap.specs.Pieces.{piece}
 use Rattle.gufi_snap.specs.SumsByPlace.{AreOwn, AreUnderFrom}
 use Rattle.gufi_snap.specs.Kept.{AreOwnSums, AreTreeSums}
 
-and_false : (b : Bool) → (b && false) ≡ false
-and_false true = refl
-and_false false = refl
+pub on_ok : {T E : Type 0} (r : Result T E) (P Q : Type 0) → (P → Q) → OnOk r P → OnOk r Q
+on_ok (Ok x) P Q f h = f h
+on_ok (Err e) P Q f h = tt
 
 pub few_rows : (tree : List Directory) → length (flat_map own_rows tree) < 2 ^ 32 → length (all_rows tree) < 2 ^ 40
 few_rows tree few = let a = length_permutation _ _ (IsPermutation-sort_by row_cmp (flat_map own_rows tree)) in omega arith
 
+-- no piece has more rows than there are
+pub piece-few : (tree : List Directory) (path : Components) (limit : ℕ) → length (piece tree path limit) ≤ length (all_rows tree)
+piece-few tree path limit = by (can_roll tree limit path) where
+  by : (b : Bool) → length (cond b (subtree_rows tree path) (home_rows tree path)) ≤ length (all_rows tree)
+  by true = length-filter_le (λ row. is_prefix path (home row)) (all_rows tree)
+  by false = length-filter_le (λ row. path_eq path (home row)) (all_rows tree)
+
 module _ (tree : List Directory) (shape : HasTreeShape tree) (k : ℕ) (within : k < length tree) where
-  some_below : 1 ≤ rows_below tree (path_at tree k)
-  some_below =
-      let d = (at_place tree k within).0 in
-      let a = length_permutation _ _ (subtree_rows-under tree shape (path_at tree k)) in
-      let b = length_permutation _ _ (rows_under-step tree shape k d within) in
-      let c = length-append (own_rows (get_or tree k d)) (flat_map (λ id. rows_under tree (path_at tree id.0)) (child_ids tree (path_at tree k))) in
-      omega arith
+  -- a directory's rows are its own rows, up to their order
+  pub own-length : (d : Directory) → length (home_rows tree (path_at tree k)) ≡ length (own_rows (get_or tree k d))
+  own-length d = length_permutation _ _ (IsPermutation-sym _ _ (home_rows-own tree shape k d within))
 
-  pub nothing_rolled : can_roll tree 0 (path_at tree k) ≡ false
-  nothing_rolled =
-      let none : nat_le (rows_below tree (path_at tree k)) 0 ≡ false = over (rows_below tree (path_at tree k)) some_below in
-      ap (λ b. list_all (λ dir. not (is_proper_prefix (path_at tree k) dir.path) || is_covered tree dir) tree && b) none
-      ∙ and_false (list_all (λ dir. not (is_proper_prefix (path_at tree k) dir.path) || is_covered tree dir) tree) where
-        over : (n : ℕ) → 1 ≤ n → nat_le n 0 ≡ false
-        over n h = grind (arith, nat_tests)
+  pub own-met : (d : Directory) (met : Row → Bool) (rows : List Row) → IsPermutation (rows ++ filter met (own_rows (get_or tree k d))) (rows ++ filter met (home_rows tree (path_at tree k)))
+  own-met d met rows = IsPermutation-append_right rows _ _ (IsPermutation-filter met _ _ (IsPermutation-sym _ _ (home_rows-own tree shape k d within)))
 
-  -- a piece is the own rows of the directory, up to their order
-  pub piece-own : (d : Directory) → IsPermutation (own_rows (get_or tree k d)) (piece tree (path_at tree k) 0)
-  piece-own d = rw nothing_rolled (IsPermutation-sym _ _ (home_rows-own tree shape k d within))
+module _ (tree : List Directory) (shape : HasTreeShape tree) (path : Components) where
+  -- the rows at and below a path are those of the directories there, up to their order
+  pub under-length : length (subtree_rows tree path) ≡ length (rows_under tree path)
+  under-length = length_permutation _ _ (IsPermutation-sym _ _ (subtree_rows-under tree shape path))
 
-  pub piece-length : (d : Directory) → length (piece tree (path_at tree k) 0) ≡ length (own_rows (get_or tree k d))
-  piece-length d = length_permutation _ _ (piece-own d)
-
-  pub piece-met : (d : Directory) (met : Row → Bool) (rows : List Row) → IsPermutation (rows ++ filter met (own_rows (get_or tree k d))) (rows ++ filter met (piece tree (path_at tree k) 0))
-  piece-met d met rows = IsPermutation-append_right rows _ _ (IsPermutation-filter met _ _ (piece-own d))
+  pub under-met : (met : Row → Bool) (rows : List Row) → IsPermutation (rows ++ filter met (rows_under tree path)) (rows ++ filter met (subtree_rows tree path))
+  under-met met rows = IsPermutation-append_right rows _ _ (IsPermutation-filter met _ _ (IsPermutation-sym _ _ (subtree_rows-under tree shape path)))
 
 pub own_sums_home : (tree : List Directory) (sums : List Summary) → HasTreeShape tree → AreOwn tree sums → AreOwnSums tree sums
 own_sums_home tree sums shape own = record {

@@ -1,4 +1,4 @@
--- What a snapshot keeps beside its tree: stores, sums, and which directories are rolled up.
+-- What a snapshot keeps beside its tree under every limit: stores and sums.
 use Rattle.std.specs.Prelude.{◌≡◌, ℕ, ◌<◌, ◌^◌, List, length, slice_index_or}
 use Rattle.std.specs.List.{flat_map}
 use Rattle.gufi_tree.specs.Tree.{Directory, own_rows, subtree_rows, home_rows, HasTreeShape}
@@ -16,11 +16,10 @@ pub record AreTreeSums (tree : List Directory) (sums : List Summary) : Type 0 wh
   pub len : length sums ≡ length tree
   pub each : (k : ℕ) (s : Summary) → k < length tree → IsTotal (slice_index_or sums k s) (subtree_rows tree (path_at tree k))
 
--- What is kept beside a tree is its own. Nothing is rolled up under limit 0.
-pub record IsSnapshot (tree : List Directory) (limit : ℕ) (stores : List Directory) (own below : List Summary) : Type 0 where
+-- What is kept beside a tree is its own.
+pub record IsContents (tree : List Directory) (stores : List Directory) (own below : List Summary) : Type 0 where
   pub shape : HasTreeShape tree
   pub few : length (flat_map own_rows tree) < 2 ^ 32
-  pub nothing : limit ≡ 0
   pub same : stores ≡ tree
   pub own_sums : AreOwnSums tree own
   pub tree_sums : AreTreeSums tree below

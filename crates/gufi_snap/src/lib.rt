@@ -4,6 +4,7 @@
 //! It stands on the tree, stores, sums and roll-up; queries stand on it.
 #![tactic(auto)]
 
+mod contents;
 mod snapshot;
 mod stores;
 mod sums;

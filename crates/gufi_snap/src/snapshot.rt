@@ -1,7 +1,7 @@
 //! Snapshots.
 
-ghost use Rattle.std.specs.Prelude.{◌≡◌, ℕ, ◌+◌, ◌≤◌, ◌<◌, ◌^◌, List, ◌++◌, filter, length, IfOk, OnOk, false};
-ghost use Rattle.std.specs.List.{flat_map};
+ghost use Rattle.std.specs.Prelude.{◌≡◌, ◌+◌, ◌≤◌, ◌<◌, ◌^◌, List, ◌++◌, filter, length, IfOk, OnOk};
+ghost use Rattle.std.specs.Arc.{arc_value};
 ghost use Rattle.gufi_base.specs.declared.record.Row.{Row};
 ghost use Rattle.gufi_base.specs.Rows.{depth_below};
 ghost use Rattle.gufi_tree.specs.Tree.{all_rows, home_rows, subtree_rows, HasTreeShape};
@@ -10,26 +10,24 @@ ghost use Rattle.gufi_sums.specs.Total.{IsTotal};
 ghost use Rattle.gufi_roll.specs.CanRoll.{can_roll};
 ghost use Rattle.gufi_snap.specs.Pieces.{piece, dir_sum, tree_sum};
 
-use crate::stores::stores_of;
-use crate::sums::{add_below, own_sums};
+use crate::contents::Contents;
 use gufi_base::{Memory, Pred, Steps, Yield};
-use gufi_store::DirStore;
+use gufi_roll::roll;
 use gufi_sums::Summary;
 use gufi_tree::{DirId, Tree};
 use std::alloc::Global;
 use std::marker::{Brand, Model};
+use std::sync::Arc;
 use std::sync::ledger::{Blank, Ledger};
 
-/// A tree with a store for each directory, the sums of its rows, and what is rolled up.
+/// A tree with a store for each directory, the sums of its rows, and what is rolled up under a limit.
 ///
-/// Its rows are kept once: stores share the tree's directories.
+/// Snapshots of one tree under several limits share all but what is rolled up.
 #[derive(Drop)]
 pub struct Snapshot {
-    tree: Tree,
+    contents: Arc<Contents, Global>,
     limit: u64,
-    stores: Vec<DirStore>,
-    own_sums: Vec<Summary>,
-    tree_sums: Vec<Summary>,
+    flags: Vec<bool>,
 }
 
 impl Model for Snapshot {
@@ -37,15 +35,19 @@ impl Model for Snapshot {
 
     ghost Value = { Snap };
 
-    ghost use Rattle.gufi_snap.specs.Kept.{IsSnapshot};
+    ghost use Rattle.std.specs.Prelude.{◌≡◌};
+    ghost use Rattle.std.specs.Arc.{arc_value};
+    ghost use Rattle.gufi_roll.specs.CanRoll.{roll_flags};
 
-    ghost view = { λ s. record { tree = s.tree; limit = s.limit } };
+    ghost view = { λ s. record { tree = arc_value s.contents; limit = s.limit } };
 
-    ghost invariant = { λ s. IsSnapshot s.tree s.limit s.stores.items s.own_sums.items s.tree_sums.items };
+    ghost invariant = { λ s. s.flags.items ≡ roll_flags (arc_value s.contents) s.limit };
 }
 
 impl Snapshot {
     /// The snapshot of a tree, whose roll-up has this limit on the rows of a piece. One step for each directory.
+    ///
+    /// Linear in the rows.
     pub fn build<L: Ledger>(
         alloc: Global,
         tree: Tree,
@@ -56,20 +58,8 @@ impl Snapshot {
         ensures ticks { OnOk result (steps.new ≡ steps.old + length tree) }
         ensures at_most { steps.new ≤ steps.old + length tree }
     {
-        if limit > 0 {
-            return Err(Memory);
-        }
-        let stores = stores_of(alloc, &tree, steps)?;
-        let own_sums = own_sums(alloc, &tree)?;
-        let mut tree_sums = Vec::from_slice(alloc, &own_sums)?;
-        add_below(&tree, &mut tree_sums);
-        Ok(Snapshot {
-            tree,
-            limit,
-            stores,
-            own_sums,
-            tree_sums,
-        })
+        let contents = Contents::of(alloc, tree, steps)?;
+        Snapshot::under(alloc, Arc::new(alloc, contents)?, limit)
     }
 
     fn build_with<L: Ledger>(
@@ -95,11 +85,23 @@ impl Snapshot {
     }
 
     /// The same tree under another limit. Its stores and sums are shared; only what is rolled up is found anew.
+    ///
+    /// Linear in the directories.
     pub fn with_limit(&self, alloc: Global, limit: u64) -> Result<Snapshot, Memory>
         ensures { IfOk result (λ snap. snap ≡ record { tree = self.now.tree; limit = limit }) }
     {
-        let _ = (alloc, limit);
-        Err(Memory)
+        Snapshot::under(alloc, Arc::try_clone(&self.contents)?, limit)
+    }
+
+    fn under(alloc: Global, contents: Arc<Contents, Global>, limit: u64) -> Result<Snapshot, Memory>
+        ensures { IfOk result (λ snap. snap ≡ record { tree = arc_value contents; limit = limit }) }
+    {
+        let flags = roll(alloc, contents.tree(), limit)?;
+        Ok(Snapshot {
+            contents,
+            limit,
+            flags,
+        })
     }
 
     /// The tree.
@@ -108,7 +110,7 @@ impl Snapshot {
         ensures shape { HasTreeShape self.now.tree }
         ensures few { length (all_rows self.now.tree) < 2 ^ 40 }
     {
-        &self.tree
+        self.contents.tree()
     }
 
     /// How many rows a piece may have.
@@ -123,8 +125,7 @@ impl Snapshot {
         requires { id.0 < length self.now.tree }
         ensures { result ≡ can_roll self.now.tree self.now.limit (path_at self.now.tree id.0) }
     {
-        let _ = id;
-        self.limit > 0
+        self.flags[id.0 as usize]
     }
 
     /// The sum of a directory's own row and its entries.
@@ -133,7 +134,7 @@ impl Snapshot {
         ensures sum { result.now ≡ dir_sum self.now.tree (path_at self.now.tree id.0) }
         ensures total { IsTotal result.now (home_rows self.now.tree (path_at self.now.tree id.0)) }
     {
-        &self.own_sums[id.0 as usize]
+        self.contents.dir_sum(id)
     }
 
     /// The sum of the rows at and below a directory.
@@ -142,7 +143,7 @@ impl Snapshot {
         ensures sum { result.now ≡ tree_sum self.now.tree (path_at self.now.tree id.0) }
         ensures total { IsTotal result.now (subtree_rows self.now.tree (path_at self.now.tree id.0)) }
     {
-        &self.tree_sums[id.0 as usize]
+        self.contents.tree_sum(id)
     }
 
     /// Adds the rows of a directory's piece that meet the question: its own row and its entries' rows, or, where it is rolled
@@ -166,6 +167,9 @@ impl Snapshot {
             Y.stands_for out.new (rows ++ filter (λ row. P.sat pred.now row (depth_below above row)) (piece self.now.tree (path_at self.now.tree id.0) self.now.limit))) }
         ensures tick { steps.new ≡ steps.old + 1 }
     {
-        self.stores[id.0 as usize].scan(alloc, pred, above, out, steps)
+        if self.rolled(id) {
+            return self.contents.scan_below(alloc, id, pred, above, out, steps);
+        }
+        self.contents.scan_own(alloc, id, pred, above, out, steps)
     }
 }

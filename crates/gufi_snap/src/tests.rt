@@ -1,4 +1,4 @@
-ghost use Rattle.std.specs.Prelude.{◌≡◌, ◌<◌, IfOk};
+ghost use Rattle.std.specs.Prelude.{◌≡◌, ◌<◌};
 
 use crate::Snapshot;
 use gufi_base::{Always, Bytes, Kind, Line, Memory, Meta, Path, Rec, Steps};
@@ -37,7 +37,6 @@ fn scanned<L: Ledger>(
     id: DirId,
     blank: Blank,
 ) -> Result<Summary, Memory>
-    requires limit { snap.now.limit ≡ 0 }
     requires name { blank.name ≡ L.name }
     requires parts { blank.parts ≡ L.parts }
     requires one { 0 < blank.parts }
@@ -51,9 +50,7 @@ fn scanned<L: Ledger>(
     Ok(sum)
 }
 
-fn snapshot(alloc: Global) -> Result<Snapshot, Fail>
-    ensures { IfOk result (λ snap. snap.limit ≡ 0) }
-{
+fn snapshot(alloc: Global, limit: u64) -> Result<Snapshot, Fail> {
     let lines = vec![in alloc;
         line(alloc, 1, b"/", Kind::Dir)?,
         line(alloc, 2, b"/d", Kind::Dir)?,
@@ -62,7 +59,7 @@ fn snapshot(alloc: Global) -> Result<Snapshot, Fail>
         line(alloc, 5, b"/d/f", Kind::File)?,
     ]?;
     let tree = build(alloc, lines)?;
-    Ok(Snapshot::build_uncounted(alloc, tree, 0)?)
+    Ok(Snapshot::build_uncounted(alloc, tree, limit)?)
 }
 
 fn counts(sum: &Summary) -> (u64, u64, u64) {
@@ -72,7 +69,7 @@ fn counts(sum: &Summary) -> (u64, u64, u64) {
 #[test]
 fn sums_are_of_own_rows_and_of_those_below(rt: HostRuntime) -> Result<(), Fail> {
     let alloc = rt.alloc();
-    let snap = snapshot(alloc)?;
+    let snap = snapshot(alloc, 0)?;
     let rows = [
         ((1u64, 0u64, 0u64), (3u64, 1u64, 1u64), (1i64, 5i64)),
         ((1, 1, 0), (2, 1, 1), (2, 5)),
@@ -90,13 +87,23 @@ fn sums_are_of_own_rows_and_of_those_below(rt: HostRuntime) -> Result<(), Fail> 
 }
 
 #[test]
-fn a_piece_of_what_is_not_rolled_has_the_own_rows(rt: HostRuntime) -> Result<(), Fail> {
+fn a_piece_is_a_fold_where_it_is_rolled(rt: HostRuntime) -> Result<(), Fail> {
     let alloc = rt.alloc();
-    let snap = snapshot(alloc)?;
-    assert!(rt; snap.limit() == 0);
-    assert!(rt; snap.tree().dirs() == 3);
-    assert!(rt; !snap.rolled(DirId(1)));
-    let piece = scanned::<Brand>(alloc, &snap, DirId(1), Blank::new(1))?;
-    assert!(rt; counts(&piece) == (1, 1, 0));
+    let plain = snapshot(alloc, 0)?;
+    let folded = plain.with_limit(alloc, 4)?;
+    assert!(rt; (plain.limit(), folded.limit()) == (0, 4));
+    for (snap, place, rolled, piece) in [
+        (&plain, 1u32, false, (1u64, 1u64, 0u64)),
+        (&plain, 2, false, (1, 0, 1)),
+        (&folded, 0, false, (1, 0, 0)),
+        (&folded, 1, true, (2, 1, 1)),
+        (&folded, 2, true, (1, 0, 1)),
+    ] {
+        let id = DirId(place);
+        assert!(rt; place < snap.tree().dirs());
+        assert!(rt; snap.rolled(id) == rolled);
+        let found = scanned::<Brand>(alloc, snap, id, Blank::new(1))?;
+        assert!(rt; counts(&found) == piece);
+    }
     Ok(())
 }

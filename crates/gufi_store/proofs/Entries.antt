@@ -40,7 +40,7 @@ filter-own_rows p d i x h e =
     filter-cons p (dir_row d) rows (i + 1) ∙ ap (λ l. filter p (dir_row d ∷ []) ++ l) more
     ∙ sym (append_assoc (filter p (dir_row d ∷ [])) (filter p (take i rows)) _) ∙ ap (λ l. l ++ cond (p (row x)) (row x ∷ []) []) (sym (filter-cons p (dir_row d) rows i))
 
-length-filter_le : {X : Type 0} (p : X → Bool) (xs : List X) → length (filter p xs) ≤ length xs
+pub length-filter_le : {X : Type 0} (p : X → Bool) (xs : List X) → length (filter p xs) ≤ length xs
 length-filter_le p xs = omega (arith, length-filter_both p (λ x. not (p x)) (λ x. refl) xs)
 
 length-own_rows : (d : Directory) → length (own_rows d) ≡ length d.entries + 1

@@ -1,18 +1,18 @@
-//! Stores: one directory, whose rows a query scans in one step.
+//! Stores: one directory, whose rows a query scans in one step, and folds, whose stores it scans in one step together.
 //!
-//! Contracts see a store as its `Directory`; `rows_met` says which of its rows a scan adds.
+//! Contracts see a store as its `Directory`; `rows_met` says which of its rows a scan adds, `rows_met_in` which of a fold's.
 //! It stands on `gufi_tree`, with whose trees a store shares the directory; snapshots stand on it.
 #![tactic(auto)]
 
-ghost use Rattle.std.specs.Prelude.{◌≡◌, ◌+◌, ◌-◌, ◌^◌, ◌<◌, ◌≤◌, List, [], ◌∷◌, ◌++◌, length, IfOk, OnOk, IsTrue, if◌then◌else◌};
-ghost use Rattle.std.specs.List.{list_all};
+ghost use Rattle.std.specs.Prelude.{◌≡◌, ◌+◌, ◌-◌, ◌^◌, ◌<◌, ◌≤◌, List, [], ◌∷◌, ◌++◌, length, IfOk, OnOk, IsTrue, All, if◌then◌else◌};
+ghost use Rattle.std.specs.List.{list_all, flat_map};
 ghost use Rattle.gufi_base.specs.Names.{is_name};
 ghost use Rattle.std.specs.Arc.{arc_value};
 ghost use Rattle.gufi_base.specs.declared.record.Row.{Row};
 ghost use Rattle.gufi_base.specs.Rows.{Stands, StandsForSome};
 ghost use Rattle.gufi_tree.specs.Tree.{dir_row, own_rows};
 ghost use Rattle.gufi_tree.specs.Stored.{directory_of};
-ghost use Rattle.gufi_store.specs.Scan.{rows_met};
+ghost use Rattle.gufi_store.specs.Scan.{rows_met, rows_met_in};
 
 use gufi_base::{Memory, Pred, RowRef, Steps, Yield};
 use gufi_tree::Stored;
@@ -146,6 +146,31 @@ impl DirStore {
         }
         Ok(())
     }
+}
+
+/// Adds the rows of a fold that meet the question, and counts one step for all its stores, which stand side by side.
+///
+/// The rows of a store follow those of the stores before it. `above` is as in [`DirStore::scan`].
+pub fn scan_fold<P: Pred, Y: Yield, L: Ledger>(
+    alloc: Global,
+    stores: &[DirStore],
+    pred: &P,
+    above: u32,
+    out: &mut Y,
+    steps: &mut Steps<L>,
+) -> Result<(), Memory>
+    requires above { All (λ dir. above ≤ length dir.path) stores.now }
+    requires room { Y.count out.old + length (flat_map own_rows stores.now) < 2 ^ 40 }
+    requires rows { (rows : List Row) × Y.stands_for out.old rows }
+    ensures rows { OnOk result ((rows : List Row) → Y.stands_for out.old rows →
+        Y.stands_for out.new (rows ++ rows_met_in above (P.sat pred.now) stores.now)) }
+    ensures tick { steps.new ≡ steps.old + 1 }
+{
+    steps.tick();
+    for store in stores {
+        store.scan_rows(alloc, pred, above, out)?;
+    }
+    Ok(())
 }
 
 #[cfg(test)]

@@ -1,10 +1,11 @@
 -- Lemmas on files that are read.
-use Rattle.std.proofs.Common.{◌≡◌, ℕ, ◌<◌, ◌≤◌, List, ◌++◌, length, refl, ap, ◌∙◌, arith, true}
+use Rattle.std.proofs.Common.{◌≡◌, ℕ, ◌+◌, ◌<◌, ◌≤◌, List, [], ◌++◌, length, take, refl, sym, ap, ◌∙◌, append_assoc, append-nil, arith, true}
 use Rattle.std.specs.Prelude.{Option, Some, None, Result, Ok, Err, nat_lt, Vec}
 use Rattle.std.specs.declared.alloc.Global.{Global}
-use Rattle.std.proofs.lemmas.List.{length-append}
+use Rattle.std.specs.Io.KnownBytes.{Consumes, IsAtEnd}
+use Rattle.std.proofs.lemmas.List.{length-append, length-take}
 use Rattle.std.proofs.lemmas.Bool.Decides.{nat_tests}
-use Rattle.gufi_io.specs.Files.{Files, Holds, Lacks, HoldsFront}
+use Rattle.gufi_io.specs.Files.{Files, Holds, Lacks, HoldsFront, IsReadUpTo}
 use Rattle.gufi_base.specs.Words.{◌>>=◌, result_map_err}
 use Rattle.gufi_base.specs.Limits.{max_trace}
 use Rattle.gufi_base.specs.declared.record.Line.{Line}
@@ -12,6 +13,7 @@ use Rattle.gufi_tree.specs.Tree.{Directory}
 use Rattle.gufi_tree.specs.Build.{tree_of}
 use Rattle.gufi_tree.specs.declared.fault.TreeFault.{TreeFault}
 use Rattle.gufi_trace.specs.TraceText.{trace_lines, trace_means, of_line, of_tree}
+use Rattle.gufi_trace.specs.Reader.{Reading, HasRead, GivesLines}
 use Rattle.gufi_trace.specs.declared.fault.TraceFault.{TraceFault}
 use Rattle.gufi_trace.specs.declared.fault.TraceError.{TraceError}
 use Rattle.gufi_trace.specs.declared.fault.TraceError.TheVariants as errors
@@ -20,6 +22,7 @@ use Rattle.gufi_top.specs.declared.halt.Halt.TheVariants as halts
 use Rattle.gufi_top.specs.Reasons.{Reason, not_found, past_limit, file_in, trace_in, tree_within, trace_reason}
 use Rattle.gufi_top.specs.Calls.{Gives, GivesOver}
 use Rattle.gufi_top.specs.Views.{bytes_view, lines_view}
+use Rattle.gufi_top.specs.Fed.{lines_within, lines_in, HasReadFile, IsFedUpTo}
 
 pub file_whole : (told : Option Files) (max : ℕ) (name : List ℕ) (bytes : Vec ℕ Global) → Holds told name bytes.items → length bytes.items ≤ max
     → GivesOver told bytes_view (Ok bytes) (file_in max name)
@@ -44,6 +47,43 @@ file_too_long (Some files) max name bytes note front long is = rw (front.1, long
 
 pub ruleset reading = (file_whole, file_absent, file_too_long)
 
+-- ---- a file that is fed as it comes
+
+upto_more : (told : Option Files) (name stream piece : List ℕ) (left left' : Option (List ℕ)) → IsReadUpTo told name stream left → Consumes left left' piece → IsReadUpTo told name (stream ++ piece) left'
+upto_more None name stream piece left left' upto more = tt
+upto_more (Some files) name stream piece None left' upto more = absurd cc
+upto_more (Some files) name stream piece (Some xs) None upto more = absurd more
+upto_more (Some files) name stream piece (Some xs) (Some ys) upto more =
+    let same : xs ≡ upto.0 = cc in
+    (ys, refl, upto.2 ∙ ap (λ (t : List ℕ). Some (stream ++ t)) (sym same ∙ more) ∙ ap Some (sym (append_assoc stream piece ys)))
+
+pub fed_more : (told : Option Files) (name buf piece : List ℕ) (left left' : Option (List ℕ)) (reader reader' : Reading) (size n : ℕ) → IsFedUpTo told name left reader size → Consumes left left' (take n buf) → n ≤ length buf → piece ≡ take n buf
+    → ((stream : List ℕ) → HasRead reader stream → HasRead reader' (stream ++ piece)) → IsFedUpTo told name left' reader' (size + n)
+fed_more told name buf piece left left' reader reader' size n fed more few is reads =
+    record {
+      stream = fed.stream ++ piece;
+      read = reads fed.stream fed.read;
+      count = omega (arith, length-append fed.stream piece, fed.count, ap length is, length-take n buf);
+      upto = upto_more told name fed.stream piece left left' fed.upto (rw is more);
+    }
+
+pub fed_all : (told : Option Files) (name : List ℕ) (left : Option (List ℕ)) (reader : Reading) (size : ℕ) → IsFedUpTo told name left reader size → IsAtEnd left → size ≤ max_trace → HasReadFile told name reader
+fed_all None name left reader size fed end few = tt
+fed_all (Some files) name None reader size fed end few = absurd (let upto = fed.upto in cc)
+fed_all (Some files) name (Some xs) reader size fed end few =
+    let same : xs ≡ fed.upto.0 = (let e = fed.upto.1 in cc) in
+    (fed.stream, fed.upto.2 ∙ ap (λ (t : List ℕ). Some (fed.stream ++ t)) (sym same ∙ end) ∙ ap Some (append-nil fed.stream), omega (arith, fed.count), fed.read)
+
+pub fed_too_long : (told : Option Files) (name : List ℕ) (left : Option (List ℕ)) (reader : Reading) (size : ℕ) (note : Vec ℕ Global) → IsFedUpTo told name left reader size → max_trace < size → note.items ≡ (past_limit name max_trace).note
+    → GivesOver told bytes_view (Err (halts.Refused 6 note)) (file_in max_trace name)
+fed_too_long None name left reader size note fed long is = tt
+fed_too_long (Some files) name left reader size note fed long is = file_too_long (Some files) max_trace name fed.stream note (fed.upto.0, fed.upto.2) (omega (arith, fed.count)) is
+
+pub fed_from_start : (told : Option Files) (name : List ℕ) (left : Option (List ℕ)) (reader : Reading) → HasRead reader [] → IsReadUpTo told name [] left → IsFedUpTo told name left reader 0
+fed_from_start told name left reader read upto = record { stream = []; read = read; count = refl; upto = upto }
+
+pub ruleset feeding = (file_absent, fed_more, fed_all, fed_too_long, fed_from_start)
+
 -- ---- lines, and the tree of them
 
 -- a call that tells a reason, as one of a step that gives it
@@ -53,19 +93,51 @@ given_as view (Err (halts.Refused status note)) why step told is = is ∙ cc
 given_as view (Err halts.ReadFault) why step told is = tt
 given_as view (Err halts.Memory) why step told is = tt
 
-pub lines_refused : (r : Result (Vec Line Global) Halt) (name : List ℕ) (fault : TraceFault) (lines : Result (List Line) TraceError)
-    → Gives (λ x. x) r (Err (trace_reason name (of_line (errors.Fault fault)))) → lines ≡ Err (errors.Fault fault)
-    → Gives lines_view r (result_map_err (λ e. trace_reason name (of_line e)) lines)
-lines_refused r name fault lines told is = given_as lines_view r (trace_reason name (of_line (errors.Fault fault))) _ told (rw is refl)
+abbrev line_reason : List ℕ → TraceError → Reason
+line_reason name e = trace_reason name (of_line e)
 
-pub ruleset lines = (lines_refused)
+-- the file's bytes are within the limit
+held_bytes : (files : Files) (name bytes : List ℕ) → files name ≡ Some bytes → length bytes ≤ max_trace → file_in max_trace name files ≡ Ok bytes
+unfolding file_in
+held_bytes files name bytes held short = rw held (grind (arith, nat_tests))
+
+lines_are : (files : Files) (delim : ℕ) (name bytes : List ℕ) → files name ≡ Some bytes → length bytes ≤ max_trace → lines_in delim name files ≡ lines_within delim name bytes
+unfolding lines_in
+lines_are files delim name bytes held short = ap (λ (r : Result (List ℕ) Reason). r >>= lines_within delim name) (held_bytes files name bytes held short)
+
+pub lines_ok : (told : Option Files) (delim : ℕ) (name : List ℕ) (reader : Reading) (lines : Vec Line Global) → HasReadFile told name reader → reader.delim ≡ delim
+    → ((stream : List ℕ) → HasRead reader stream → GivesLines (Ok lines) (trace_lines reader.delim stream)) → GivesOver told lines_view (Ok lines) (lines_in delim name)
+unfolding lines_within
+lines_ok None delim name reader lines file is read = tt
+lines_ok (Some files) delim name reader lines file is read =
+    lines_are files delim name file.0 file.1 file.2 ∙ ap (result_map_err (line_reason name)) (ap (λ (d : ℕ). trace_lines d file.0) (sym is) ∙ read file.0 file.3)
+
+pub lines_refused : (told : Option Files) (delim : ℕ) (name : List ℕ) (reader : Reading) (fault : TraceFault) (r : Result (Vec Line Global) Halt) → HasReadFile told name reader → reader.delim ≡ delim
+    → ((stream : List ℕ) → HasRead reader stream → GivesLines (Err (errors.Fault fault)) (trace_lines reader.delim stream)) → Gives (λ x. x) r (Err (trace_reason name (of_line (errors.Fault fault)))) → GivesOver told lines_view r (lines_in delim name)
+unfolding lines_within
+lines_refused None delim name reader fault r file is read told = tt
+lines_refused (Some files) delim name reader fault r file is read told =
+    given_as lines_view r (trace_reason name (of_line (errors.Fault fault))) _ told
+    (lines_are files delim name file.0 file.1 file.2 ∙ ap (result_map_err (line_reason name)) (ap (λ (d : ℕ). trace_lines d file.0) (sym is) ∙ read file.0 file.3 (λ e. absurd cc)))
+
+-- a reason that stays the reason of what follows
+stays : {A B : Type 0} (e : Halt) (step : Result A Reason) (next : Result B Reason) → Gives {A = A} (λ x. x) (Err e) step → ((why : Reason) → step ≡ Err why → next ≡ Err why) → Gives {A = B} (λ x. x) (Err e) next
+stays (halts.Refused status note) step next told goes_on = goes_on _ told
+stays halts.ReadFault step next told goes_on = tt
+stays halts.Memory step next told goes_on = tt
+
+pub lines_err : (told : Option Files) (delim : ℕ) (name : List ℕ) (e : Halt) → GivesOver told bytes_view (Err e) (file_in max_trace name) → GivesOver told lines_view (Err e) (lines_in delim name)
+unfolding lines_in
+lines_err None delim name e file = tt
+lines_err (Some files) delim name e file = stays e (file_in max_trace name files) _ file (λ why is. rw is refl)
+
+pub ruleset lines = (lines_ok, lines_refused, lines_err)
+
+-- ---- the tree of a trace in a file
 
 -- what lines and the tree of them come to
 abbrev through : List ℕ → Result (List Line) TraceError → (List Line → Result (List Directory) TreeFault) → Result (List Directory) Reason
 through name lines tree = result_map_err (trace_reason name) (result_map_err of_line lines >>= λ ls. result_map_err of_tree (tree ls))
-
-abbrev line_reason : List ℕ → TraceError → Reason
-line_reason name e = trace_reason name (of_line e)
 
 abbrev tree_reason : List ℕ → TreeFault → Reason
 tree_reason name f = trace_reason name (of_tree f)
@@ -84,41 +156,26 @@ through_err : (name : List ℕ) (lines : Result (List Line) TraceError) (tree : 
 through_err name (Ok ms) tree why read = cc
 through_err name (Err e) tree why read = let q : line_reason name e ≡ why = cc in ap Err q
 
--- a reason that stays the reason of what follows
-stays : {A B : Type 0} (e : Halt) (step : Result A Reason) (next : Result B Reason) → Gives {A = A} (λ x. x) (Err e) step → ((why : Reason) → step ≡ Err why → next ≡ Err why) → Gives {A = B} (λ x. x) (Err e) next
-stays (halts.Refused status note) step next told goes_on = goes_on _ told
-stays halts.ReadFault step next told goes_on = tt
-stays halts.Memory step next told goes_on = tt
+from_lines : (delim : ℕ) (name : List ℕ) (file : Result (List ℕ) Reason) (ls : List Line) → (file >>= lines_within delim name) ≡ Ok ls → (file >>= tree_within delim name) ≡ result_map_err (tree_reason name) (tree_of ls)
+unfolding lines_within tree_within trace_means
+from_lines delim name (Ok bytes) ls e = through_ok name (trace_lines delim bytes) tree_of ls e
+from_lines delim name (Err why) ls e = cc
 
-pub tree_ok : (r : Result (List Directory) Halt) (delim : ℕ) (name bytes given : List ℕ) (lines : Vec Line Global)
-    → Gives lines_view (Ok lines) (result_map_err (line_reason name) (trace_lines delim given)) → given ≡ bytes
-    → Gives (λ t. t) r (result_map_err (tree_reason name) (tree_of lines.items))
-    → Gives (λ t. t) r (tree_within delim name bytes)
-unfolding tree_within trace_means
-tree_ok r delim name bytes given lines read same built =
-    rw (← same) (rw (through_ok name (trace_lines delim given) tree_of lines.items read) built)
+from_refusal : (delim : ℕ) (name : List ℕ) (file : Result (List ℕ) Reason) (why : Reason) → (file >>= lines_within delim name) ≡ Err why → (file >>= tree_within delim name) ≡ Err why
+unfolding lines_within tree_within trace_means
+from_refusal delim name (Ok bytes) why e = through_err name (trace_lines delim bytes) tree_of why e
+from_refusal delim name (Err reason) why e = let same : reason ≡ why = cc in ap Err same
 
-pub tree_err : (e : Halt) (delim : ℕ) (name bytes given : List ℕ)
-    → Gives lines_view (Err e) (result_map_err (line_reason name) (trace_lines delim given)) → given ≡ bytes
-    → Gives {A = List Directory} (λ t. t) (Err e) (tree_within delim name bytes)
-unfolding tree_within trace_means
-tree_err e delim name bytes given read same =
-    rw (← same) (stays e (result_map_err (line_reason name) (trace_lines delim given)) _ read (through_err name (trace_lines delim given) tree_of))
-
-pub ruleset trees = (tree_ok, tree_err)
-
--- ---- a trace in a file
-
-pub trace_ok : (told : Option Files) (delim : ℕ) (name : List ℕ) (bytes : Vec ℕ Global) (r : Result (List Directory) Halt)
-    → GivesOver told bytes_view (Ok bytes) (file_in max_trace name) → Gives (λ t. t) r (tree_within delim name bytes.items) → GivesOver told (λ t. t) r (trace_in delim name)
-unfolding trace_in
-trace_ok None delim name bytes r file tree = tt
-trace_ok (Some files) delim name bytes r file tree = rw file tree
+pub trace_ok : (told : Option Files) (delim : ℕ) (name : List ℕ) (lines : Vec Line Global) (r : Result (List Directory) Halt)
+    → GivesOver told lines_view (Ok lines) (lines_in delim name) → Gives (λ t. t) r (result_map_err (tree_reason name) (tree_of lines.items)) → GivesOver told (λ t. t) r (trace_in delim name)
+unfolding lines_in trace_in
+trace_ok None delim name lines r read tree = tt
+trace_ok (Some files) delim name lines r read tree = rw (from_lines delim name (file_in max_trace name files) lines.items read) tree
 
 pub trace_err : (told : Option Files) (delim : ℕ) (name : List ℕ) (e : Halt)
-    → GivesOver told bytes_view (Err e) (file_in max_trace name) → GivesOver {A = List Directory} told (λ t. t) (Err e) (trace_in delim name)
-unfolding trace_in
-trace_err None delim name e file = tt
-trace_err (Some files) delim name e file = stays e (file_in max_trace name files) _ file (λ why is. rw is refl)
+    → GivesOver told lines_view (Err e) (lines_in delim name) → GivesOver {A = List Directory} told (λ t. t) (Err e) (trace_in delim name)
+unfolding lines_in trace_in
+trace_err None delim name e read = tt
+trace_err (Some files) delim name e read = stays e (lines_in delim name files) _ read (λ why is. from_refusal delim name (file_in max_trace name files) why is)
 
 pub ruleset traces = (trace_ok, trace_err)

@@ -4,4 +4,5 @@ pub mod Verdict
 pub mod Ends
 pub mod Calls
 pub mod Views
+pub mod Fed
 pub mod Starts

@@ -1,25 +1,30 @@
 //! The files that the words name.
-ghost use Rattle.std.specs.Prelude.{◌≡◌, ◌≢◌, ◌≤◌, ◌+◌, length, IfErr, IfOk, Err};
+ghost use Rattle.std.specs.Prelude.{◌≡◌, ◌≢◌, ◌≤◌, ◌<◌, ◌+◌, [], length, vec_len, IfErr, IfOk, Err};
 ghost use Rattle.gufi_base.specs.Words.{result_map_err};
-ghost use Rattle.gufi_base.specs.Limits.{max_dirs, max_entries};
+ghost use Rattle.gufi_base.specs.Limits.{max_dirs, max_entries, max_trace};
 ghost use Rattle.gufi_tree.specs.Build.{tree_of};
 ghost use Rattle.gufi_io.specs.Causes.{Rose};
 ghost use Rattle.gufi_io.specs.Files.{Holds};
-ghost use Rattle.gufi_trace.specs.TraceText.{of_line, of_tree, trace_lines};
+ghost use Rattle.gufi_trace.specs.Reader.{HasRead};
+ghost use Rattle.gufi_trace.specs.TraceText.{of_line, of_tree};
 ghost use Rattle.gufi_top.specs.Views.{bytes_view, lines_view};
-ghost use Rattle.gufi_top.specs.Reasons.{file_in, trace_in, tree_within, trace_reason};
+ghost use Rattle.gufi_top.specs.Reasons.{file_in, trace_in, trace_reason};
 ghost use Rattle.gufi_top.specs.Calls.{Gives, GivesOver, IsOfBytes, IsPastWords, HaltHasCause};
+ghost use Rattle.gufi_top.specs.Fed.{lines_in, HasReadFile};
 
 use crate::halt::{Halt, refused};
 use crate::note;
 use gufi_base::Line;
-use gufi_io::{ReadError, Shelf, read_all};
-use gufi_trace::{TraceError, TraceFault, TraceKind, read_trace};
+use gufi_io::{OpenFault, ReadError, Shelf, read_all};
+use gufi_trace::{TraceError, TraceFault, TraceKind, TraceReader};
 use gufi_tree::{Tree, TreeFault, build};
-use std::alloc::Global;
+use std::alloc::{AllocError, Global};
 
 /// How many bytes a trace may have.
 const MAX_TRACE: u32 = 536_870_912;
+
+/// How many bytes of a trace are read at once.
+const PIECE: usize = 65536;
 
 // The bytes of a file that the words name.
 #[tactic(auto, using(crate::proofs::ReadingLemmas::reading), unfolding(crate::specs::Reasons::file_in))]
@@ -58,15 +63,68 @@ fn refuse_line<T>(alloc: Global, name: &str, fault: TraceFault) -> Result<T, Hal
     refused(5, note::trace_line(alloc, name, &fault)?)
 }
 
-// The lines of a trace.
-#[tactic(auto, using(crate::proofs::ReadingLemmas::lines))]
-fn read_lines(alloc: Global, name: &str, delim: u8, bytes: &[u8]) -> Result<Vec<Line>, Halt>
-    ensures lines { Gives lines_view result (result_map_err (λ e. trace_reason name.now (of_line e)) (trace_lines delim bytes.now)) }
-    ensures of_bytes { IfErr result IsOfBytes }
+// A buffer for the pieces of a file: few system calls, and a piece that stays in the processor's caches.
+fn piece_buffer(alloc: Global) -> Result<Vec<u8>, AllocError>
+    ensures { IfOk result (λ buffer. 0 < vec_len buffer) }
+{
+    vec![in alloc; 0; PIECE]
+}
+
+// Feeds a file to a reader, to its end or until it is longer than a trace may be.
+//
+// A faulty line waits in the reader, since that the file is too long comes before it.
+#[tactic(auto, using(crate::proofs::ReadingLemmas::feeding), unfolding(crate::specs::Reasons::file_in))]
+fn feed_file<F: Shelf>(
+    alloc: Global,
+    shelf: &mut F,
+    name: &str,
+    mut reader: TraceReader,
+) -> Result<TraceReader, Halt>
+    requires { HasRead reader [] }
+    ensures fed { IfOk result (HasReadFile (F.files shelf.old) name.now) }
+    ensures delim { IfOk result (λ fed. fed.delim ≡ reader.delim) }
+    ensures refused { IfErr result (λ e. GivesOver (F.files shelf.old) bytes_view (Err e) (file_in max_trace name.now)) }
     ensures past_words { IfErr result IsPastWords }
+    ensures cause { IfErr result (HaltHasCause (F.faults shelf.old) (F.faults shelf.new) (F.absents shelf.old) (F.absents shelf.new)) }
+{
+    match shelf.open_file(name) {
+        Ok(()) => {}
+        Err(OpenFault::NoFile) => return refused(8, note::not_found(alloc, name)?),
+        Err(OpenFault::Failed) => return Err(Halt::ReadFault),
+    }
+    let mut buffer = piece_buffer(alloc)?;
+    let room = buffer.as_mut_slice();
+    let mut size: usize = 0;
+    'pieces: while size <= MAX_TRACE as usize {
+        let Ok(count) = shelf.read(room) else {
+            return Err(Halt::ReadFault);
+        };
+        if count == 0 {
+            return Ok(reader);
+        }
+        let (piece, _) = room.split_at(count);
+        let _ = reader.feed(alloc, piece);
+        size += count;
+    }
+    refused(6, note::past_limit(alloc, name, MAX_TRACE)?)
+}
+
+// The lines of the trace in a file, whose bytes are never all in memory.
+#[tactic(auto, using(crate::proofs::ReadingLemmas::lines))]
+fn read_lines<F: Shelf>(
+    alloc: Global,
+    shelf: &mut F,
+    name: &str,
+    delim: u8,
+) -> Result<Vec<Line>, Halt>
+    ensures lines { GivesOver (F.files shelf.old) lines_view result (lines_in delim name.now) }
+    ensures past_words { IfErr result IsPastWords }
+    ensures cause { IfErr result (HaltHasCause (F.faults shelf.old) (F.faults shelf.new) (F.absents shelf.old) (F.absents shelf.new)) }
     ensures few { IfOk result (λ lines. length lines.items ≤ max_dirs + max_entries) }
 {
-    match read_trace(alloc, delim, bytes) {
+    let reader = TraceReader::new(alloc, delim)?;
+    let reader = feed_file(alloc, shelf, name, reader)?;
+    match reader.finish() {
         Ok(lines) => Ok(lines),
         Err(TraceError::Fault(fault)) => refuse_line(alloc, name, fault),
         Err(TraceError::Memory) => Err(Halt::Memory),
@@ -88,18 +146,6 @@ fn build_tree(alloc: Global, name: &str, lines: Vec<Line>) -> Result<Tree, Halt>
     }
 }
 
-// The tree that a trace means. Its bytes are let go before the tree is built.
-#[tactic(auto, using(crate::proofs::ReadingLemmas::trees))]
-fn read_tree(alloc: Global, name: &str, delim: u8, bytes: Vec<u8>) -> Result<Tree, Halt>
-    ensures tree { Gives (λ tree. tree) result (tree_within delim name.now bytes.items) }
-    ensures of_bytes { IfErr result IsOfBytes }
-    ensures past_words { IfErr result IsPastWords }
-{
-    let lines = read_lines(alloc, name, delim, &bytes)?;
-    drop(bytes);
-    build_tree(alloc, name, lines)
-}
-
 /// The tree of the trace in a file.
 #[tactic(auto, using(crate::proofs::ReadingLemmas::traces))]
 pub(crate) fn read_trace_file<F: Shelf>(
@@ -112,8 +158,8 @@ pub(crate) fn read_trace_file<F: Shelf>(
     ensures past_words { IfErr result IsPastWords }
     ensures cause { IfErr result (HaltHasCause (F.faults shelf.old) (F.faults shelf.new) (F.absents shelf.old) (F.absents shelf.new)) }
 {
-    match read_file(alloc, shelf, name, MAX_TRACE) {
-        Ok(bytes) => read_tree(alloc, name, delim, bytes),
+    match read_lines(alloc, shelf, name, delim) {
+        Ok(lines) => build_tree(alloc, name, lines),
         Err(halt) => Err(halt),
     }
 }

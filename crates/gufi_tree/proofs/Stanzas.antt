@@ -1,6 +1,5 @@
 -- Lines each of whose entries stands behind its directory have no fault.
 use Rattle.std.proofs.Common.{◌≡◌, ℕ, zero, suc, ◌+◌, ◌-◌, ◌<◌, ◌≤◌, Bool, true, false, not, ◌&&◌, ◌||◌, cond, List, [], ◌∷◌, ◌++◌, map, length, take, drop, get_or, None, ◌⊎◌, inl, inr, refl, sym, ap, ◌∙◌, subst, arith}
-use Rattle.std.specs.Borrow.{Bor}
 use Rattle.std.specs.declared.cmp.Ordering.{Ordering}
 use Rattle.std.specs.Ordering.{is_eq, is_lt, nat_cmp}
 use Rattle.std.specs.Cmp.Lexicographic.{slice_cmp}
@@ -116,20 +115,20 @@ keys_times key p (line ∷ lines) = by (path_eq p line.path) refl (keys_times ke
       let one : cond {A = ℕ} (is_eq (slice_cmp nat_cmp (key p) (key line.path))) 1 0 ≡ 1 = ap (λ (o : Ordering). cond {A = ℕ} (is_eq o) 1 0) (same ∙ tied_itself nat_list_cmp_total (key p)) in
       omega (arith, h, one)
 
-pub distinct_from : (key : Components → List ℕ) (names sorted : List (Bor (List ℕ))) (entries : List Line) → map (λ (r : Bor (List ℕ)). r.now) names ≡ map (λ (line : Line). key line.path) entries → IsPermutation names sorted
-    → ascends (slice_cmp nat_cmp) (map (λ (r : Bor (List ℕ)). r.now) sorted) ≡ true → (p : Components) → times (λ (line : Line). path_eq p line.path) entries ≤ 1
-distinct_from key names sorted entries same perm up p =
-    let back : IsPermutation (map (λ (r : Bor (List ℕ)). r.now) sorted) (map (λ (r : Bor (List ℕ)). r.now) names) = IsPermutation-map (λ (r : Bor (List ℕ)). r.now) sorted names (IsPermutation-sym names sorted perm) in
-    let once : Once (slice_cmp nat_cmp) (map (λ (r : Bor (List ℕ)). r.now) names) = Once-IsPermutation (slice_cmp nat_cmp) _ _ back (Once-from_ascends (slice_cmp nat_cmp) nat_list_cmp_total (map (λ (r : Bor (List ℕ)). r.now) sorted) up) in
+pub distinct_from : {N : Type 0} (now : N → List ℕ) (key : Components → List ℕ) (names sorted : List N) (entries : List Line) → map now names ≡ map (λ (line : Line). key line.path) entries → IsPermutation names sorted
+    → ascends (slice_cmp nat_cmp) (map now sorted) ≡ true → (p : Components) → times (λ (line : Line). path_eq p line.path) entries ≤ 1
+distinct_from now key names sorted entries same perm up p =
+    let back : IsPermutation (map now sorted) (map now names) = IsPermutation-map now sorted names (IsPermutation-sym names sorted perm) in
+    let once : Once (slice_cmp nat_cmp) (map now names) = Once-IsPermutation (slice_cmp nat_cmp) _ _ back (Once-from_ascends (slice_cmp nat_cmp) nat_list_cmp_total (map now sorted) up) in
     let few : times (λ (k : List ℕ). is_eq (slice_cmp nat_cmp (key p) k)) (map (λ (line : Line). key line.path) entries) ≤ 1 = subst (λ (ks : List (List ℕ)). times (λ (k : List ℕ). is_eq (slice_cmp nat_cmp (key p) k)) ks ≤ 1) same (once (key p)) in
     omega (arith, few, keys_times key p entries)
 
 -- one key more
-pub keys_more : (key : Components → List ℕ) (entries : List Line) (i : ℕ) (line : Line) (name : Bor (List ℕ)) (names : List (Bor (List ℕ))) → i < length entries → line ≡ get_or entries i line
-    → map (λ (r : Bor (List ℕ)). r.now) names ≡ map (λ (v : Line). key v.path) (take i entries) → name.now ≡ key line.path
-    → map (λ (r : Bor (List ℕ)). r.now) (names ++ name ∷ []) ≡ map (λ (v : Line). key v.path) (take (i + 1) entries)
-keys_more key entries i line name names lt is e f =
-    map_push (λ (r : Bor (List ℕ)). r.now) names name ∙ ap (λ (ks : List (List ℕ)). ks ++ name.now ∷ []) e ∙ ap (λ (k : List ℕ). map (λ (v : Line). key v.path) (take i entries) ++ k ∷ []) (f ∙ ap (λ (v : Line). key v.path) is)
+pub keys_more : {N : Type 0} (now : N → List ℕ) (key : Components → List ℕ) (entries : List Line) (i : ℕ) (line : Line) (name : N) (names : List N) → i < length entries → line ≡ get_or entries i line
+    → map now names ≡ map (λ (v : Line). key v.path) (take i entries) → now name ≡ key line.path
+    → map now (names ++ name ∷ []) ≡ map (λ (v : Line). key v.path) (take (i + 1) entries)
+keys_more now key entries i line name names lt is e f =
+    map_push now names name ∙ ap (λ (ks : List (List ℕ)). ks ++ now name ∷ []) e ∙ ap (λ (k : List ℕ). map (λ (v : Line). key v.path) (take i entries) ++ k ∷ []) (f ∙ ap (λ (v : Line). key v.path) is)
     ∙ sym (map_push (λ (v : Line). key v.path) (take i entries) (get_or entries i line)) ∙ ap (map (λ (v : Line). key v.path)) (sym (take_more entries i line lt)) where
       map_push : {X Y : Type 0} (f : X → Y) (xs : List X) (x : X) → map f (xs ++ x ∷ []) ≡ map f xs ++ f x ∷ []
       map_push f [] x = refl

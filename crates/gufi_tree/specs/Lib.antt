@@ -9,3 +9,4 @@ pub mod Resolve
 pub mod Reached
 pub mod Listed
 pub mod Sound
+pub mod Grouped

@@ -6,6 +6,7 @@
 
 mod fault;
 mod gather;
+mod likely;
 mod lines;
 mod link;
 mod place;
@@ -13,6 +14,7 @@ mod resolve;
 mod shared;
 mod sort;
 mod sound;
+mod stanza;
 mod tree;
 
 pub use fault::TreeFault;

@@ -1,12 +1,16 @@
 //! Directories that trees and stores share.
 
-ghost use Rattle.std.specs.Prelude.{◌≡◌, ◌<◌, List, length, slice_index_or, IfOk};
+ghost use Rattle.std.specs.Prelude.{◌≡◌, ◌<◌, List, length, slice_index_or, IfOk, IsTrue};
+ghost use Rattle.std.specs.List.Sorted.{IsPermutation, IsSortedBy};
+ghost use Rattle.std.specs.Ordering.{is_lt};
+ghost use Rattle.gufi_base.specs.Paths.{path_cmp};
 ghost use Rattle.gufi_base.specs.PathTexts.{names, IsText};
 ghost use Rattle.gufi_tree.specs.Tree.{place_of};
 ghost use Rattle.gufi_tree.specs.Stored.{directories_of, values_of, AreInOrder};
 
 use crate::sort::compare_to;
 use crate::tree::Stored;
+use gufi_base::path_cmp;
 use std::alloc::{AllocError, Global};
 use std::sync::Arc;
 
@@ -22,6 +26,14 @@ pub(crate) fn share_all(
         shared.push(Arc::new(alloc, dir)?)?;
     }
     Ok(shared)
+}
+
+/// Puts directories in path order; linear where they are.
+pub(crate) fn sort_shared(shared: &mut Vec<Arc<Stored, Global>>)
+    ensures permutation { IsPermutation shared.old.items shared.new.items }
+    ensures order { IsSortedBy (λ x y. is_lt (path_cmp x.path y.path)) (values_of shared.new.items) }
+{
+    shared.sort_unstable_by(|a, b| path_cmp(&a.path, &b.path));
 }
 
 /// The directory at a place.

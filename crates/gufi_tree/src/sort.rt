@@ -22,7 +22,7 @@ pub(crate) fn sort_directories(stored: &mut Vec<Stored>)
     stored.sort_unstable_by(|a, b| path_cmp(&a.path, &b.path));
 }
 
-fn sort_names(entries: &mut Vec<Entry>)
+pub(crate) fn sort_names(entries: &mut Vec<Entry>)
     ensures permutation { IsPermutation entries.old.items entries.new.items }
     ensures order { IsSortedBy (λ x y. is_lt (entry_cmp x y)) entries.new.items }
 {

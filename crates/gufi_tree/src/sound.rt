@@ -1,6 +1,6 @@
 //! A quick test that lines are a tree, for lines in which each entry stands behind its directory.
 
-ghost use Rattle.std.specs.Prelude.{◌≡◌, ◌<◌, ◌≤◌, not, ◌&&◌, ◌||◌, false, true, ℕ, List, Bool, map, length, slice_set, None, IsTrue, IfOk, OnOk, IfSome};
+ghost use Rattle.std.specs.Prelude.{◌≡◌, ◌<◌, ◌≤◌, not, ◌&&◌, ◌||◌, false, true, ℕ, List, Bool, map, reverse, length, slice_set, None, IsTrue, IfOk, OnOk, IfSome};
 ghost use Rattle.std.specs.List.{list_any, list_all};
 ghost use Rattle.std.specs.List.Sorted.{IsPermutation};
 ghost use Rattle.std.specs.Ordering.{nat_cmp};
@@ -12,11 +12,34 @@ ghost use Rattle.gufi_base.specs.PathTexts.{kept_text};
 ghost use Rattle.gufi_base.proofs.SortedOnce.{times};
 ghost use Rattle.gufi_tree.specs.Build.{is_dir_line, tree_fault};
 ghost use Rattle.gufi_tree.specs.Texts.{has_text, has_dir_text, is_orphan_by};
+ghost use Rattle.gufi_tree.specs.Grouped.{AreGrouped};
 ghost use Rattle.gufi_tree.specs.Sound.{HasDirTexts, IsStanza, AreStanzas, is_own_entry, rest_of_text, end_of_text, is_marked, IsFilter};
 
 use gufi_base::Line;
 use std::alloc::{AllocError, Global};
 use std::collections::HashSet;
+
+/// Stanzas by how many entries each has, and the places that these have in it, in name order.
+#[derive(Drop)]
+pub(crate) struct Stanzas {
+    pub(crate) sizes: Vec<usize>,
+    /// For speed alone: nothing is known of it.
+    pub(crate) order: Vec<u32>,
+}
+
+/// The texts of the paths of directories, and marks on how they end.
+#[derive(Drop)]
+struct Dirs<'a> {
+    texts: HashSet<&'a [u8]>,
+    marks: Vec<bool>,
+}
+
+/// What is left of the text of an entry's path, and the entry's place in its stanza.
+#[derive(Clone, Copy)]
+struct Named<'a> {
+    rest: &'a [u8],
+    place: usize,
+}
 
 /// Adds the text of a directory's path; whether none was there that is equal.
 fn note_new<'a>(texts: &mut HashSet<&'a [u8]>, line: &'a Line) -> Result<bool, AllocError>
@@ -30,19 +53,6 @@ fn note_new<'a>(texts: &mut HashSet<&'a [u8]>, line: &'a Line) -> Result<bool, A
     }
     let new = texts.insert(text)?;
     Ok(new)
-}
-
-/// The texts of the paths of the directories, where no two are equal.
-fn distinct_dirs(alloc: Global, lines: &[Line]) -> Result<Option<HashSet<&[u8]>>, AllocError>
-    ensures { IfOk result (λ found. IfSome found (λ set. HasDirTexts lines.now (has_text set))) }
-{
-    let mut texts = HashSet::with_capacity(alloc, lines.len() / 4)?;
-    for line in lines {
-        if !note_new(&mut texts, line)? {
-            return Ok(None);
-        }
-    }
-    Ok(Some(texts))
 }
 
 /// A number for the two last bytes of a text before its last slash.
@@ -86,15 +96,20 @@ fn no_marks(alloc: Global) -> Result<Vec<bool>, AllocError> {
     vec![in alloc; false; 65536]
 }
 
-/// Marks how the texts of the directories end.
-fn marks_of(alloc: Global, lines: &[Line]) -> Result<Vec<bool>, AllocError>
-    ensures { IfOk result (λ marks. IsFilter marks.items (λ text. list_any (has_dir_text text) lines.now)) }
+/// The texts of the paths of the directories, where no two are equal, and marks on how they end.
+fn distinct_dirs(alloc: Global, lines: &[Line]) -> Result<Option<Dirs<'_>>, AllocError>
+    ensures texts { IfOk result (λ found. IfSome found (λ dirs. HasDirTexts lines.now (has_text dirs.texts))) }
+    ensures marks { IfOk result (λ found. IfSome found (λ dirs. IsFilter dirs.marks.items (λ text. list_any (has_dir_text text) lines.now))) }
 {
+    let mut texts = HashSet::with_capacity(alloc, lines.len() / 4)?;
     let mut marks = no_marks(alloc)?;
     for line in lines {
+        if !note_new(&mut texts, line)? {
+            return Ok(None);
+        }
         mark_dir(&mut marks, line);
     }
-    Ok(marks)
+    Ok(Some(Dirs { texts, marks }))
 }
 
 /// Whether a text is no directory's. Looks it up only where a directory's text ends as it does.
@@ -123,16 +138,16 @@ fn are_apart<'a>(dirs: &HashSet<&'a [u8]>, marks: &[bool], entries: &'a [Line]) 
 }
 
 /// Whether each name is before the next one.
-fn ascend(names: &[&[u8]]) -> bool
-    ensures { IsTrue result → IsTrue (ascends (slice_cmp nat_cmp) (map (λ name. name.now) names.now)) }
+fn ascend(names: &[Named<'_>]) -> bool
+    ensures { IsTrue result → IsTrue (ascends (slice_cmp nat_cmp) (map (λ name. name.rest.now) names.now)) }
 {
-    names.is_sorted_by(|a, b| a.cmp(b).is_lt())
+    names.is_sorted_by(|a, b| a.rest.cmp(b.rest).is_lt())
 }
 
-fn sort_names(names: &mut Vec<&[u8]>)
+fn sort_names(names: &mut Vec<Named<'_>>)
     ensures { IsPermutation names.old.items names.new.items }
 {
-    names.sort_unstable_by(|a, b| a.cmp(b));
+    names.sort_unstable_by(|a, b| a.rest.cmp(b.rest));
 }
 
 /// What is left of a path's text behind so many bytes.
@@ -146,15 +161,16 @@ fn text_behind(line: &Line, front: usize) -> &[u8]
 
 /// Whether no two of the lines have one path, by what is left of each behind so many bytes.
 fn are_distinct<'a>(
-    names: &mut Vec<&'a [u8]>,
+    names: &mut Vec<Named<'a>>,
     front: usize,
     entries: &'a [Line],
 ) -> Result<bool, AllocError>
     ensures { IfOk result (λ distinct. IsTrue distinct → (path : Components) → times (λ line. path_eq path line.path) entries.now ≤ 1) }
 {
     names.clear();
-    for entry in entries {
-        names.push(text_behind(entry, front))?;
+    for (place, entry) in entries.iter().enumerate() {
+        let rest = text_behind(entry, front);
+        names.push(Named { rest, place })?;
     }
     sort_names(names);
     Ok(ascend(names.as_slice()))
@@ -175,7 +191,7 @@ fn has_parent<'a>(dirs: &HashSet<&'a [u8]>, dir: &'a Line) -> bool
 fn is_stanza<'a>(
     dirs: &HashSet<&'a [u8]>,
     marks: &[bool],
-    names: &mut Vec<&'a [u8]>,
+    names: &mut Vec<Named<'a>>,
     dir: &'a Line,
     entries: &'a [Line],
 ) -> Result<bool, AllocError>
@@ -204,40 +220,51 @@ pub(crate) fn stanza_end(lines: &[Line], at: usize) -> usize
     end
 }
 
-fn are_stanzas<'a>(
+/// Adds the places of names.
+fn keep_places(order: &mut Vec<u32>, names: &[Named<'_>]) -> Result<(), AllocError> {
+    for name in names {
+        order.push(u32::try_from(name.place).unwrap_or(0))?;
+    }
+    Ok(())
+}
+
+/// The stanzas of lines without a fault.
+fn stanzas_of<'a>(
     alloc: Global,
     dirs: &HashSet<&'a [u8]>,
     marks: &[bool],
     lines: &'a [Line],
-) -> Result<bool, AllocError>
+) -> Result<Option<Stanzas>, AllocError>
     requires texts { HasDirTexts lines.now (has_text dirs.now) }
     requires filter { IsFilter marks.now (has_text dirs.now) }
-    ensures { IfOk result (λ sound. IsTrue sound → AreStanzas lines.now lines.now) }
+    ensures { IfOk result (λ found. IfSome found (λ stanzas. AreStanzas lines.now lines.now × AreGrouped (reverse stanzas.sizes.items) lines.now)) }
 {
     let mut names = Vec::new(alloc);
+    let mut sizes = Vec::with_capacity(alloc, dirs.len())?;
+    let mut order = Vec::with_capacity(alloc, lines.len())?;
     let mut at = 0;
     while at < lines.len() {
         let end = stanza_end(lines, at);
         if !is_stanza(dirs, marks, &mut names, &lines[at], &lines[at + 1..end])? {
-            return Ok(false);
+            return Ok(None);
         }
+        keep_places(&mut order, names.as_slice())?;
+        sizes.push(end - (at + 1))?;
         at = end;
     }
-    Ok(true)
+    Ok(Some(Stanzas { sizes, order }))
 }
 
-/// Whether lines without a fault are soon seen to be so. Looks each directory's text up twice among hashed texts, and an entry's
-/// only where a directory's name has the same two last bytes.
-pub(crate) fn is_sound(alloc: Global, lines: &[Line]) -> Result<bool, AllocError>
-    ensures { IfOk result (λ sound. IsTrue sound → tree_fault lines.now ≡ None) }
+/// The stanzas, where lines without a fault are soon seen to be so. Looks each directory's text up twice among hashed texts, and an entry's only where a directory's name has the same two last bytes.
+pub(crate) fn sound_stanzas(alloc: Global, lines: &[Line]) -> Result<Option<Stanzas>, AllocError>
+    ensures { IfOk result (λ found. IfSome found (λ stanzas. (tree_fault lines.now ≡ None) × AreGrouped (reverse stanzas.sizes.items) lines.now)) }
 {
     let Some(dirs) = distinct_dirs(alloc, lines)? else {
-        return Ok(false);
+        return Ok(None);
     };
     let root: &[u8] = b"/";
-    if !dirs.contains(&root) {
-        return Ok(false);
+    if !dirs.texts.contains(&root) {
+        return Ok(None);
     }
-    let marks = marks_of(alloc, lines)?;
-    are_stanzas(alloc, &dirs, marks.as_slice(), lines)
+    stanzas_of(alloc, &dirs.texts, dirs.marks.as_slice(), lines)
 }

@@ -10,7 +10,7 @@ ghost use Rattle.std.specs.Arc.{arc_value};
 ghost use Rattle.gufi_tree.specs.Stored.{directory_of, directories_of, values_of};
 
 use crate::link::{parents_of, subdirs_of};
-use crate::shared::{find_shared, share_all, value_at};
+use crate::shared::{find_shared, value_at};
 use gufi_access::Guard;
 use gufi_base::{Memory, Name, Path, Rec};
 use std::alloc::{AllocError, Global};
@@ -60,16 +60,16 @@ impl Model for Tree {
 
 impl Tree {
     /// The tree of directories in order.
-    pub(crate) fn of(alloc: Global, stored: Vec<Stored>) -> Result<Tree, AllocError>
+    pub(crate) fn of(alloc: Global, stored: Vec<Arc<Stored, Global>>) -> Result<Tree, AllocError>
         requires few { length stored.items < 2 ^ 32 }
-        requires rows { length (flat_map own_rows (directories_of stored.items)) < 2 ^ 32 }
-        requires shape { HasTreeShape (directories_of stored.items) }
-        ensures { IfOk result (λ tree. tree ≡ directories_of stored.items) }
+        requires rows { length (flat_map own_rows (directories_of (values_of stored.items))) < 2 ^ 32 }
+        requires shape { HasTreeShape (directories_of (values_of stored.items)) }
+        ensures { IfOk result (λ tree. tree ≡ directories_of (values_of stored.items)) }
     {
         let parents = parents_of(alloc, stored.as_slice())?;
         let subdirs = subdirs_of(alloc, parents.as_slice())?;
         Ok(Tree {
-            stored: share_all(alloc, stored)?,
+            stored,
             parents,
             subdirs,
         })

@@ -82,7 +82,8 @@ distinct_step n x d e rest =
       ]
     ]
 
-distinct_more : (ns : List ℕ) (x : ℕ) → distinct (ns ++ x ∷ []) ≡ insert_key eqb (distinct ns) x
+-- a list's numbers without repeats, with one number more behind the others
+pub distinct_more : (ns : List ℕ) (x : ℕ) → distinct (ns ++ x ∷ []) ≡ insert_key eqb (distinct ns) x
 distinct_more [] x = refl
 distinct_more (n ∷ ns) x = distinct_step n x (distinct ns) (distinct (ns ++ x ∷ [])) (distinct_more ns x)
 

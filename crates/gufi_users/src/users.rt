@@ -1,5 +1,5 @@
 //! Both tables together: who a USER word names, and names by number.
-ghost use Rattle.std.specs.Prelude.{◌≡◌, Some, None, option_map, slice_get, IfOk, MatchOption};
+ghost use Rattle.std.specs.Prelude.{◌≡◌, Some, None, map, option_map, slice_get, IfOk, MatchOption};
 ghost use Rattle.gufi_users.specs.Users.{groups_of, name_of_gid, name_of_uid, gid_of, uid_of, principal_of};
 
 use crate::group::Groups;
@@ -34,7 +34,7 @@ impl Model for Users {
 }
 
 impl Users {
-    ghost use Rattle.gufi_users.specs.Entries.{UserTables};
+    ghost use Rattle.gufi_users.specs.Entries.{UserTables, PasswdEntry, GroupEntry};
 
     /// Both files, with tables by number that give the first row in file order.
     pub fn of(alloc: Global, passwd: Passwd, groups: Groups) -> Result<Users, Memory>
@@ -91,6 +91,20 @@ impl Users {
         ensures { result ≡ gid_of self.now name.now }
     {
         self.groups.gid_named(name)
+    }
+
+    /// The uids of the users, in file order.
+    pub fn uids(&self, alloc: Global) -> Result<Vec<u32>, AllocError>
+        ensures { IfOk result (λ uids. uids.items ≡ map (λ (user : PasswdEntry). user.uid) self.now.users) }
+    {
+        self.passwd.uids(alloc)
+    }
+
+    /// The gids of the groups, in file order.
+    pub fn gids(&self, alloc: Global) -> Result<Vec<u32>, AllocError>
+        ensures { IfOk result (λ gids. gids.items ≡ map (λ (entry : GroupEntry). entry.gid) self.now.groups) }
+    {
+        self.groups.gids(alloc)
     }
 
     /// Who a word names: a user of that name, or else the numbers that it writes, as `UID`, `UID:` or `UID:GID,GID`.

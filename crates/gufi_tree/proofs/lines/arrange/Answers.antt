@@ -1,4 +1,6 @@
-use Rattle.std.proofs.Common.{◌∙◌}
+use Rattle.std.proofs.Common.{◌∙◌, sym, subst}
+use Rattle.std.proofs.lemmas.Result.{IfOk-weaker}
+use Rattle.gufi_tree.specs.Gathered.{IsArranged}
 use Rattle.std.proofs.lemmas.List.Sorted.{IsPermutation-trans}
 use Rattle.gufi_tree.proofs.Faultless.{faultless_from_none}
 use Rattle.gufi_tree.proofs.Homes.{AreInOrder-same}
@@ -24,8 +26,9 @@ returns c =
     let sound = faultless_from_none lines c.requires in
     let g = gathered_sorted lines loose c.in_ok-gathered.gathered.stored.items sorted c.sort_directories.ensures.permutation c.in_ok-gathered.ensures in
     let order = gathered_order lines loose sorted sound g c.sort_directories.ensures.order in
-    arranged lines final sound
+    let done = arranged lines final sound
     (IsPermutation-trans _ _ _ g.rows (IsPermutation-trans _ _ _ c.in_ok-place.ensures.rows c.sort_entries.ensures.rows))
     (c.sort_entries.ensures.kinds ∙ c.in_ok-place.ensures.kinds g.kinds)
     (AreInOrder-same final sorted (c.sort_entries.ensures.paths ∙ c.in_ok-place.ensures.paths) order)
-    c.sort_entries.ensures.order
+    c.sort_entries.ensures.order in
+    IfOk-weaker c.share_all.result _ _ (λ shared e. subst (IsArranged lines) (sym e) done) c.share_all.ensures

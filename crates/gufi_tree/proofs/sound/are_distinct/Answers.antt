@@ -1,5 +1,5 @@
 use Rattle.std.proofs.Common.{◌≡◌, ◌∙◌, ap, List, ℕ, map, subst, arith, true}
-use Rattle.std.specs.Borrow.{Bor}
+use Rattle.gufi_tree.specs.declared.sound.Named.{Named}
 use Rattle.std.specs.Ordering.{nat_cmp}
 use Rattle.std.specs.Cmp.Lexicographic.{slice_cmp}
 use Rattle.std.proofs.lemmas.List.{take_all}
@@ -12,7 +12,7 @@ use Rattle.gufi_tree.proofs.sound.are_distinct.Goals as goal
 pub returns : goal.returns
 returns c = λ t.
     let key = rest_of_text c.args.front in
-    let P : List (Bor (List ℕ)) → Type 0 = λ xs. ascends (slice_cmp nat_cmp) (map (λ (r : Bor (List ℕ)). r.now) xs) ≡ true in
-    distinct_from (rest_of_text c.args.front) c.loop-entry.names.items c.sort_names.new.names.items c.args.entries.now
-    (c.loop-entry.invariant ∙ ap (map (λ (line : Line). rest_of_text c.args.front line.path)) (take_all c.loop-entry.entry-index c.args.entries.now (omega arith))) c.sort_names.ensures
+    let P : List Named → Type 0 = λ xs. ascends (slice_cmp nat_cmp) (map (λ (n : Named). n.rest.now) xs) ≡ true in
+    distinct_from (λ (n : Named). n.rest.now) (rest_of_text c.args.front) c.loop-place.names.items c.sort_names.new.names.items c.args.entries.now
+    (c.loop-place.invariant ∙ ap (map (λ (line : Line). rest_of_text c.args.front line.path)) (take_all c.loop-place.place c.args.entries.now (omega arith))) c.sort_names.ensures
     (subst P c.as_slice.ensures.value (c.ascend.ensures t))

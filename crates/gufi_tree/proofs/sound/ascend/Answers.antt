@@ -1,5 +1,5 @@
 use Rattle.std.proofs.Common.{◌≡◌, Bool, List, ℕ, sym, subst, rules, is_lt}
-use Rattle.std.specs.Borrow.{Bor}
+use Rattle.gufi_tree.specs.declared.sound.Named.{Named}
 use Rattle.std.specs.Ordering.{nat_cmp}
 use Rattle.std.specs.Cmp.Lexicographic.{slice_cmp}
 use Rattle.std.specs.List.{IsAllAdjacentAnswer}
@@ -10,6 +10,6 @@ use Rattle.gufi_tree.proofs.sound.ascend.Goals as goal
 pub returns : goal.returns
 returns c = λ t.
     let names = c.args.names.now in
-    let P : Bool → Type 0 = λ r. IsAllAdjacentAnswer (λ (x y : Bor (List ℕ)) b. b ≡ is_lt (slice_cmp nat_cmp x.now y.now)) c.args.names.now r in
-    let each = subst P t (c.is_sorted_by.ensures.cases (λ (x y : Bor (List ℕ)). is_lt (slice_cmp nat_cmp x.now y.now)) (always_returns_same _ _ _ (λ a r g q. search rules))) in
-    ascends_map (λ (r : Bor (List ℕ)). r.now) (slice_cmp nat_cmp) names (ascends_adjacent (λ (x y : Bor (List ℕ)). slice_cmp nat_cmp x.now y.now) names (λ k d lt. sym (each k d lt)))
+    let P : Bool → Type 0 = λ r. IsAllAdjacentAnswer (λ (x y : Named) b. b ≡ is_lt (slice_cmp nat_cmp x.rest.now y.rest.now)) c.args.names.now r in
+    let each = subst P t (c.is_sorted_by.ensures.cases (λ (x y : Named). is_lt (slice_cmp nat_cmp x.rest.now y.rest.now)) (always_returns_same _ _ _ (λ a r g q. search rules))) in
+    ascends_map (λ (n : Named). n.rest.now) (slice_cmp nat_cmp) names (ascends_adjacent (λ (x y : Named). slice_cmp nat_cmp x.rest.now y.rest.now) names (λ k d lt. sym (each k d lt)))

@@ -1,0 +1,111 @@
+//! The parts of a path's kept text.
+
+ghost use Rattle.std.specs.Prelude.{◌≡◌, ◌≢◌, ◌==◌, ◌<◌, ◌≤◌, [], ◌∷◌, ◌++◌, length, filter, drop, IfOk, MatchOption};
+ghost use Rattle.gufi_base.specs.Paths.{path_text, parent_path, base_name, stem};
+ghost use Rattle.gufi_base.specs.PathTexts.{kept_text, names, IsText};
+
+use std::alloc::{AllocError, Global};
+
+/// The kept text of a path below the root, from its stem and its base name.
+pub(crate) fn text_of_row(alloc: Global, stem: &[u8], base: &[u8]) -> Result<Vec<u8>, AllocError>
+    ensures { IfOk result (λ text. text.items ≡ stem.now ++ (base.now ++ 47 ∷ [])) }
+{
+    let length = stem.len().saturating_add(base.len()).saturating_add(1);
+    let mut text = Vec::with_capacity(alloc, length)?;
+    text.extend_from_slice(stem)?;
+    text.extend_from_slice(base)?;
+    text.push(b'/')?;
+    Ok(text)
+}
+
+/// The text of a path and one name more.
+pub(crate) fn text_of_child(
+    alloc: Global,
+    parent: &[u8],
+    name: &[u8],
+) -> Result<Vec<u8>, AllocError>
+    ensures { IfOk result (λ text. text.items ≡ parent.now ++ (name.now ++ 47 ∷ [])) }
+{
+    let mut text = Vec::with_capacity(alloc, parent.len() + name.len() + 1)?;
+    text.extend_from_slice(parent)?;
+    text.extend_from_slice(name)?;
+    text.push(b'/')?;
+    Ok(text)
+}
+
+/// The bytes behind the first so many, moved to the front of their memory.
+pub(crate) fn without_front(mut bytes: Vec<u8>, count: usize) -> Vec<u8>
+    requires { count ≤ length bytes.items }
+    ensures { result.items ≡ drop count bytes.items }
+{
+    if count == 0 {
+        return bytes;
+    }
+    let rest = bytes.len() - count;
+    bytes.copy_within(count.., 0);
+    bytes.truncate(rest);
+    bytes
+}
+
+pub(crate) fn count_slashes(text: &[u8]) -> usize
+    ensures { result ≡ length (filter (λ b. b == 47) text.now) }
+{
+    text.iter().filter(|b| **b == b'/').count()
+}
+
+/// Where the last name of a text begins, behind the slash before it.
+pub(crate) fn last_name_at(text: &[u8]) -> usize
+    requires text { IsText text.now }
+    requires named { 1 < length text.now }
+    ensures value { result ≡ length (kept_text (parent_path (names text.now))) }
+    ensures within { result < length text.now }
+{
+    let mut at = text.len() - 1;
+    while text[at - 1] != b'/' {
+        at -= 1;
+    }
+    at
+}
+
+/// The text of the directory that a path lies in.
+pub(crate) fn parent_of(text: &[u8]) -> Option<&[u8]>
+    requires { IsText text.now }
+    ensures { MatchOption result
+        (names text.now ≡ [])
+        (λ parent. (names text.now ≢ []) × (parent.now ≡ kept_text (parent_path (names text.now)))) }
+{
+    if text.len() <= 1 {
+        return None;
+    }
+    Some(&text[..last_name_at(text)])
+}
+
+pub(crate) fn stem_of(text: &[u8]) -> &[u8]
+    requires { IsText text.now }
+    ensures { result.now ≡ stem (names text.now) }
+{
+    if text.len() <= 1 {
+        return &[];
+    }
+    &text[..last_name_at(text)]
+}
+
+pub(crate) fn base_name_of(text: &[u8]) -> &[u8]
+    requires { IsText text.now }
+    ensures { result.now ≡ base_name (names text.now) }
+{
+    if text.len() <= 1 {
+        return text;
+    }
+    &text[last_name_at(text)..text.len() - 1]
+}
+
+pub(crate) fn printed_of(text: &[u8]) -> &[u8]
+    requires { IsText text.now }
+    ensures { result.now ≡ path_text (names text.now) }
+{
+    if text.len() <= 1 {
+        return text;
+    }
+    &text[..text.len() - 1]
+}

@@ -1,0 +1,88 @@
+//! Whether a path begins with another, and what is left of it.
+
+ghost use Rattle.std.specs.Prelude.{◌≡◌, ◌≢◌, ℕ, List, [], ◌∷◌, ◌++◌, IsTrue, IfSome, Ok, MatchOption, false};
+ghost use Rattle.std.specs.List.{list_all};
+ghost use Rattle.gufi_base.specs.Words.{BeginsWith, split};
+ghost use Rattle.gufi_base.specs.Names.{is_name};
+ghost use Rattle.gufi_base.specs.Paths.{read_path, is_prefix, is_proper_prefix, GoesOnWith};
+ghost use Rattle.gufi_base.specs.PathTexts.{names, IsText};
+
+use crate::name::is_name;
+use crate::order::same_bytes;
+use crate::path_reading::MAX_NAME;
+use crate::piece::pieces_of;
+use crate::plain::are_plain;
+
+/// What is left of a text behind a front.
+fn behind<'a>(text: &'a [u8], front: &[u8]) -> Option<&'a [u8]>
+    ensures { MatchOption result ((rest : List ℕ) → text.now ≢ front.now ++ rest) (λ rest. text.now ≡ front.now ++ rest.now) }
+{
+    if text.len() < front.len() {
+        return None;
+    }
+    let (start, rest) = text.split_at(front.len());
+    if same_bytes(start, front) {
+        Some(rest)
+    } else {
+        None
+    }
+}
+
+/// Whether the path of a text begins with that of another.
+pub(crate) fn begins_with(text: &[u8], front: &[u8]) -> bool
+    requires text { IsText text.now }
+    requires front { IsText front.now }
+    ensures { result ≡ is_prefix (names front.now) (names text.now) }
+{
+    match behind(text, front) {
+        None => false,
+        Some(_) => true,
+    }
+}
+
+fn first_piece(text: &[u8]) -> Option<&[u8]>
+    ensures { MatchOption result ⊥ (λ part. BeginsWith (split 47 text.now) part.now) }
+{
+    pieces_of(text, b"/").next()
+}
+
+/// The last name of bytes that spell a root's path, a parent's below it, and that name.
+pub(crate) fn child_name<'a>(bytes: &'a [u8], root: &[u8], parent: &[u8]) -> Option<&'a [u8]>
+    requires root { IsText root.now }
+    requires parent { IsText parent.now }
+    ensures { IfSome result (λ name. IsTrue (is_name name.now) × (read_path bytes.now ≡ Ok (names root.now ++ (names parent.now ++ name.now ∷ [])))) }
+{
+    if bytes.len() > MAX_NAME {
+        return None;
+    }
+    let below = behind(bytes, &root[..root.len() - 1])?;
+    let name = behind(below, parent)?;
+    if is_name(name) { Some(name) } else { None }
+}
+
+/// The names, with single slashes between them, of bytes that spell a root's path and these.
+pub(crate) fn names_behind<'a>(bytes: &'a [u8], root: &[u8]) -> Option<&'a [u8]>
+    requires { IsText root.now }
+    ensures { IfSome result (λ rest. IsTrue (list_all is_name (split 47 rest.now)) × (read_path bytes.now ≡ Ok (names root.now ++ split 47 rest.now))) }
+{
+    if bytes.len() > MAX_NAME {
+        return None;
+    }
+    let rest = behind(bytes, root)?;
+    if are_plain(rest) { Some(rest) } else { None }
+}
+
+/// The first name of a text behind a front that it goes on from.
+pub(crate) fn name_behind<'a>(text: &'a [u8], front: &[u8]) -> Option<&'a [u8]>
+    requires text { IsText text.now }
+    requires front { IsText front.now }
+    ensures { MatchOption result
+        (is_proper_prefix (names front.now) (names text.now) ≡ false)
+        (λ name. GoesOnWith (names front.now) (names text.now) name.now) }
+{
+    match behind(text, front) {
+        None => None,
+        Some(rest) if rest.is_empty() => None,
+        Some(rest) => first_piece(rest),
+    }
+}

@@ -1,0 +1,247 @@
+//! Reading word by word.
+ghost use Rattle.std.specs.Prelude.{◌≡◌, IfOk};
+ghost use Rattle.gufi_find.specs.Reading.{with_item, begun, opened, inverted, close_level, wants_primary, wants_operator, read_word, at_end};
+ghost use Rattle.gufi_formula.specs.Formulas.{with_or};
+ghost use Rattle.gufi_find.specs.States.{level_kept, levels_kept, state_kept};
+ghost use Rattle.gufi_find.specs.WordFaults.{Gives};
+
+use crate::condition::Condition;
+use crate::expression::FindExpr;
+use crate::fault::{FindKind, WordFault};
+use crate::level::{Level, is_full};
+use crate::operand::{Item, read_operand};
+use crate::place::Place;
+use crate::primary::{Primary, PrimaryName, primary_of};
+use crate::test::Test;
+use gufi_users::Users;
+use std::alloc::{AllocError, Global};
+
+/// What is wanted next, what is open, the innermost level apart from those outside it, and the bounds of depth so far.
+#[derive(Drop)]
+pub(crate) struct State {
+    pub(crate) place: Place,
+    pub(crate) level: Level,
+    pub(crate) outer: Vec<Level>,
+    pub(crate) least: u32,
+    pub(crate) most: Option<u32>,
+}
+
+impl State {
+    /// A test is complete.
+    fn with_test(self, alloc: Global, test: Test) -> Result<State, AllocError>
+        ensures { IfOk result (λ s. state_kept s ≡ with_item (Item.OfTest test) (state_kept self)) }
+    {
+        let term = Condition::of(alloc, test)?;
+        let level = self.level.with_term(term)?;
+        Ok(State {
+            place: Place::Operator,
+            level,
+            outer: self.outer,
+            least: self.least,
+            most: self.most,
+        })
+    }
+
+    /// A test or a bound of depth is complete.
+    fn with_item(self, alloc: Global, item: Item) -> Result<State, AllocError>
+        ensures { IfOk result (λ s. state_kept s ≡ with_item item (state_kept self)) }
+    {
+        match item {
+            Item::OfTest(test) => self.with_test(alloc, test),
+            Item::LeastDepth(depth) => {
+                let state = self.with_test(alloc, Test::DepthBound)?;
+                Ok(State {
+                    place: state.place,
+                    level: state.level,
+                    outer: state.outer,
+                    least: depth,
+                    most: state.most,
+                })
+            }
+            Item::MostDepth(depth) => {
+                let state = self.with_test(alloc, Test::DepthBound)?;
+                Ok(State {
+                    place: state.place,
+                    level: state.level,
+                    outer: state.outer,
+                    least: state.least,
+                    most: Some(depth),
+                })
+            }
+        }
+    }
+
+    /// `(`
+    fn opened(self) -> Result<State, WordFault>
+        ensures { Gives state_kept result (opened (state_kept self)) }
+    {
+        if is_full(&self.level, self.outer.as_slice()) {
+            return Err(WordFault::Kind(FindKind::TooDeep));
+        }
+        let mut outer = self.outer;
+        outer.push(self.level)?;
+        Ok(State {
+            place: Place::Primary,
+            level: Level::new(),
+            outer,
+            least: self.least,
+            most: self.most,
+        })
+    }
+
+    /// `!`
+    fn inverted(self) -> Result<State, WordFault>
+        ensures { Gives state_kept result (inverted (state_kept self)) }
+    {
+        if is_full(&self.level, self.outer.as_slice()) {
+            return Err(WordFault::Kind(FindKind::TooDeep));
+        }
+        Ok(State {
+            place: Place::Primary,
+            level: self.level.with_not(),
+            outer: self.outer,
+            least: self.least,
+            most: self.most,
+        })
+    }
+
+    /// `)`
+    fn closed(self) -> Result<State, WordFault>
+        ensures { Gives state_kept result (close_level (levels_kept self.outer.items) (state_kept self)) }
+    {
+        let mut outer = self.outer;
+        let Some(around) = outer.pop() else {
+            return Err(WordFault::Kind(FindKind::Parenthesis));
+        };
+        let term = self.level.formula()?;
+        let level = around.closed_by(term)?;
+        Ok(State {
+            place: self.place,
+            level,
+            outer,
+            least: self.least,
+            most: self.most,
+        })
+    }
+}
+
+impl State {
+    /// Where a primary is wanted.
+    #[tactic(auto, unfolding(crate::specs::Reading::wants_primary))]
+    fn with_primary(
+        self,
+        alloc: Global,
+        users: &Users,
+        now: Option<i64>,
+        word: &str,
+    ) -> Result<State, WordFault>
+        ensures { Gives state_kept result (wants_primary users.now now (state_kept self) word.now) }
+    {
+        match word {
+            ")" => Err(WordFault::Kind(FindKind::Parenthesis)),
+            "(" => self.opened(),
+            "!" => self.inverted(),
+            _ => match PrimaryName::of(word) {
+                Some(name) => self.begun(alloc, primary_of(alloc, users, now, name)?),
+                None => Err(WordFault::Kind(FindKind::UnknownPrimary)),
+            },
+        }
+    }
+
+    /// A primary is begun.
+    fn begun(self, alloc: Global, primary: Primary) -> Result<State, WordFault>
+        ensures { Gives state_kept result (begun primary (state_kept self)) }
+    {
+        match primary {
+            Primary::Alone(test) => Ok(self.with_test(alloc, test)?),
+            Primary::Taking(operand) => Ok(self.wanting(Place::Argument(operand))),
+            Primary::WithoutNow => Err(WordFault::Kind(FindKind::NoNow)),
+        }
+    }
+
+    /// The same with another place.
+    fn wanting(self, place: Place) -> State
+        ensures { state_kept result ≡ record (state_kept self) { place = place } }
+    {
+        State {
+            place,
+            level: self.level,
+            outer: self.outer,
+            least: self.least,
+            most: self.most,
+        }
+    }
+
+    /// `-o`
+    fn with_or(self) -> Result<State, AllocError>
+        ensures { IfOk result (λ s. state_kept s ≡ record (state_kept self) { place = Place.Primary; level = with_or (level_kept self.level) }) }
+    {
+        let level = self.level.with_or()?;
+        Ok(State {
+            place: Place::Primary,
+            level,
+            outer: self.outer,
+            least: self.least,
+            most: self.most,
+        })
+    }
+
+    /// Where an operator is wanted, or a primary.
+    #[tactic(auto, unfolding(crate::specs::Reading::wants_operator))]
+    fn with_operator(
+        self,
+        alloc: Global,
+        users: &Users,
+        now: Option<i64>,
+        word: &str,
+    ) -> Result<State, WordFault>
+        ensures { Gives state_kept result (wants_operator users.now now (state_kept self) word.now) }
+    {
+        match word {
+            ")" => self.closed(),
+            "-o" => Ok(self.with_or()?),
+            "-a" => Ok(self.wanting(Place::Primary)),
+            _ => self.with_primary(alloc, users, now, word),
+        }
+    }
+
+    /// One word more.
+    pub(crate) fn with_word(
+        self,
+        alloc: Global,
+        users: &Users,
+        now: Option<i64>,
+        word: &str,
+    ) -> Result<State, WordFault>
+        ensures { Gives state_kept result (read_word users.now now (state_kept self) self.place word.now) }
+    {
+        match self.place {
+            Place::Primary => self.with_primary(alloc, users, now, word),
+            Place::Operator => self.with_operator(alloc, users, now, word),
+            Place::Argument(operand) => {
+                let item = read_operand(alloc, users, operand, word.as_bytes())?;
+                Ok(self.with_item(alloc, item)?)
+            }
+        }
+    }
+
+    /// The end of the words.
+    pub(crate) fn ended(self, alloc: Global) -> Result<FindExpr, WordFault>
+        ensures { Gives (λ e. e) result (at_end (state_kept self) self.place) }
+    {
+        match self.place {
+            Place::Primary | Place::Argument(_) => {
+                return Err(WordFault::Kind(FindKind::MissingArgument));
+            }
+            Place::Operator => {}
+        }
+        if !self.outer.is_empty() {
+            return Err(WordFault::Kind(FindKind::Parenthesis));
+        }
+        let condition = match self.level.formula()? {
+            Some(condition) => condition,
+            None => Condition::of(alloc, Test::Always)?,
+        };
+        Ok(FindExpr::of(condition, self.least, self.most))
+    }
+}

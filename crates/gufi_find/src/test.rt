@@ -1,0 +1,59 @@
+//! The tests of an expression.
+ghost use Rattle.std.specs.Prelude.{◌≡◌, ◌++◌};
+ghost use Rattle.gufi_find.specs.Tests.{is_true};
+
+use crate::comparison::{Comparison, SizeUnit};
+use crate::numbers::NumberSet;
+use gufi_base::{Kind, RowRef};
+use gufi_glob::Glob;
+
+/// A test of a row. Moments are in seconds since the epoch.
+#[derive(Drop)]
+pub enum Test {
+    /// No words at all.
+    Always,
+    /// `-mindepth` and `-maxdepth`, which bound the whole expression.
+    DepthBound,
+    NameMatches(Glob),
+    PathMatches(Glob),
+    KindIs(Kind),
+    SizeIs(SizeUnit, Comparison),
+    AtimeIs(i64, Comparison),
+    MtimeIs(i64, Comparison),
+    CtimeIs(i64, Comparison),
+    LinksAre(Comparison),
+    ModeIs(u16),
+    /// All of these bits are set.
+    ModeHas(u16),
+    UserIs(u32),
+    GroupIs(u32),
+    UserNotIn(NumberSet),
+    GroupNotIn(NumberSet),
+}
+
+impl Test {
+    /// Whether a row in borrowed parts meets it.
+    #[inline]
+    pub(crate) fn is_true(&self, row: RowRef<'_>) -> bool
+        ensures { result ≡ is_true self.now (row.entry.stem.now ++ row.entry.base.now) row.entry.base.now row.entry.meta.now }
+    {
+        let meta = row.meta;
+        match self {
+            Test::Always | Test::DepthBound => true,
+            Test::NameMatches(pattern) => pattern.matches(&[], row.base),
+            Test::PathMatches(pattern) => pattern.matches(row.stem, row.base),
+            Test::KindIs(kind) => kind.letter() == meta.kind.letter(),
+            Test::SizeIs(unit, comparison) => comparison.is_met(meta.size.div_ceil(unit.bytes())),
+            Test::AtimeIs(now, comparison) => comparison.is_met_by_days(*now, meta.atime),
+            Test::MtimeIs(now, comparison) => comparison.is_met_by_days(*now, meta.mtime),
+            Test::CtimeIs(now, comparison) => comparison.is_met_by_days(*now, meta.ctime),
+            Test::LinksAre(comparison) => comparison.is_met(meta.nlink),
+            Test::ModeIs(mode) => meta.mode == *mode,
+            Test::ModeHas(mode) => meta.mode & *mode == *mode,
+            Test::UserIs(uid) => meta.uid == *uid,
+            Test::GroupIs(gid) => meta.gid == *gid,
+            Test::UserNotIn(uids) => !uids.contains(meta.uid),
+            Test::GroupNotIn(gids) => !gids.contains(meta.gid),
+        }
+    }
+}

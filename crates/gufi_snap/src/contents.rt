@@ -1,0 +1,146 @@
+//! What a snapshot keeps under every limit.
+
+ghost use Rattle.std.specs.Prelude.{◌≡◌, ◌+◌, ◌≤◌, ◌<◌, ◌^◌, List, ◌++◌, filter, length, All, IfOk, OnOk};
+ghost use Rattle.std.specs.List.{flat_map};
+ghost use Rattle.gufi_base.specs.declared.record.Row.{Row};
+ghost use Rattle.gufi_base.specs.Paths.{is_prefix};
+ghost use Rattle.gufi_tree.specs.Tree.{own_rows, home_rows, subtree_rows, HasTreeShape};
+ghost use Rattle.gufi_tree.specs.Places.{path_at};
+ghost use Rattle.gufi_store.specs.Scan.{is_met};
+ghost use Rattle.gufi_sums.specs.Total.{IsTotal};
+
+use crate::stores::stores_of;
+use crate::sums::{add_below, own_sums};
+use gufi_base::{Memory, Pred, Steps, Yield};
+use gufi_store::{DirStore, scan_fold};
+use gufi_sums::Summary;
+use gufi_tree::{DirId, Tree};
+use std::alloc::Global;
+use std::marker::Model;
+use std::sync::ledger::Ledger;
+
+/// A tree with a store for each directory and the sums of its rows.
+///
+/// Rows are kept once: stores share the tree's directories, and a fold is a range of stores.
+#[derive(Drop)]
+pub(crate) struct Contents {
+    tree: Tree,
+    stores: Vec<DirStore>,
+    own_sums: Vec<Summary>,
+    tree_sums: Vec<Summary>,
+}
+
+impl Model for Contents {
+    ghost use Rattle.gufi_tree.specs.Tree.{Directory};
+    ghost use Rattle.std.specs.Prelude.{List};
+
+    ghost Value = { List Directory };
+
+    ghost use Rattle.gufi_snap.specs.Kept.{IsContents};
+
+    ghost view = { λ c. c.tree };
+
+    ghost invariant = { λ c. IsContents c.tree c.stores.items c.own_sums.items c.tree_sums.items };
+}
+
+impl Contents {
+    /// The stores and the sums of a tree. One step for each directory.
+    pub(crate) fn of<L: Ledger>(
+        alloc: Global,
+        tree: Tree,
+        steps: &mut Steps<L>,
+    ) -> Result<Contents, Memory>
+        ensures contents { IfOk result (λ contents. contents ≡ tree) }
+        ensures ticks { OnOk result (steps.new ≡ steps.old + length tree) }
+        ensures at_most { steps.new ≤ steps.old + length tree }
+    {
+        let stores = stores_of(alloc, &tree, steps)?;
+        let own_sums = own_sums(alloc, &tree)?;
+        let mut tree_sums = Vec::from_slice(alloc, &own_sums)?;
+        add_below(&tree, &mut tree_sums);
+        Ok(Contents {
+            tree,
+            stores,
+            own_sums,
+            tree_sums,
+        })
+    }
+
+    pub(crate) fn tree(&self) -> &Tree
+        ensures tree { result.now ≡ self.now }
+        ensures shape { HasTreeShape self.now }
+        ensures few { length (flat_map own_rows self.now) < 2 ^ 32 }
+    {
+        &self.tree
+    }
+
+    pub(crate) fn dir_sum(&self, id: DirId) -> &Summary
+        requires { id.0 < length self.now }
+        ensures { IsTotal result.now (home_rows self.now (path_at self.now id.0)) }
+    {
+        &self.own_sums[id.0 as usize]
+    }
+
+    pub(crate) fn tree_sum(&self, id: DirId) -> &Summary
+        requires { id.0 < length self.now }
+        ensures { IsTotal result.now (subtree_rows self.now (path_at self.now id.0)) }
+    {
+        &self.tree_sums[id.0 as usize]
+    }
+
+    /// The stores of a directory and of all below it, which stand side by side. Its sum says how many they are.
+    fn stores_below(&self, id: DirId) -> &[DirStore]
+        requires { id.0 < length self.now }
+        ensures dirs { result.now ≡ filter (λ dir. is_prefix (path_at self.now id.0) dir.path) self.now }
+        ensures shape { HasTreeShape self.now }
+        ensures deep { All (λ dir. length (path_at self.now id.0) ≤ length dir.path) result.now }
+    {
+        let _count = self.tree.dirs();
+        let stores = self.stores.as_slice();
+        let first = id.0 as usize;
+        let end = first + self.tree_sum(id).dirs as usize;
+        &stores[first..end]
+    }
+
+    /// Adds the rows of a directory itself that meet the question. One step.
+    pub(crate) fn scan_own<P: Pred, Y: Yield, L: Ledger>(
+        &self,
+        alloc: Global,
+        id: DirId,
+        pred: &P,
+        above: u32,
+        out: &mut Y,
+        steps: &mut Steps<L>,
+    ) -> Result<(), Memory>
+        requires id { id.0 < length self.now }
+        requires above { above ≤ length (path_at self.now id.0) }
+        requires room { Y.count out.old + length (home_rows self.now (path_at self.now id.0)) < 2 ^ 40 }
+        requires rows { (rows : List Row) × Y.stands_for out.old rows }
+        ensures rows { OnOk result ((rows : List Row) → Y.stands_for out.old rows →
+            Y.stands_for out.new (rows ++ filter (is_met above (P.sat pred.now)) (home_rows self.now (path_at self.now id.0)))) }
+        ensures tick { steps.new ≡ steps.old + 1 }
+    {
+        self.stores[id.0 as usize].scan(alloc, pred, above, out, steps)
+    }
+
+    /// Adds the rows at and below a directory that meet the question. One step for all.
+    pub(crate) fn scan_below<P: Pred, Y: Yield, L: Ledger>(
+        &self,
+        alloc: Global,
+        id: DirId,
+        pred: &P,
+        above: u32,
+        out: &mut Y,
+        steps: &mut Steps<L>,
+    ) -> Result<(), Memory>
+        requires id { id.0 < length self.now }
+        requires above { above ≤ length (path_at self.now id.0) }
+        requires room { Y.count out.old + length (subtree_rows self.now (path_at self.now id.0)) < 2 ^ 40 }
+        requires rows { (rows : List Row) × Y.stands_for out.old rows }
+        ensures rows { OnOk result ((rows : List Row) → Y.stands_for out.old rows →
+            Y.stands_for out.new (rows ++ filter (is_met above (P.sat pred.now)) (subtree_rows self.now (path_at self.now id.0)))) }
+        ensures tick { steps.new ≡ steps.old + 1 }
+    {
+        scan_fold(alloc, self.stores_below(id), pred, above, out, steps)
+    }
+}

@@ -1,0 +1,28 @@
+-- A trace that is fed to its reader as it comes.
+use Rattle.std.specs.Prelude.{◌≡◌, ℕ, ◌≤◌, List, length, ⊤, Option, Some, None, Result}
+use Rattle.gufi_base.specs.Limits.{max_trace}
+use Rattle.gufi_base.specs.Words.{◌>>=◌, result_map_err}
+use Rattle.gufi_base.specs.declared.record.Line.{Line}
+use Rattle.gufi_io.specs.Files.{Files, IsReadUpTo}
+use Rattle.gufi_trace.specs.TraceText.{trace_lines, of_line}
+use Rattle.gufi_trace.specs.Reader.{Reading, HasRead}
+use Rattle.gufi_top.specs.Reasons.{Reason, file_in, trace_reason}
+
+-- the lines of the bytes of a trace, and those of the trace in a file
+unfoldable pub lines_within : ℕ → List ℕ → List ℕ → Result (List Line) Reason
+lines_within delim file bytes = result_map_err (λ e. trace_reason file (of_line e)) (trace_lines delim bytes)
+
+unfoldable pub lines_in : ℕ → List ℕ → Files → Result (List Line) Reason
+lines_in delim file files = file_in max_trace file files >>= lines_within delim file
+
+-- the reader has read all of a file, which isn't too long
+abbrev pub HasReadFile : Option Files → List ℕ → Reading → Type 0
+HasReadFile None name reader = ⊤
+HasReadFile (Some files) name reader = (bytes : List ℕ) × (files name ≡ Some bytes) × (length bytes ≤ max_trace) × HasRead reader bytes
+
+-- so many bytes were read of a file, which the reader has read, and these are left
+pub record IsFedUpTo (told : Option Files) (name : List ℕ) (left : Option (List ℕ)) (reader : Reading) (size : ℕ) : Type 0 where
+  pub stream : List ℕ
+  pub read : HasRead reader stream
+  pub count : length stream ≡ size
+  pub upto : IsReadUpTo told name stream left

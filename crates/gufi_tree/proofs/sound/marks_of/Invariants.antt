@@ -1,8 +1,0 @@
-use Rattle.std.proofs.Common.{take}
-use Rattle.std.specs.List.{list_any}
-use Rattle.gufi_tree.specs.Texts.{has_dir_text}
-use Rattle.gufi_tree.specs.Sound.{IsFilter}
-use Rattle.gufi_tree.proofs.sound.marks_of.Given as goal
-
-abbrev pub invariant-loop-line : goal.invariant-loop-line
-invariant-loop-line l = IsFilter l.marks.items (λ text. list_any (has_dir_text text) (take l.line-index l.lines))
