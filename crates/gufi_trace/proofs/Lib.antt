@@ -14,4 +14,3 @@ pub mod Writes
 pub mod Checks
 pub mod SoundLines
 mod Worked
-pub mod EightDigits

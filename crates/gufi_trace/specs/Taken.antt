@@ -1,7 +1,6 @@
 -- What a quick reader takes of a line that is sound.
-use Rattle.std.specs.Prelude.{◌≡◌, ℕ, ◌+◌, ◌^◌, ◌<◌, ◌≤◌, ◌==◌, true, false, List, ◌∷◌, ◌++◌, length, take, drop, Option, Some, None, Ok, IsTrue}
-use Rattle.std.specs.List.{list_any, list_all}
-use Rattle.std.specs.Char.{is_digit}
+use Rattle.std.specs.Prelude.{◌≡◌, ℕ, ◌+◌, ◌^◌, ◌<◌, ◌≤◌, ◌==◌, false, List, ◌∷◌, ◌++◌, length, take, drop, Option, Some, None, Ok, IsTrue}
+use Rattle.std.specs.List.{list_any}
 use Rattle.std.specs.Str.Parse.{digits_value}
 use Rattle.gufi_base.specs.declared.record.Kind.{Kind}
 use Rattle.gufi_base.specs.declared.record.Meta.{Meta}
@@ -22,13 +21,6 @@ pub record KindBefore (delim : ℕ) (text : List ℕ) (kind : Kind) : Type 0 whe
   pub reads : read_kind (take 1 text) ≡ Some kind
   pub first : split delim text ≡ take 1 text ∷ split delim (drop (1 + 1) text)
   pub within : 1 < length text
-
--- the first eight bytes are digits that write the number
-pub record IsEightDigits (text : List ℕ) (n : ℕ) : Type 0 where
-  pub within : 8 ≤ length text
-  pub numeral : list_all (λ c. is_digit c 10) (take 8 text) ≡ true
-  pub value : n ≡ digits_value 10 (take 8 text)
-  pub small : n < 10 ^ 8
 
 -- the first of the parts is a number of few digits, and the others are left
 pub record TakesNumber (old new : List (List ℕ)) (n : ℕ) : Type 0 where

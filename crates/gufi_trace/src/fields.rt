@@ -8,7 +8,6 @@ ghost use Rattle.gufi_trace.specs.Fields.{texts, fields_of, fields_in};
 ghost use Rattle.gufi_trace.specs.Taken.{KindBefore, Takes, TakesNumber};
 ghost use Rattle.gufi_base.specs.Kinds.{read_kind};
 
-use crate::digits::long_before;
 use crate::fault::{Refused, TraceKind};
 use gufi_base::{Kind, number_before, read_kind};
 use memchr::memchr_iter;
@@ -115,20 +114,6 @@ impl<'a> Parts<'a> {
         }
         let rest = self.rest;
         let (number, at) = number_before(rest, self.delim)?;
-        self.rest = behind(rest, at);
-        Some(number)
-    }
-
-    /// The same of a number that mostly has more than eight digits.
-    #[inline(always)]
-    pub(crate) fn next_long_number(&mut self) -> Option<u64>
-        ensures { IfSome result (TakesNumber self.old self.new) }
-    {
-        if self.is_done {
-            return None;
-        }
-        let rest = self.rest;
-        let (number, at) = long_before(rest, self.delim)?;
         self.rest = behind(rest, at);
         Some(number)
     }

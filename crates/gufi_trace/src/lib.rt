@@ -5,7 +5,6 @@
 #![tactic(auto)]
 
 mod content;
-mod digits;
 mod fault;
 mod fields;
 mod lines;

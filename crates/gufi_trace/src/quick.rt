@@ -35,7 +35,7 @@ fn next_u32(parts: &mut Parts<'_>) -> Option<u32>
 fn next_time(parts: &mut Parts<'_>) -> Option<i64>
     ensures { IfSome result (λ z. Takes ℤ read_i64 parts.old parts.new z) }
 {
-    let number = parts.next_long_number()?;
+    let number = parts.next_number()?;
     Some(number as i64)
 }
 
