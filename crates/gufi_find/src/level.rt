@@ -120,7 +120,6 @@ impl Level {
 }
 
 /// Whether as many constructs are open as may be.
-
 pub(crate) fn is_full(level: &Level, outer: &[Level]) -> bool
     ensures value { result ≡ nat_le 64 (open_ones (level_kept level.now) (levels_kept outer.now)) }
     ensures room { OnFalse result (level.now.nots < 64) }

@@ -21,3 +21,6 @@ mod test;
 pub use expression::FindExpr;
 pub use fault::{FindError, FindKind};
 pub use reading::read_find;
+
+#[cfg(test)]
+mod tests;
