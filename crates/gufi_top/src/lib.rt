@@ -6,6 +6,8 @@
 
 mod ask;
 mod command;
+#[cfg(test)]
+mod find_tests;
 mod halt;
 mod laws;
 mod note;

@@ -8,7 +8,7 @@ use std::test::Fail;
 use std::thread::Threads;
 
 // One readable directory.
-const A: &[u8] = b"/r|d|1|493|2|101|100|4096|4096|8|10|20|30|\n";
+pub(crate) const A: &[u8] = b"/r|d|1|493|2|101|100|4096|4096|8|10|20|30|\n";
 
 // A directory whose owner's class denies its owner, with a file.
 const B: &[u8] = b"/r|d|1|493|3|101|100|4096|4096|8|10|20|30|
@@ -16,7 +16,7 @@ const B: &[u8] = b"/r|d|1|493|3|101|100|4096|4096|8|10|20|30|
 /r/c/x|f|3|420|1|102|200|7|4096|8|10|21|30|
 ";
 
-const D: &[u8] = b"/r|d|1|493|3|101|100|4096|4096|8|10|20|30|
+pub(crate) const D: &[u8] = b"/r|d|1|493|3|101|100|4096|4096|8|10|20|30|
 /r/a|d|2|493|3|101|100|4096|4096|8|10|20|30|
 /r/a/b|d|3|493|2|101|100|4096|4096|8|10|20|30|
 ";
@@ -60,7 +60,8 @@ const DENIES_GROUP: &[u8] = b"/r|d|1|453|2|101|100|4096|4096|8|10|20|30|\n";
 const UNENDED: &[u8] = b"/r|d|1|493|2|101|100|4096|4096|8|10|20|30|";
 
 // Two homes; the second is a group's, and one of its files has a name that isn't UTF-8.
-const HOMES: &[u8] = b"/home|d|1|16877|4|0|0|4096|4096|8|1700000000|1700000000|1700000000|
+pub(crate) const HOMES: &[u8] =
+    b"/home|d|1|16877|4|0|0|4096|4096|8|1700000000|1700000000|1700000000|
 /home/ana|d|2|16832|2|1001|1001|4096|4096|8|1700000000|1700000000|1700000000|
 /home/ana/old.h5|f|3|33188|1|1001|1001|1048576|4096|2048|1700000000|1700000000|1700000000|
 /home/proj|d|4|17912|2|0|500|4096|4096|8|1700000000|1700000000|1700000000|
@@ -142,7 +143,7 @@ fn check<R: AllocGlobal + Abort + Threads + Wait>(
     Ok(())
 }
 
-fn check_run<R: AllocGlobal + Abort + Threads + Wait>(
+pub(crate) fn check_run<R: AllocGlobal + Abort + Threads + Wait>(
     rt: &R,
     bytes: &[u8],
     words: &[&str],
@@ -240,7 +241,7 @@ fn refusals_name_their_causes(rt: HostRuntime) -> Result<(), Fail> {
 }
 
 // Search alone for others on the middle directory.
-const C: &[u8] = b"/r|d|1|493|3|101|100|4096|4096|8|10|20|30|
+pub(crate) const C: &[u8] = b"/r|d|1|493|3|101|100|4096|4096|8|10|20|30|
 /r/p|d|2|457|3|101|100|4096|4096|8|10|20|30|
 /r/p/q|d|3|493|2|101|100|4096|4096|8|10|20|30|
 /r/p/q/y|f|4|420|1|101|100|5|4096|8|10|20|30|
