@@ -1,0 +1,15 @@
+pub mod Acts
+pub mod Deals
+pub mod Counts
+pub mod Forests
+pub mod Shapes
+pub mod Reached
+pub mod Ended
+pub mod Changed
+pub mod Evens
+pub mod Thefts
+pub mod Dealing
+pub mod Balance
+pub mod Rises
+pub mod Numbers
+pub mod Runs

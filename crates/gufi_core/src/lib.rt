@@ -1,0 +1,22 @@
+//! Publications, pins and work stealing as one machine over events: no thread, no lock, no handle.
+//!
+//! `step` says what each event changes and when it is legal, over states whose lists contracts see as lists.
+//! A run answers for every list of events; the laws say what holds in every state that one reaches.
+//! It stands on `gufi_base`; the threads of publication and of the pool each run steps of this machine.
+#![tactic(auto)]
+
+mod event;
+mod job;
+mod laws;
+mod machine;
+mod run;
+mod state;
+mod worker;
+
+pub use event::Event;
+pub use laws::{ended_jobs_took_owed, runs_hold, steps_keep_balance};
+pub use run::{CoreFault, run_events};
+pub use state::{Core, JobState, Shape, WorkerState};
+
+#[cfg(test)]
+mod tests;
