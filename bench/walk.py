@@ -1,5 +1,5 @@
 #!/usr/bin/env python3
-"""Processor time, peak memory and instructions of `gufi walk` and `gufi stat` over a trace, beside another program's where one is named.
+"""Processor time, peak memory and instructions of `gufi walk`, `stat` and `find` over a trace, beside another program's where one is named.
 
   python3 walk.py TRACE [--program ../gufi] [--uid 2007] [--gids 5001,5002] [--runs 5] [--instructions] [--peer 'COMMAND ..']
 
@@ -13,6 +13,10 @@ import shlex
 import statistics
 import subprocess
 import sys
+
+
+# Large files of one kind.
+LARGE = ["-name", "*.h5", "-size", "+2048"]
 
 
 def once(command):
@@ -49,6 +53,8 @@ def main():
         "walk as root": [given.program, "walk", given.trace, "0", "-"],
         "stat as %s" % given.uid: [given.program, "stat", given.trace, "%s:%s" % (given.uid, given.gids), "/"],
         "stat as root": [given.program, "stat", given.trace, "0", "/"],
+        "find as %s" % given.uid: [given.program, "find", given.trace, "%s:%s" % (given.uid, given.gids), "/"] + LARGE,
+        "find as root": [given.program, "find", given.trace, "0", "/"] + LARGE,
     }
     if given.peer:
         commands["peer"] = shlex.split(given.peer)
