@@ -8,10 +8,9 @@ interleaved, output goes to /dev/null, files are warm, times are medians of user
 """
 import argparse
 import os
-import statistics
 import subprocess
 
-from walk import once
+from walk import interleaved
 
 
 def report(command):
@@ -35,13 +34,7 @@ def main():
         commands["rollup under %s" % limit] = [given.program, "rollup", option, given.trace]
         commands["find under %s as %s" % (limit, given.user)] = [given.program, "find", option, given.trace, given.user, "/"]
         commands["find under %s as root" % limit] = [given.program, "find", option, given.trace, "0", "/"]
-    seen = {name: [] for name in commands}
-    for _ in range(given.runs + 1):
-        for name, command in commands.items():
-            seen[name].append(once(command))
-    for name, runs in seen.items():
-        time = statistics.median(seconds for seconds, _ in runs[1:])
-        peak = max(memory for _, memory in runs)
+    for name, (time, peak) in interleaved(commands, given.runs).items():
         text = "%-36s %8.3f s  %6.0f MB" % (name, time, peak)
         if name.startswith("rollup"):
             text += "  " + report(commands[name])

@@ -29,6 +29,18 @@ def once(command):
     return usage.ru_utime + usage.ru_stime, usage.ru_maxrss / 1024
 
 
+def interleaved(commands, runs):
+    """The median seconds and the highest peak memory of each of these named commands, run in turn; the first turn warms the files."""
+    seen = {name: [] for name in commands}
+    for _ in range(runs + 1):
+        for name, command in commands.items():
+            seen[name].append(once(command))
+    return {
+        name: (statistics.median(seconds for seconds, _ in turns[1:]), max(memory for _, memory in turns))
+        for name, turns in seen.items()
+    }
+
+
 def instructions(command):
     tool = ["valgrind", "--tool=callgrind", "--callgrind-out-file=/dev/null"]
     run = subprocess.run(tool + command, stdout=subprocess.DEVNULL, stderr=subprocess.PIPE, text=True)
@@ -58,14 +70,8 @@ def main():
     }
     if given.peer:
         commands["peer"] = shlex.split(given.peer)
-    seen = {name: [] for name in commands}
-    for _ in range(given.runs + 1):
-        for name, command in commands.items():
-            seen[name].append(once(command))
     print("%d rows" % rows)
-    for name, runs in seen.items():
-        time = statistics.median(seconds for seconds, _ in runs[1:])
-        peak = max(memory for _, memory in runs)
+    for name, (time, peak) in interleaved(commands, given.runs).items():
         text = "%-16s %8.3f s  %7.0f ns/row  %6.0f MB" % (name, time, 1e9 * time / rows, peak)
         if given.instructions:
             text += "  %6.0f instructions/row" % (instructions(commands[name]) / rows)
