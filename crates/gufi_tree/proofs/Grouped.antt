@@ -32,7 +32,7 @@ use Rattle.gufi_tree.specs.Gathered.{row_of_line, rows_of}
 use Rattle.gufi_tree.specs.Sound.{is_own_entry}
 use Rattle.gufi_tree.specs.Grouped.{IsStanzaOf, AreGrouped, HasOrder, IsStoredOf, IsOneMore}
 use Rattle.gufi_tree.proofs.Pushed.{child_path}
-use Rattle.gufi_tree.proofs.Stanzas.{take_stanza}
+use Rattle.gufi_tree.proofs.SoundStanzas.{take_stanza}
 
 pub front_same : {X : Type 0} (xs ys : List X) (x y : X) → xs ++ x ∷ [] ≡ ys ++ y ∷ [] → xs ≡ ys
 front_same xs ys x y e = sym (all_but_last_push xs x) ∙ ap all_but_last e ∙ all_but_last_push ys y

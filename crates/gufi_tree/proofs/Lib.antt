@@ -11,7 +11,7 @@ pub mod Arranged
 pub mod Linked
 pub mod Resolving
 pub mod Apart
-pub mod Stanzas
+pub mod SoundStanzas
 pub mod Marks
 pub mod Filters
 pub mod Rests
@@ -23,3 +23,4 @@ pub mod FoundStart
 pub mod Below
 pub mod Kids
 pub mod Grouped
+pub mod LinesOf

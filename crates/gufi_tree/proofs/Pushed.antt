@@ -18,6 +18,7 @@ use Rattle.gufi_tree.specs.declared.tree.Stored.{Stored}
 use Rattle.gufi_tree.specs.Tree.{Directory, dir_row, entry_row, own_rows, is_kinded}
 use Rattle.gufi_tree.specs.Stored.{directories_of}
 use Rattle.gufi_tree.specs.Build.{is_dir_line, entry_of_line}
+use Rattle.gufi_tree.specs.StanzaLines.{HasOneMore}
 use Rattle.gufi_tree.specs.Gathered.{row_of_line, rows_of, IsGathered}
 use Rattle.gufi_tree.proofs.Built.{path_eq-Decides}
 
@@ -26,12 +27,6 @@ pub child_path : (p c : Components) → is_child_of p c ≡ true → p ++ base_n
 child_path p [] h = absurd (false≢true h)
 child_path p (n ∷ c) h =
     ap (λ (q : Components). q ++ base_name (n ∷ c) ∷ []) ((path_eq-Decides p (parent_path (n ∷ c))).0 h) ∙ all_but_last_and_last (47 ∷ []) n c
-
--- a directory with one entry more
-pub record HasOneMore (old new : Stored) (e : Entry) : Type 0 where
-  pub path : new.path ≡ old.path
-  pub rec : new.rec ≡ old.rec
-  pub entries : new.entries.items ≡ old.entries.items ++ e ∷ []
 
 module _ (old new : Stored) (e : Entry) (more : HasOneMore old new e) where
   own_more : own_rows (record { path = new.path; rec = new.rec; entries = new.entries.items }) ≡ own_rows (record { path = old.path; rec = old.rec; entries = old.entries.items }) ++ entry_row old.path e ∷ []

@@ -1,5 +1,6 @@
 pub mod Tree
 pub mod Stored
+pub mod StanzaLines
 pub mod Build
 pub mod Places
 pub mod Kept

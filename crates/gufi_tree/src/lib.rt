@@ -15,11 +15,13 @@ mod shared;
 mod sort;
 mod sound;
 mod stanza;
+mod stanzas;
 mod tree;
 
 pub use fault::TreeFault;
 pub use lines::build;
 pub use resolve::Resolved;
+pub use stanzas::{Stanzas, build_stanzas};
 pub use tree::{DirId, Entry, Stored, Tree};
 
 #[cfg(test)]

@@ -6,7 +6,7 @@ use Rattle.std.proofs.lemmas.List.{take_all}
 use Rattle.gufi_base.specs.declared.record.Line.{Line}
 use Rattle.gufi_base.specs.Words.{ascends}
 use Rattle.gufi_tree.specs.Sound.{rest_of_text}
-use Rattle.gufi_tree.proofs.Stanzas.{distinct_from}
+use Rattle.gufi_tree.proofs.SoundStanzas.{distinct_from}
 use Rattle.gufi_tree.proofs.sound.are_distinct.Goals as goal
 
 pub returns : goal.returns

@@ -4,7 +4,7 @@ use Rattle.std.specs.Ordering.{nat_cmp}
 use Rattle.std.specs.Cmp.Lexicographic.{slice_cmp}
 use Rattle.std.specs.List.{IsAllAdjacentAnswer}
 use Rattle.std.proofs.lemmas.Fn.{always_returns_same}
-use Rattle.gufi_tree.proofs.Stanzas.{ascends_adjacent, ascends_map}
+use Rattle.gufi_tree.proofs.SoundStanzas.{ascends_adjacent, ascends_map}
 use Rattle.gufi_tree.proofs.sound.ascend.Goals as goal
 
 pub returns : goal.returns

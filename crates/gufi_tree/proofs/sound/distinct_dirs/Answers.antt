@@ -3,7 +3,7 @@ use Rattle.std.proofs.lemmas.List.{take_all}
 use Rattle.std.specs.List.{list_any}
 use Rattle.gufi_base.specs.declared.record.Line.{Line}
 use Rattle.gufi_tree.specs.Texts.{has_text, has_dir_text}
-use Rattle.gufi_tree.proofs.Stanzas.{dir_texts_more}
+use Rattle.gufi_tree.proofs.SoundStanzas.{dir_texts_more}
 use Rattle.gufi_tree.proofs.Marks.{filter_more}
 use Rattle.gufi_tree.proofs.sound.distinct_dirs.Goals as goal
 

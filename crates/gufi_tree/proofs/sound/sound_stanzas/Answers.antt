@@ -2,7 +2,7 @@ use Rattle.std.proofs.Common.{sym, ◌∙◌}
 use Rattle.std.proofs.lemmas.Result.{IfOk-weaker}
 use Rattle.gufi_tree.specs.Texts.{has_text}
 use Rattle.gufi_tree.proofs.Sets.{rooted_is}
-use Rattle.gufi_tree.proofs.Stanzas.{sound_lines}
+use Rattle.gufi_tree.proofs.SoundStanzas.{sound_lines}
 use Rattle.gufi_tree.proofs.Grouped.{sized}
 use Rattle.gufi_tree.proofs.sound.sound_stanzas.Goals as goal
 

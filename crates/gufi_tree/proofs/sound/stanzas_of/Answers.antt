@@ -1,7 +1,7 @@
 use Rattle.std.proofs.Common.{refl}
 use Rattle.gufi_tree.proofs.Grouped.{grouped_more}
 use Rattle.gufi_tree.specs.Texts.{has_text}
-use Rattle.gufi_tree.proofs.Stanzas.{stanza_more}
+use Rattle.gufi_tree.proofs.SoundStanzas.{stanza_more}
 use Rattle.gufi_tree.proofs.sound.stanzas_of.Goals as goal
 
 pub loop-at-preserved : goal.loop-at-preserved
