@@ -22,5 +22,4 @@ pub mod RowHomes
 pub mod FoundStart
 pub mod Below
 pub mod Kids
-pub mod Grouped
 pub mod LinesOf

@@ -1,20 +1,20 @@
 -- Lines of directories, with one line more.
-use Rattle.std.proofs.Common.{◌≡◌, ℕ, zero, suc, ◌+◌, ◌<◌, Bool, true, false, not, ◌||◌, cond, List, [], ◌∷◌, ◌++◌, map, length, reverse, get_or, set, refl, sym, ap, ◌∙◌, subst, arith, append_assoc}
+use Rattle.std.proofs.Common.{◌≡◌, ℕ, zero, suc, ◌+◌, Bool, true, false, not, ◌||◌, cond, List, [], ◌∷◌, ◌++◌, map, length, reverse, get_or, set, refl, sym, ap, ◌∙◌, arith, append_assoc}
 use Rattle.std.specs.Prelude.{count_by, Result, Ok, Err, OnErr}
 use Rattle.std.specs.List.{list_any, list_all}
-use Rattle.std.proofs.lemmas.Bool.{and_parts, and_from, or_parts, false≢true, cond-true, cond-false, not-true, not_from_false}
+use Rattle.std.proofs.lemmas.Bool.{and_parts, and_from, false≢true, cond-true, cond-false, not-true, not_from_false}
 use Rattle.std.proofs.lemmas.List.{length-append, append-nil, reverse-append, map_push, map-append}
 use Rattle.std.proofs.lemmas.List.Sums.{sum_by-cons, sum_by-append}
-use Rattle.std.proofs.lemmas.List.Folds.{list_any-append, list_all-append}
+use Rattle.std.proofs.lemmas.List.Folds.{list_all-append}
 use Rattle.std.proofs.lemmas.List.Sorted.{IsPermutation-reverse, list_any-IsPermutation}
 use Rattle.gufi_base.specs.declared.record.Line.{Line}
 use Rattle.gufi_base.specs.declared.record.Row.{Row}
 use Rattle.gufi_base.specs.Names.{is_name}
-use Rattle.gufi_base.specs.Paths.{Components, parent_path, base_name, is_child_of}
+use Rattle.gufi_base.specs.Paths.{Components, base_name, is_child_of}
 use Rattle.gufi_base.specs.Kinds.{is_dir}
 use Rattle.gufi_tree.specs.declared.tree.Entry.{Entry}
 use Rattle.gufi_tree.specs.declared.tree.Stored.{Stored}
-use Rattle.gufi_tree.specs.Tree.{Directory, dir_row, entry_row, own_rows, is_kinded}
+use Rattle.gufi_tree.specs.Tree.{Directory, dir_row, entry_row, is_kinded}
 use Rattle.gufi_tree.specs.Stored.{directory_of, directories_of}
 use Rattle.gufi_tree.specs.Build.{is_dir_line}
 use Rattle.gufi_tree.specs.Gathered.{row_of_line, rows_of}

@@ -1,24 +1,33 @@
 -- Lines each of whose entries stands behind its directory have no fault.
-use Rattle.std.proofs.Common.{◌≡◌, ℕ, zero, suc, ◌+◌, ◌-◌, ◌<◌, ◌≤◌, Bool, true, false, not, ◌&&◌, ◌||◌, cond, List, [], ◌∷◌, ◌++◌, map, length, take, drop, get_or, None, ◌⊎◌, inl, inr, refl, sym, ap, ◌∙◌, subst, arith}
+use Rattle.std.proofs.Common.{◌≡◌, ℕ, zero, suc, ◌+◌, ◌<◌, ◌≤◌, Bool, true, false, not, ◌&&◌, ◌||◌, cond, List, [], ◌∷◌, ◌++◌, map, length, take, drop, get_or, None, ◌⊎◌, inl, inr, refl, sym, ap, ◌∙◌, subst, arith}
 use Rattle.std.specs.declared.cmp.Ordering.{Ordering}
 use Rattle.std.specs.Ordering.{is_eq, is_lt, nat_cmp}
 use Rattle.std.specs.Cmp.Lexicographic.{slice_cmp}
 use Rattle.std.proofs.lemmas.Cmp.{nat_list_cmp_total, tied_itself}
 use Rattle.std.specs.List.{list_any, list_all}
+use Rattle.std.specs.Prelude.{bytes_eq}
 use Rattle.std.specs.List.Sorted.{IsPermutation}
 use Rattle.std.proofs.lemmas.Bool.{false≢true, and_parts, and_from, or_parts, not-true, not_from_false}
-use Rattle.std.proofs.lemmas.List.{take_more, take-append-drop}
+use Rattle.std.proofs.lemmas.List.{take_more, take-append-drop, append-nil, map_push}
 use Rattle.std.proofs.lemmas.List.Folds.{list_any-append, list_all-append}
 use Rattle.std.proofs.lemmas.List.Sorted.{IsPermutation-map, IsPermutation-sym}
 use Rattle.gufi_base.specs.declared.record.Line.{Line}
 use Rattle.gufi_base.specs.declared.record.Row.{Row}
 use Rattle.gufi_base.specs.Words.{is_empty, ascends}
 use Rattle.gufi_base.specs.Names.{is_name}
-use Rattle.gufi_base.specs.Paths.{Components, path_cmp, path_eq, parent_path, is_child_of}
+use Rattle.gufi_base.specs.Kinds.{is_dir}
+use Rattle.gufi_base.specs.Paths.{Components, path_cmp, path_eq, parent_path, base_name, is_child_of}
 use Rattle.gufi_base.specs.PathTexts.{kept_text}
 use Rattle.gufi_base.specs.Rows.{row_cmp}
 use Rattle.gufi_base.proofs.Texts.{parent_named}
 use Rattle.gufi_base.proofs.SortedOnce.{times, Once, Once-IsPermutation, Once-from_ascends}
+use Rattle.gufi_base.proofs.Children.{child_of}
+use Rattle.gufi_base.proofs.RowParts.{base_name_push}
+use Rattle.gufi_tree.specs.declared.tree.Entry.{Entry}
+use Rattle.gufi_tree.specs.declared.tree.Stored.{Stored}
+use Rattle.gufi_tree.specs.Tree.{is_kinded}
+use Rattle.gufi_tree.specs.Stored.{directory_of, directories_of}
+use Rattle.gufi_tree.specs.StanzaLines.{entry_lines, dir_line, lines_from}
 use Rattle.gufi_tree.specs.Build.{is_dir_line, names_dir, is_orphan, tree_fault}
 use Rattle.gufi_tree.specs.Gathered.{row_of_line}
 use Rattle.gufi_tree.specs.Texts.{are_named, has_dir_text, is_orphan_by}
@@ -26,7 +35,8 @@ use Rattle.gufi_tree.specs.Sound.{is_dir_at, is_entry_at, is_own_entry, HasDirTe
 use Rattle.gufi_tree.proofs.Built.{path_eq-Decides}
 use Rattle.gufi_tree.proofs.Faultless.{is_eq-path_cmp, alike, none_from_faultless}
 use Rattle.gufi_tree.proofs.Placed.{times-append}
-use Rattle.gufi_tree.proofs.Sets.{any_more, all_more, dirs_same}
+use Rattle.gufi_tree.proofs.LinesOf.{is_entry, lines_from-append}
+use Rattle.gufi_tree.proofs.Sets.{dirs_same}
 
 module _ {X : Type 0} where
   none_times : (q : X → Bool) (xs : List X) → list_any q xs ≡ false → times q xs ≡ 0
@@ -75,16 +85,6 @@ module _ {X : Type 0} where
       let b = and_parts (q x) (list_all q xs) k in
       and_from (p x && q x) (list_all (λ v. p v && q v) xs) (and_from (p x) (q x) a.0 b.0) (all_both p q xs a.1 b.1)
 
-  -- one element and so many behind it, behind the first ones
-  pub take_stanza : (all : List X) (at n : ℕ) (x : X) → at < length all → take (at + 1 + n) all ≡ take at all ++ get_or all at x ∷ take n (drop (at + 1) all)
-  take_stanza [] at n x lt = absurd (omega (arith, lt))
-  take_stanza (y ∷ ys) zero n x lt = let e : zero + 1 + n ≡ suc n = omega arith in ap (λ m. take m (y ∷ ys)) e
-  take_stanza (y ∷ ys) (suc at) n x lt =
-      let e : suc at + 1 + n ≡ suc (at + 1 + n) = omega arith in
-      let f : suc at + 1 ≡ suc (at + 1) = omega arith in
-      ap (λ m. take m (y ∷ ys)) e ∙ ap (λ (xs : List X). y ∷ xs) (take_stanza ys at n x (omega (arith, lt)))
-      ∙ ap (λ m. y ∷ (take at ys ++ get_or ys at x ∷ take n (drop m (y ∷ ys)))) (sym f)
-
 -- neighbours that ascend
 pub ascends_adjacent : {X : Type 0} (cmp : X → X → Ordering) (xs : List X) → ((k : ℕ) (d : X) → k + 1 < length xs → is_lt (cmp (get_or xs k d) (get_or xs (k + 1) d)) ≡ true) → ascends cmp xs ≡ true
 ascends_adjacent cmp [] h = refl
@@ -123,40 +123,114 @@ distinct_from now key names sorted entries same perm up p =
     let few : times (λ (k : List ℕ). is_eq (slice_cmp nat_cmp (key p) k)) (map (λ (line : Line). key line.path) entries) ≤ 1 = subst (λ (ks : List (List ℕ)). times (λ (k : List ℕ). is_eq (slice_cmp nat_cmp (key p) k)) ks ≤ 1) same (once (key p)) in
     omega (arith, few, keys_times key p entries)
 
--- one key more
-pub keys_more : {N : Type 0} (now : N → List ℕ) (key : Components → List ℕ) (entries : List Line) (i : ℕ) (line : Line) (name : N) (names : List N) → i < length entries → line ≡ get_or entries i line
-    → map now names ≡ map (λ (v : Line). key v.path) (take i entries) → now name ≡ key line.path
-    → map now (names ++ name ∷ []) ≡ map (λ (v : Line). key v.path) (take (i + 1) entries)
-keys_more now key entries i line name names lt is e f =
-    map_push now names name ∙ ap (λ (ks : List (List ℕ)). ks ++ now name ∷ []) e ∙ ap (λ (k : List ℕ). map (λ (v : Line). key v.path) (take i entries) ++ k ∷ []) (f ∙ ap (λ (v : Line). key v.path) is)
-    ∙ sym (map_push (λ (v : Line). key v.path) (take i entries) (get_or entries i line)) ∙ ap (map (λ (v : Line). key v.path)) (sym (take_more entries i line lt)) where
-      map_push : {X Y : Type 0} (f : X → Y) (xs : List X) (x : X) → map f (xs ++ x ∷ []) ≡ map f xs ++ f x ∷ []
-      map_push f [] x = refl
-      map_push f (y ∷ ys) x = ap (λ zs. f y ∷ zs) (map_push f ys x)
+-- the names of entries are those of their lines' paths
+pub names_of_lines : (n : ℕ) (p : Components) (es : List Entry) → map (λ (line : Line). base_name line.path) (entry_lines n p es) ≡ map (λ (e : Entry). e.name) es
+names_of_lines n p [] = refl
+names_of_lines n p (e ∷ es) =
+    ap (λ (name : List ℕ). name ∷ map (λ (line : Line). base_name line.path) (entry_lines (n + 1) p es)) (base_name_push p e.name) ∙ ap (λ (names : List (List ℕ)). e.name ∷ names) (names_of_lines (n + 1) p es)
 
--- one line more among those whose directories' texts are known
-pub dir_texts_more : (lines : List Line) (i : ℕ) (line : Line) (dirs more : List ℕ → Bool) → i < length lines → line ≡ get_or lines i line → HasDirTexts (take i lines) dirs
-    → ((text : List ℕ) → more text ≡ (dirs text || has_dir_text text line)) → list_all is_name line.path ≡ true → (is_dir_line line && dirs (kept_text line.path)) ≡ false → HasDirTexts (take (i + 1) lines) more
-dir_texts_more lines i line dirs more lt is h step named new =
+-- one name more
+pub names_more : {N : Type 0} (now : N → List ℕ) (es : List Entry) (i : ℕ) (e : Entry) (name : N) (names : List N) → i < length es → e ≡ get_or es i e
+    → map now names ≡ map (λ (v : Entry). v.name) (take i es) → now name ≡ e.name → map now (names ++ name ∷ []) ≡ map (λ (v : Entry). v.name) (take (i + 1) es)
+names_more now es i e name names lt is h f =
+    map_push now names name ∙ ap (λ (ks : List (List ℕ)). ks ++ now name ∷ []) h ∙ ap (λ (k : List ℕ). map (λ (v : Entry). v.name) (take i es) ++ k ∷ []) (f ∙ ap (λ (v : Entry). v.name) is)
+    ∙ sym (map_push (λ (v : Entry). v.name) (take i es) (get_or es i e)) ∙ ap (map (λ (v : Entry). v.name)) (sym (take_more es i e lt))
+
+-- the entries of a directory are its own
+pub own_entries : (n : ℕ) (p : Components) (es : List Entry) → list_all (λ (v : Entry). not (is_dir v.rec.meta.kind)) es ≡ true → list_all (is_own_entry p) (entry_lines n p es) ≡ true
+own_entries n p [] h = refl
+own_entries n p (e ∷ es) h =
+    let both = and_parts (not (is_dir e.rec.meta.kind)) (list_all (λ (v : Entry). not (is_dir v.rec.meta.kind)) es) h in
+    and_from _ _ (and_from _ _ both.0 (child_of p e.name)) (own_entries (n + 1) p es both.1)
+
+-- The lines of the first directories, of one more, and of all.
+pub record IsSplit (stored : List Stored) (i : ℕ) (s : Stored) : Type 0 where
+  pub number : ℕ
+  pub rest : List Line
+  pub more : lines_from 1 (take (i + 1) stored) ≡ lines_from 1 (take i stored) ++ dir_line number s ∷ entry_lines (number + 1) s.path s.entries.items
+  pub whole : lines_from 1 stored ≡ (lines_from 1 (take i stored) ++ dir_line number s ∷ entry_lines (number + 1) s.path s.entries.items) ++ rest
+
+pub split_at : (stored : List Stored) (i : ℕ) (s : Stored) → i < length stored → s ≡ get_or stored i s → IsSplit stored i s
+split_at stored i s lt is =
+    let done = lines_from 1 (take i stored) in
+    let number = 1 + length (lines_from 1 (take i stored)) in
+    let es = entry_lines (number + 1) s.path s.entries.items in
+    let e : take (i + 1) stored ≡ take i stored ++ s ∷ [] = take_more stored i s lt ∙ ap (λ (v : Stored). take i stored ++ v ∷ []) (sym is) in
+    let more : lines_from 1 (take (i + 1) stored) ≡ lines_from 1 (take i stored) ++ dir_line number s ∷ entry_lines (number + 1) s.path s.entries.items =
+    ap (lines_from 1) e ∙ lines_from-append 1 (take i stored) (s ∷ []) number refl
+    ∙ ap (λ (ls : List Line). lines_from 1 (take i stored) ++ dir_line number s ∷ ls) (append-nil (entry_lines (number + 1) s.path s.entries.items)) in
+    let m = 1 + length (lines_from 1 (take (i + 1) stored)) in
     record {
-      texts = λ text. step text ∙ ap (λ b. b || has_dir_text text line) (h.texts text) ∙ sym (any_more (has_dir_text text) lines i line lt is);
-      named = all_more (λ (v : Line). list_all is_name v.path) lines i line lt is h.named named;
-      once = λ p.
-          let e : times (is_dir_at p) (take (i + 1) lines) ≡ times (is_dir_at p) (take i lines) + times (is_dir_at p) (get_or lines i line ∷ []) =
-          ap (times (is_dir_at p)) (take_more lines i line lt) ∙ times-append (is_dir_at p) (take i lines) (get_or lines i line ∷ []) in
-          let f : times (is_dir_at p) (get_or lines i line ∷ []) ≡ times (is_dir_at p) (line ∷ []) = ap (λ (v : Line). times (is_dir_at p) (v ∷ [])) (sym is) in
-          let one : times (is_dir_at p) (take i lines) + times (is_dir_at p) (line ∷ []) ≤ 1 = by p (is_dir_at p line) refl (h.once p) in
-          omega (arith, e, f, one);
-    } where
-      by : (p : Components) (b : Bool) → is_dir_at p line ≡ b → times (is_dir_at p) (take i lines) ≤ 1 → times (is_dir_at p) (take i lines) + (cond b 1 0 + 0) ≤ 1
-      by p false e few = omega (arith, few)
-      by p true e few =
-          let both = and_parts (is_dir_line line) (path_eq p line.path) e in
-          let same : p ≡ line.path = (path_eq-Decides p line.path).0 both.1 in
-          let absent : dirs (kept_text line.path) ≡ false = ap (λ b. b && dirs (kept_text line.path)) (sym both.0) ∙ new in
-          let none : names_dir (take i lines) line.path ≡ false = sym (dirs_same line.path (take i lines) named h.named) ∙ sym (h.texts (kept_text line.path)) ∙ absent in
-          let zero' : times (is_dir_at p) (take i lines) ≡ 0 = ap (λ (v : Components). times (is_dir_at v) (take i lines)) same ∙ none_times (is_dir_at line.path) (take i lines) none in
-          omega (arith, zero')
+      number = number;
+      rest = lines_from m (drop (i + 1) stored);
+      more = more;
+      whole = ap (lines_from 1) (sym (take-append-drop (i + 1) stored)) ∙ lines_from-append 1 (take (i + 1) stored) (drop (i + 1) stored) m refl
+          ∙ ap (λ (ls : List Line). ls ++ lines_from m (drop (i + 1) stored)) more;
+    }
+
+is_kinded_at : (stored : List Stored) (i : ℕ) (s : Stored) → i < length stored → s ≡ get_or stored i s → list_all is_kinded (directories_of stored) ≡ true → is_kinded (directory_of s) ≡ true
+is_kinded_at [] i s lt is h = absurd (omega (arith, lt))
+is_kinded_at (x ∷ stored) zero s lt is h =
+    let P : Stored → Type 0 = λ v. is_kinded (directory_of v) ≡ true in subst P (sym is) (and_parts (is_kinded (directory_of x)) (list_all is_kinded (directories_of stored)) h).0
+is_kinded_at (x ∷ stored) (suc i) s lt is h =
+    is_kinded_at stored i s (omega (arith, lt)) is (and_parts (is_kinded (directory_of x)) (list_all is_kinded (directories_of stored)) h).1
+
+-- what is known of a directory among others
+pub kinded_there : (stored : List Stored) (i : ℕ) (s : Stored) → i < length stored → s ≡ get_or stored i s → list_all is_kinded (directories_of stored) ≡ true
+    → (is_kinded (directory_of s) ≡ true) × ((is_dir s.rec.meta.kind ≡ true) × (list_all (λ (v : Entry). not (is_dir v.rec.meta.kind)) s.entries.items ≡ true))
+kinded_there stored i s lt is h =
+    let k = is_kinded_at stored i s lt is h in
+    (k, and_parts (is_dir s.rec.meta.kind) (list_all (λ (v : Entry). not (is_dir v.rec.meta.kind)) s.entries.items) k)
+
+pub first_named : (front rest : List Line) (all : List Line) → all ≡ front ++ rest → are_named all ≡ true → are_named front ≡ true
+first_named front rest all e h = (and_parts (are_named front) (are_named rest) (sym (list_all-append (λ (l : Line). list_all is_name l.path) front rest) ∙ ap are_named (sym e) ∙ h)).0
+
+pub entries_have_none : (p : Line → Bool) (ls : List Line) → ((l : Line) → is_entry l ≡ true → p l ≡ false) → list_all is_entry ls ≡ true → list_any p ls ≡ false
+entries_have_none p [] f h = refl
+entries_have_none p (l ∷ ls) f h =
+    let both = and_parts (is_entry l) (list_all is_entry ls) h in
+    ap (λ b. b || list_any p ls) (f l both.0) ∙ entries_have_none p ls f both.1
+
+pub not_dir : (d b : Bool) → not d ≡ true → (d && b) ≡ false
+not_dir true b h = absurd cc
+not_dir false b h = refl
+
+-- one directory more among those whose texts are known
+module _ (done es : List Line) (d : Line) (dirs more : List ℕ → Bool) (h : HasDirTexts done dirs) (step : (text : List ℕ) → more text ≡ (dirs text || bytes_eq text (kept_text d.path)))
+    (named : are_named (done ++ d ∷ es) ≡ true) (kind : is_dir_line d ≡ true) (only : list_all is_entry es ≡ true) (new : dirs (kept_text d.path) ≡ false) where
+  own_name : list_all is_name d.path ≡ true
+  own_name = (and_parts (list_all is_name d.path) (are_named es) (and_parts (are_named done) (are_named (d ∷ es)) (sym (list_all-append (λ (l : Line). list_all is_name l.path) done (d ∷ es)) ∙ named)).1).0
+
+  pub dir_texts_more : HasDirTexts (done ++ d ∷ es) more
+  dir_texts_more = record {
+    texts = λ text.
+        step text ∙ ap (λ b. b || bytes_eq text (kept_text d.path)) (h.texts text)
+        ∙ ap (λ b. list_any (has_dir_text text) done || b) (same text)
+        ∙ sym (list_any-append (has_dir_text text) done (d ∷ es));
+    named = named;
+    once = λ p.
+        let e : times (is_dir_at p) (done ++ d ∷ es) ≡ times (is_dir_at p) done + (cond (is_dir_at p d) 1 0 + times (is_dir_at p) es) = times-append (is_dir_at p) done (d ∷ es) in
+        let none : times (is_dir_at p) es ≡ 0 = none_times (is_dir_at p) es (entries_have_none (is_dir_at p) es (λ l k. not_dir (is_dir_line l) (path_eq p l.path) k) only) in
+        let few : times (is_dir_at p) done + cond (is_dir_at p d) 1 0 ≤ 1 = by p (is_dir_at p d) refl (h.once p) in
+        omega (arith, e, none, few);
+  } where
+    or_false : (b : Bool) → (b || false) ≡ b
+    or_false true = refl
+    or_false false = refl
+
+    same : (text : List ℕ) → bytes_eq text (kept_text d.path) ≡ (has_dir_text text d || list_any (has_dir_text text) es)
+    same text =
+        ap (λ b. b && bytes_eq text (kept_text d.path)) (sym kind) ∙ sym (or_false (has_dir_text text d))
+        ∙ ap (λ b. has_dir_text text d || b) (sym (entries_have_none (has_dir_text text) es (λ l k. not_dir (is_dir_line l) (bytes_eq text (kept_text l.path)) k) only))
+
+    by : (p : Components) (b : Bool) → is_dir_at p d ≡ b → times (is_dir_at p) done ≤ 1 → times (is_dir_at p) done + cond b 1 0 ≤ 1
+    by p false e few = omega (arith, few)
+    by p true e few =
+        let both = and_parts (is_dir_line d) (path_eq p d.path) e in
+        let same' : p ≡ d.path = (path_eq-Decides p d.path).0 both.1 in
+        let none : names_dir done d.path ≡ false = sym (dirs_same d.path done own_name h.named) ∙ sym (h.texts (kept_text d.path)) ∙ new in
+        let zero' : times (is_dir_at p) done ≡ 0 = ap (λ (v : Components). times (is_dir_at v) done) same' ∙ none_times (is_dir_at d.path) done none in
+        omega (arith, zero')
 
 module _ (all : List Line) (dirs : List ℕ → Bool) (known : HasDirTexts all dirs) where
   dirs_are : (p : Components) → list_all is_name p ≡ true → dirs (kept_text p) ≡ names_dir all p
@@ -275,7 +349,8 @@ module _ (all : List Line) (dirs : List ℕ → Bool) (known : HasDirTexts all d
             by (inr a) (inl b) e first few = omega (arith, b, e, first, sound.once p)
             by (inr a) (inr b) e first few = absurd (twice a b)
 
-      sound_more : AreStanzas all (done ++ dir ∷ entries)
+      -- a stanza more
+      pub sound_more : AreStanzas all (done ++ dir ∷ entries)
       sound_more = record {
         parents = three (λ (l : Line). not (is_orphan all l)) sound.parents dir_parent (all_weaker (is_own_entry dir.path) (λ (l : Line). not (is_orphan all l)) entries own_parent h.own);
         apart = three (λ (l : Line). is_dir_line l || not (names_dir all l.path)) sound.apart (ap (λ b. b || not (names_dir all dir.path)) h.kind)
@@ -287,18 +362,6 @@ module _ (all : List Line) (dirs : List ℕ → Bool) (known : HasDirTexts all d
             (all_weaker (is_own_entry dir.path) (λ (l : Line). is_dir_line l || names_dir (done ++ dir ∷ entries) (parent_path l.path)) entries own_home h.own);
         once = once_more;
       }
-
-  -- a stanza more
-  pub stanza_more : (at end : ℕ) (dir : Line) (entries : List Line) → at < end → end ≤ length all → dir ≡ get_or all at dir → entries ≡ take (end - (at + 1)) (drop (at + 1) all) → IsStanza dirs dir entries
-      → AreStanzas all (take at all) → AreStanzas all (take end all)
-  stanza_more at end dir entries lt le is own h sound =
-      let n : at + 1 + (end - (at + 1)) ≡ end = omega arith in
-      let in' : at < length all = omega arith in
-      let e : take end all ≡ take at all ++ dir ∷ entries =
-      ap (λ m. take m all) (sym n) ∙ take_stanza all at (end - (at + 1)) dir in' ∙ ap (λ (l : Line). take at all ++ l ∷ take (end - (at + 1)) (drop (at + 1) all)) (sym is) ∙ ap (λ (es : List Line). take at all ++ dir ∷ es) (sym own) in
-      let whole : all ≡ (take at all ++ dir ∷ entries) ++ drop end all = sym (take-append-drop end all) ∙ ap (λ (ls : List Line). ls ++ drop end all) e in
-      let P : List Line → Type 0 = λ ls. AreStanzas all ls in
-      subst P (sym e) (sound_more (take at all) entries dir h sound (drop end all) whole)
 
   both_times : (z : Row) (ls : List Line) → times (alike z) (map row_of_line ls) ≡ times (is_dir_at z.path) ls + times (is_entry_at z.path) ls
   both_times z [] = refl

@@ -1,11 +1,11 @@
 -- Directories that are shared.
-use Rattle.std.proofs.Common.{◌≡◌, ℕ, ◌<◌, List, [], ◌∷◌, length, get_or, Result, Ok, Err, sym, ap, ◌∙◌, arith}
+use Rattle.std.proofs.Common.{◌≡◌, ℕ, ◌+◌, ◌<◌, Bool, List, [], ◌∷◌, length, get_or, Result, Ok, Err, sym, ap, ◌∙◌, arith}
 use Rattle.std.proofs.lemmas.List.{length-map, get_or-map}
 use Rattle.std.specs.declared.cmp.Ordering.{Ordering}
 use Rattle.std.specs.Ordering.{ordering_index}
 use Rattle.std.specs.declared.sync.Arc.{Arc}
 use Rattle.std.specs.Arc.{arc_value}
-use Rattle.std.specs.List.Sorted.{IsBinarySearchResult, IsSearchInRange}
+use Rattle.std.specs.List.Sorted.{IsBinarySearchResult, IsSearchInRange, IsSortedBy}
 use Rattle.gufi_tree.specs.declared.tree.Stored.{Stored}
 use Rattle.gufi_tree.specs.Tree.{Directory}
 use Rattle.gufi_tree.specs.Stored.{directory_of, directories_of, values_of}
@@ -45,3 +45,13 @@ module _ {Z : Type 0} where
   pub values_range : (shared : List (Arc Stored Z)) (r : Result ℕ ℕ) → IsSearchInRange r (length shared) → IsSearchInRange r (length (values_of shared))
   values_range shared (Ok i) range = within_values shared i range
   values_range shared (Err i) range = omega (arith, length-map shared arc_value, range)
+
+-- the order of those that are shared is that of what they hold
+pub values_sorted : {Z : Type 0} (lt : Stored → Stored → Bool) (shared : List (Arc Stored Z)) → IsSortedBy (λ a b. lt (arc_value a) (arc_value b)) shared → IsSortedBy lt (values_of shared)
+values_sorted lt [] up = λ k d low high. absurd (omega arith)
+values_sorted lt (a ∷ shared) up = λ k d low high.
+    let within : k + 1 < length (a ∷ shared) = omega (arith, length-map (a ∷ shared) arc_value) in
+    let h = up k a low within in
+    let e = get_or-map arc_value (a ∷ shared) (k + 1) a d within in
+    let f = get_or-map arc_value (a ∷ shared) k a d (omega arith) in
+    ap (λ (x : Stored). lt x (get_or (values_of (a ∷ shared)) k d)) e ∙ ap (λ (y : Stored). lt (arc_value (get_or (a ∷ shared) (k + 1) a)) y) f ∙ h

@@ -10,4 +10,3 @@ pub mod Resolve
 pub mod Reached
 pub mod Listed
 pub mod Sound
-pub mod Grouped

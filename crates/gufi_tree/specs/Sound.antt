@@ -1,8 +1,9 @@
 -- Lines each of whose entries stands behind its directory.
-use Rattle.std.specs.Prelude.{◌≡◌, ℕ, ◌≤◌, Bool, not, ◌&&◌, ◌||◌, ◌+◌, ◌-◌, ◌*◌, List, true, false, IsTrue, drop, min, length, nat_lt, slice_index_or, if◌then◌else◌}
+use Rattle.std.specs.Prelude.{◌≡◌, ℕ, ◌≤◌, Bool, not, ◌&&◌, ◌||◌, ◌+◌, ◌-◌, ◌*◌, List, true, false, IsTrue, length, nat_lt, slice_index_or, if◌then◌else◌}
 use Rattle.std.specs.List.{list_any, list_all}
 use Rattle.gufi_base.specs.declared.record.Line.{Line}
-use Rattle.gufi_base.specs.Paths.{Components, path_eq, parent_path, is_child_of}
+use Rattle.gufi_base.specs.Names.{is_name}
+use Rattle.gufi_base.specs.Paths.{Components, path_eq, parent_path, base_name, is_child_of}
 use Rattle.gufi_base.specs.PathTexts.{kept_text}
 use Rattle.gufi_base.proofs.SortedOnce.{times}
 use Rattle.gufi_tree.specs.Build.{is_dir_line, names_dir, is_orphan}
@@ -24,22 +25,22 @@ pub record HasDirTexts (lines : List Line) (dirs : List ℕ → Bool) : Type 0 w
 abbrev pub is_own_entry : Components → Line → Bool
 is_own_entry path line = not (is_dir_line line) && is_child_of path line.path
 
--- what is left of the kept text of a path behind so many bytes
-abbrev pub rest_of_text : ℕ → Components → List ℕ
-rest_of_text front path = drop (min front (length (kept_text path))) (kept_text path)
-
--- a number for the two last bytes before the last one
-abbrev pub end_of_text : List ℕ → ℕ
-end_of_text text =
-    if nat_lt (length text) 3 then 0 else slice_index_or text (length text - 2) 0 + 256 * slice_index_or text (length text - 3) 0
+-- a number for the two last bytes of a name
+abbrev pub end_of_name : List ℕ → ℕ
+end_of_name name =
+    if nat_lt (length name) 2 then 0 else slice_index_or name (length name - 1) 0 + 256 * slice_index_or name (length name - 2) 0
 
 -- past their end all is marked
 abbrev pub is_marked : List Bool → List ℕ → Bool
-is_marked marks text = slice_index_or marks (end_of_text text) true
+is_marked marks name = slice_index_or marks (end_of_name name) true
 
--- what passes the test is marked
-abbrev pub IsFilter : List Bool → (List ℕ → Bool) → Type 0
-IsFilter marks texts = (text : List ℕ) → texts text ≡ true → is_marked marks text ≡ true
+-- the names of paths that pass the test are marked
+abbrev pub IsFilter : List Bool → (Components → Bool) → Type 0
+IsFilter marks paths = (path : Components) → paths path ≡ true → is_marked marks (base_name path) ≡ true
+
+-- the same of a test of texts
+abbrev pub IsTextFilter : List Bool → (List ℕ → Bool) → Type 0
+IsTextFilter marks texts = (path : Components) → IsTrue (list_all is_name path) → texts (kept_text path) ≡ true → is_marked marks (base_name path) ≡ true
 
 -- The directory's parent is there; the entries are its own, none has the path of a directory and no two are equal.
 pub record IsStanza (dirs : List ℕ → Bool) (dir : Line) (entries : List Line) : Type 0 where

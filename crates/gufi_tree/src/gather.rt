@@ -9,7 +9,6 @@ ghost use Rattle.gufi_tree.specs.Stored.{directories_of};
 ghost use Rattle.gufi_tree.specs.Gathered.{row_of_line, rows_of, paths_of, IsGathered};
 ghost use Rattle.gufi_tree.specs.Tree.{is_kinded};
 
-use crate::sound::stanza_end;
 use crate::tree::{Entry, Stored};
 use gufi_base::Line;
 use std::alloc::{AllocError, Global};
@@ -47,33 +46,14 @@ pub(crate) fn push_at(stored: &mut Vec<Stored>, at: usize, line: Line) -> Result
     push_entry(dir, line)
 }
 
-/// How many entries stand behind each directory.
-fn stanza_sizes(alloc: Global, lines: &[Line]) -> Result<Vec<usize>, AllocError> {
-    let mut sizes = Vec::new(alloc);
-    let mut at = 0;
-    while at < lines.len() {
-        let end = stanza_end(lines, at);
-        if lines[at].rec.meta.kind.is_dir() {
-            sizes.push(end - at - 1)?;
-        }
-        at = end;
-    }
-    Ok(sizes)
-}
-
-/// Adds the directory of a line, without entries but with room for so many.
-fn begin_directory(
-    alloc: Global,
-    stored: &mut Vec<Stored>,
-    line: Line,
-    room: usize,
-) -> Result<(), AllocError>
+/// Adds the directory of a line, without entries.
+fn begin_directory(alloc: Global, stored: &mut Vec<Stored>, line: Line) -> Result<(), AllocError>
     ensures { OnOk result (directories_of stored.new.items ≡ directories_of stored.old.items ++ record { path = line.path; rec = line.rec; entries = [] } ∷ []) }
 {
     stored.push(Stored {
         path: line.path,
         rec: line.rec,
-        entries: Vec::with_capacity(alloc, room)?,
+        entries: Vec::new(alloc),
     })?;
     Ok(())
 }
@@ -89,18 +69,12 @@ fn follows(stored: &[Stored], line: &Line) -> bool
     }
 }
 
-/// Adds a line behind those that were gathered; the sizes are those of the stanzas.
-fn gather_line(
-    alloc: Global,
-    gathered: &mut Gathered,
-    sizes: &[usize],
-    line: Line,
-) -> Result<(), AllocError>
+/// Adds a line behind those that were gathered.
+fn gather_line(alloc: Global, gathered: &mut Gathered, line: Line) -> Result<(), AllocError>
     ensures { OnOk result ((lines : List Line) → IsGathered lines gathered.old.stored.items gathered.old.loose.items → IsGathered (lines ++ line ∷ []) gathered.new.stored.items gathered.new.loose.items) }
 {
     if line.rec.meta.kind.is_dir() {
-        let room = sizes.get(gathered.stored.len()).copied().unwrap_or(0);
-        return begin_directory(alloc, &mut gathered.stored, line, room);
+        return begin_directory(alloc, &mut gathered.stored, line);
     }
     if follows(gathered.stored.as_slice(), &line) {
         let last = gathered.stored.len() - 1;
@@ -110,17 +84,16 @@ fn gather_line(
     Ok(())
 }
 
-/// The lines in their directories, each with room for just the entries behind it.
+/// The lines in their directories.
 pub(crate) fn gather(alloc: Global, lines: Vec<Line>) -> Result<Gathered, AllocError>
     ensures { IfOk result (λ gathered. IsGathered lines.items gathered.stored.items gathered.loose.items) }
 {
-    let sizes = stanza_sizes(alloc, lines.as_slice())?;
     let mut gathered = Gathered {
-        stored: Vec::with_capacity(alloc, sizes.len())?,
+        stored: Vec::new(alloc),
         loose: Vec::new(alloc),
     };
     for line in lines {
-        gather_line(alloc, &mut gathered, sizes.as_slice(), line)?;
+        gather_line(alloc, &mut gathered, line)?;
     }
     Ok(gathered)
 }

@@ -14,14 +14,13 @@ mod resolve;
 mod shared;
 mod sort;
 mod sound;
-mod stanza;
 mod stanzas;
 mod tree;
 
 pub use fault::TreeFault;
-pub use lines::build;
+pub use lines::{build, build_stanzas};
 pub use resolve::Resolved;
-pub use stanzas::{Stanzas, build_stanzas};
+pub use stanzas::Stanzas;
 pub use tree::{DirId, Entry, Stored, Tree};
 
 #[cfg(test)]

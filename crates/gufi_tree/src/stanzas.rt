@@ -2,17 +2,16 @@
 
 ghost use Rattle.std.specs.Prelude.{◌≡◌, ◌<◌, ◌+◌, ◌^◌, ◌++◌, ◌∷◌, [], not, true, false, List, length, reverse, count_by, MatchOption, IfOk, OnOk, OnErr, IsTrue};
 ghost use Rattle.std.specs.List.{list_all};
-ghost use Rattle.gufi_base.specs.Words.{GivesUnless};
 ghost use Rattle.gufi_base.specs.Kinds.{is_dir};
 ghost use Rattle.gufi_base.specs.Names.{is_name};
 ghost use Rattle.gufi_base.specs.Paths.{Components, is_child_of, base_name};
-ghost use Rattle.gufi_tree.specs.Build.{is_dir_line, tree_of};
+ghost use Rattle.gufi_tree.specs.Build.{is_dir_line};
+ghost use Rattle.gufi_tree.specs.Tree.{is_kinded};
+ghost use Rattle.gufi_tree.specs.Texts.{are_named};
 ghost use Rattle.gufi_tree.specs.Stored.{directory_of, directories_of};
 ghost use Rattle.gufi_tree.specs.StanzaLines.{stanza_holds, entry_lines, lines_from, AreKept, HasOneMore, HasLastMore};
 
-use crate::fault::TreeFault;
-use crate::lines::build;
-use crate::tree::{Entry, Stored, Tree};
+use crate::tree::{Entry, Stored};
 use gufi_base::{Line, Name, Path, Rec};
 use std::alloc::{AllocError, Global};
 use std::marker::Model;
@@ -179,19 +178,19 @@ impl Stanzas {
     }
 
     /// The directories, in order of coming, each with its entries.
+    pub(crate) fn stored(&self) -> &[Stored]
+        ensures lines { lines_from 1 result.now ≡ self.now }
+        ensures kinds { IsTrue (list_all is_kinded (directories_of result.now)) }
+        ensures named { IsTrue (are_named self.now) }
+    {
+        self.stored.as_slice()
+    }
+
+    /// The same, given away.
     pub(crate) fn into_stored(self) -> Vec<Stored>
         ensures lines { lines_from 1 result.items ≡ self }
-        ensures kept { AreKept result.items (length self) }
+        ensures kinds { IsTrue (list_all is_kinded (directories_of result.items)) }
     {
         self.stored
     }
-}
-
-/// The tree of the lines, or `NoRoot`, or else their least faulty line.
-pub fn build_stanzas(alloc: Global, stanzas: Stanzas) -> Result<Tree, TreeFault>
-    requires { length stanzas < 2 ^ 32 }
-    ensures { GivesUnless TreeFault.Memory result (tree_of stanzas) }
-{
-    let lines = stanzas.into_lines(alloc)?;
-    build(alloc, lines)
 }

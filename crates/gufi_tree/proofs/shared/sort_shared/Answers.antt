@@ -6,7 +6,7 @@ use Rattle.std.specs.Arc.{arc_value}
 use Rattle.gufi_base.specs.Paths.{path_cmp}
 use Rattle.gufi_tree.specs.declared.tree.Stored.{Stored}
 use Rattle.gufi_tree.proofs.Built.{path_cmp-total}
-use Rattle.gufi_tree.proofs.Grouped.{values_sorted}
+use Rattle.gufi_tree.proofs.Values.{values_sorted}
 use Rattle.gufi_tree.proofs.shared.sort_shared.Goals as goal
 
 pub returns-clause-order : goal.returns-clause-order

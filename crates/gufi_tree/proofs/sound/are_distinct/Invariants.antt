@@ -1,8 +1,7 @@
 use Rattle.std.proofs.Common.{◌≡◌, map, take}
 use Rattle.gufi_tree.specs.declared.sound.Named.{Named}
-use Rattle.gufi_base.specs.declared.record.Line.{Line}
-use Rattle.gufi_tree.specs.Sound.{rest_of_text}
+use Rattle.gufi_tree.specs.declared.tree.Entry.{Entry}
 use Rattle.gufi_tree.proofs.sound.are_distinct.Given as goal
 
 abbrev pub invariant-loop-place : goal.invariant-loop-place
-invariant-loop-place l = map (λ (n : Named). n.rest.now) l.names.items ≡ map (λ (line : Line). rest_of_text l.front line.path) (take l.place l.entries)
+invariant-loop-place l = map (λ (n : Named). n.name.now) l.names.items ≡ map (λ (e : Entry). e.name) (take l.place l.entries)

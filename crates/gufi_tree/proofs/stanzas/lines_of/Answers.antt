@@ -2,7 +2,7 @@ use Rattle.std.proofs.Common.{◌≡◌, ◌+◌, ◌++◌, ◌∷◌, [], lengt
 use Rattle.std.proofs.lemmas.List.{length-append}
 use Rattle.gufi_base.specs.declared.record.Line.{Line}
 use Rattle.gufi_tree.specs.declared.tree.Stored.{Stored}
-use Rattle.gufi_tree.specs.StanzaLines.{entry_lines, dir_line, lines_from}
+use Rattle.gufi_tree.specs.StanzaLines.{entry_lines, lines_from}
 use Rattle.gufi_tree.proofs.LinesOf.{length-entry_lines, lines_from-append}
 use Rattle.gufi_tree.proofs.stanzas.lines_of.Goals as goal
 

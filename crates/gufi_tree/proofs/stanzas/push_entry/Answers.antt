@@ -1,6 +1,5 @@
 use Rattle.std.proofs.Common.{ap, List}
 use Rattle.gufi_tree.specs.declared.tree.Entry.{Entry}
-use Rattle.gufi_tree.specs.Tree.{Directory}
 use Rattle.gufi_tree.proofs.LinesOf.{on_err_always}
 use Rattle.gufi_tree.proofs.stanzas.push_entry.Goals as goal
 

@@ -1,4 +1,4 @@
-use Rattle.std.proofs.Common.{refl, sym, ap, ◌∙◌, arith, ◌-◌}
+use Rattle.std.proofs.Common.{refl, arith, ◌-◌}
 use Rattle.std.proofs.lemmas.Result.{on_ok_weaker, on_err_weaker}
 use Rattle.gufi_tree.proofs.LinesOf.{directories_set}
 use Rattle.gufi_tree.proofs.stanzas.push_last.Goals as goal

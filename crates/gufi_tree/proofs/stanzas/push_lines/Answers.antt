@@ -1,4 +1,4 @@
-use Rattle.std.proofs.Common.{◌≡◌, ◌+◌, ◌++◌, ◌∷◌, [], length, arith, ap, ◌∙◌, sym, append_assoc, List, refl}
+use Rattle.std.proofs.Common.{◌≡◌, ◌+◌, ◌++◌, ◌∷◌, [], length, arith, ap, ◌∙◌, sym, append_assoc, List}
 use Rattle.std.proofs.lemmas.List.{length-append}
 use Rattle.gufi_base.specs.declared.record.Line.{Line}
 use Rattle.gufi_tree.specs.declared.tree.Entry.{Entry}

@@ -1,8 +1,7 @@
-use Rattle.std.proofs.Common.{◌≡◌, length, sym, ap, ◌∙◌, arith, subst, List}
-use Rattle.std.specs.Prelude.{count_by, not}
+use Rattle.std.proofs.Common.{◌≡◌, sym, ap, ◌∙◌, arith, List}
+use Rattle.std.specs.Prelude.{count_by}
 use Rattle.gufi_base.specs.declared.record.Line.{Line}
 use Rattle.gufi_tree.specs.Build.{is_dir_line}
-use Rattle.gufi_tree.specs.StanzaLines.{lines_from}
 use Rattle.gufi_tree.proofs.LinesOf.{dirs_counted, both_counted}
 use Rattle.gufi_tree.proofs.stanzas.Stanzas.dirs.Goals as goal
 

@@ -1,7 +1,6 @@
-use Rattle.std.proofs.Common.{◌≡◌, length, reverse, refl, sym, ap, ◌∙◌, arith, List, subst, ◌∷◌, [], ◌++◌, ◌+◌, ℕ}
+use Rattle.std.proofs.Common.{◌≡◌, length, reverse, ap, ◌∙◌, arith, List, ◌∷◌, [], ◌++◌, ◌+◌}
 use Rattle.gufi_base.specs.declared.record.Line.{Line}
-use Rattle.gufi_tree.specs.declared.tree.Stored.{Stored}
-use Rattle.gufi_tree.specs.StanzaLines.{stanza_holds, lines_from, AreKept}
+use Rattle.gufi_tree.specs.StanzaLines.{stanza_holds, lines_from}
 use Rattle.gufi_tree.proofs.LinesOf.{lines_entry, kept_entry, kept_same}
 use Rattle.gufi_tree.proofs.stanzas.Stanzas.push_entry.Goals as goal
 

@@ -1,4 +1,4 @@
-use Rattle.std.proofs.Common.{◌≡◌, ◌-◌, length, sym, ap, ◌∙◌, arith, List}
+use Rattle.std.proofs.Common.{◌-◌, sym, ap, ◌∙◌, arith, List}
 use Rattle.std.specs.Prelude.{reverse}
 use Rattle.gufi_base.specs.declared.record.Line.{Line}
 use Rattle.gufi_tree.specs.StanzaLines.{stanza_holds}
