@@ -1,6 +1,6 @@
 //! File names (POSIX.1-2017 XBD 3.170).
 
-ghost use Rattle.std.specs.Prelude.{◌≡◌, ◌&&◌, ◌||◌, not, nat_le, bytes_eq, length, IsTrue};
+ghost use Rattle.std.specs.Prelude.{◌≡◌, ◌&&◌, ◌||◌, not, nat_le, bytes_eq, length, IsTrue, IfOk};
 ghost use Rattle.std.specs.List.{list_all};
 ghost use Rattle.std.specs.Ordering.{nat_cmp};
 ghost use Rattle.std.specs.Cmp.Lexicographic.{slice_cmp};
@@ -83,6 +83,15 @@ impl Name {
         if !is_name(bytes) {
             return Err(NameFault::Bad);
         }
+        let bytes = Vec::from_slice(alloc, bytes)?;
+        Ok(Name { bytes })
+    }
+
+    /// The name that checked bytes are. One allocation.
+    pub fn of_checked(alloc: Global, bytes: &[u8]) -> Result<Name, AllocError>
+        requires { IsTrue (is_name bytes.now) }
+        ensures { IfOk result (λ name. name ≡ bytes.now) }
+    {
         let bytes = Vec::from_slice(alloc, bytes)?;
         Ok(Name { bytes })
     }

@@ -42,7 +42,11 @@ fn plain_paths_go_on_from_others(rt: HostRuntime) -> Result<(), Fail> {
     };
     assert_eq!(rt; parent.printed(), b"/a/.b".as_slice());
     let child = match parent.child_name(&root, b"/fs/a/.b/c d") {
-        Some(name) => parent.child(rt.alloc(), name)?,
+        Some(name) => {
+            let kept = Name::of_checked(rt.alloc(), name)?;
+            assert_eq!(rt; kept.as_slice(), b"c d".as_slice());
+            parent.child(rt.alloc(), name)?
+        }
         None => Path::root(rt.alloc())?,
     };
     assert_eq!(rt; child.printed(), b"/a/.b/c d".as_slice());

@@ -10,7 +10,8 @@ use Rattle.gufi_base.specs.Paths.{Components, is_prefix}
 use Rattle.gufi_base.specs.Kinds.{is_dir}
 use Rattle.gufi_trace.specs.declared.fault.TraceKind.{TraceKind}
 use Rattle.gufi_trace.specs.declared.fault.TraceKind.TheVariants.{Short, NotUnderRoot, WrongStanza, TooMany}
-use Rattle.gufi_trace.specs.TraceText.{read_line_path, read_meta, read_line, stanza_holds, is_in_stanza, too_many}
+use Rattle.gufi_tree.specs.StanzaLines.{stanza_holds}
+use Rattle.gufi_trace.specs.TraceText.{read_line_path, read_meta, read_line, is_in_stanza, too_many}
 use Rattle.gufi_trace.specs.Fields.{fields_of}
 use Rattle.gufi_trace.specs.Lines.{meta_in, dirs_of, entries_of, place_fault, unless_fault, below_root, line_in, line_of}
 

@@ -20,7 +20,8 @@ use Rattle.gufi_tree.specs.Build.{is_dir_line}
 use Rattle.gufi_tree.specs.Tree.{is_kinded}
 use Rattle.gufi_tree.specs.Gathered.{row_of_line}
 use Rattle.gufi_tree.proofs.Built.{path_eq-refl, parent_path-child}
-use Rattle.gufi_trace.specs.TraceText.{read_lines, stanza_holds}
+use Rattle.gufi_tree.specs.StanzaLines.{stanza_holds}
+use Rattle.gufi_trace.specs.TraceText.{read_lines}
 use Rattle.gufi_trace.specs.Lines.{dirs_of, entries_of, place_fault}
 use Rattle.gufi_trace.proofs.Counts.{count_yes, count_no}
 use Rattle.gufi_trace.proofs.FieldsBack.{joined_line}

@@ -1,8 +1,9 @@
 -- Lines that are seen to be sound.
-use Rattle.std.proofs.Common.{◌≡◌, ℕ, ℤ, Bool, ◌+◌, ◌-◌, ◌%◌, ◌<◌, ◌≤◌, true, false, List, [], ◌∷◌, ◌++◌, length, reverse, get_or, Option, Some, Ok, refl, sym, ap, subst, ◌∙◌, arith}
-use Rattle.std.specs.Prelude.{◌==◌, Result, ok_or}
+use Rattle.std.proofs.Common.{◌≡◌, ℕ, ℤ, Bool, ◌+◌, ◌%◌, ◌<◌, ◌≤◌, leb, true, false, List, [], ◌∷◌, ◌++◌, length, Option, Some, Ok, refl, sym, ap, subst, ◌∙◌, arith}
+use Rattle.std.specs.Prelude.{◌==◌, Result, Err, ok_or, IfOk}
 use Rattle.std.specs.List.{list_any}
-use Rattle.std.proofs.lemmas.Bool.{cond-true, cond-false, lt-leb, le-ltb}
+use Rattle.std.specs.declared.alloc.AllocError.{AllocError}
+use Rattle.std.proofs.lemmas.Bool.{cond-true, cond-false, le-ltb}
 use Rattle.std.proofs.Math.Seq.{drop-append_seam}
 use Rattle.gufi_base.specs.declared.record.Kind.{Kind}
 use Rattle.gufi_base.specs.declared.record.Line.{Line}
@@ -10,9 +11,9 @@ use Rattle.gufi_base.specs.Limits.{max_dirs, max_entries, max_link}
 use Rattle.gufi_base.specs.Words.{split, ◌>>=◌, ◌>>◌, refuse}
 use Rattle.gufi_base.specs.Numbers.{read_i64}
 use Rattle.gufi_base.specs.Kinds.{is_dir}
-use Rattle.gufi_base.specs.Paths.{Components, read_path, is_prefix, is_child_of}
+use Rattle.gufi_base.specs.Paths.{Components, read_path, is_prefix}
 use Rattle.gufi_base.proofs.Below.{is_prefix-append}
-use Rattle.gufi_base.proofs.Children.{child_of}
+use Rattle.gufi_tree.specs.StanzaLines.{stanza_holds}
 use Rattle.gufi_trace.specs.declared.fault.TraceKind.{TraceKind}
 use Rattle.gufi_trace.specs.declared.fault.TraceKind.TheVariants.{Short}
 use Rattle.gufi_base.specs.declared.path.PathFault.{PathFault}
@@ -20,34 +21,30 @@ use Rattle.gufi_trace.specs.declared.quick.Content.{Content}
 use Rattle.gufi_trace.specs.declared.quick.Owner.{Owner}
 use Rattle.gufi_trace.specs.declared.quick.Sizes.{Sizes}
 use Rattle.gufi_trace.specs.declared.lines.Progress.{Progress}
-use Rattle.gufi_trace.specs.TraceText.{stanza_holds}
 use Rattle.gufi_trace.specs.Fields.{Texts, fields_of}
 use Rattle.gufi_trace.specs.Lines.{dirs_of, entries_of, place_fault, path_with_link, below_root, unless_fault, meta_in, line_in}
-use Rattle.gufi_trace.specs.Counted.{IsCounted}
 use Rattle.gufi_trace.specs.Progress.{root_behind}
-use Rattle.gufi_trace.specs.Taken.{Takes, TakesOwner, TakesSizes, TakesMeta, TakesContent, IsPlaced, IsNext}
+use Rattle.gufi_trace.specs.Taken.{Takes, TakesOwner, TakesSizes, TakesMeta, TakesContent, IsPlaced, IsNext, line_with, Adds, AddsNext}
 use Rattle.gufi_trace.proofs.Feeds.{progress_of}
 
 -- a directory below the root
-pub placed_directory : (root : Components) (earlier : List Line) (kind : Kind) (bytes : List ℕ) (names path : Components) (dirs : ℕ) → read_path bytes ≡ Ok (root ++ names) → path ≡ names → is_dir kind ≡ true → dirs ≡ dirs_of earlier → dirs < max_dirs
+pub placed_directory : (root : Components) (earlier : List Line) (kind : Kind) (bytes : List ℕ) (names path : Components) → read_path bytes ≡ Ok (root ++ names) → path ≡ names → is_dir kind ≡ true → leb max_dirs (dirs_of earlier) ≡ false
     → IsPlaced root earlier kind bytes path
 unfolding place_fault
-placed_directory root earlier kind bytes names path dirs e is dir count few =
+placed_directory root earlier kind bytes names path e is dir few =
     record {
       reads = e ∙ ap (λ (p : Components). Ok (root ++ p)) (sym is);
-      place = cond-true (is_dir kind) _ _ dir ∙ cond-false _ _ _ (lt-leb max_dirs (dirs_of earlier) (omega arith));
+      place = cond-true (is_dir kind) _ _ dir ∙ cond-false _ _ _ few;
     }
 
 -- an entry of the directory of the stanza
-pub placed_entry : (root : Components) (lines : List Line) (kind : Kind) (bytes name : List ℕ) (path : Components) (line : Line) (stanza dirs : ℕ) → IsCounted lines stanza dirs → 0 < length lines
-    → read_path bytes ≡ Ok (root ++ ((get_or lines stanza line).path ++ name ∷ [])) → path ≡ (get_or lines stanza line).path ++ name ∷ [] → is_dir kind ≡ false → length lines - dirs < max_entries → IsPlaced root (reverse lines) kind bytes path
+pub placed_entry : (root : Components) (earlier : List Line) (kind : Kind) (bytes : List ℕ) (path : Components) → read_path bytes ≡ Ok (root ++ path) → stanza_holds earlier path ≡ true → is_dir kind ≡ false → leb max_entries (entries_of earlier) ≡ false
+    → IsPlaced root earlier kind bytes path
 unfolding place_fault
-placed_entry root lines kind bytes name path line stanza dirs counted some e is entry few =
-    let parent : Components = (get_or lines stanza line).path in
-    let stanza_has : stanza_holds (reverse lines) path ≡ true = counted.stanza_is some line path ∙ ap (is_child_of parent) is ∙ child_of parent name in
+placed_entry root earlier kind bytes path e stanza_has entry few =
     record {
-      reads = e ∙ ap (λ (p : Components). Ok (root ++ p)) (sym is);
-      place = cond-false (is_dir kind) _ _ entry ∙ cond-true (stanza_holds (reverse lines) path) _ _ stanza_has ∙ cond-false _ _ _ (lt-leb max_entries (entries_of (reverse lines)) (omega (arith, counted.dirs_is, counted.both)));
+      reads = e;
+      place = cond-false (is_dir kind) _ _ entry ∙ cond-true (stanza_holds earlier path) _ _ stanza_has ∙ cond-false _ _ _ few;
     }
 
 step : {A B : Type 0} (r : Option A) (x : A) (kind : TraceKind) (f : A → Result B TraceKind) (out : Result B TraceKind) → r ≡ Some x → f x ≡ out → (ok_or r kind >>= f) ≡ out
@@ -125,14 +122,24 @@ sound_fields root earlier f content path link p l meta no_zero short placed is =
     line_as t = record { number = length earlier + 1; path = path; rec = record { meta = content.meta; link = t } }
 
 -- the line of such parts, at its place
-pub sound_line : (delim : ℕ) (root : Components) (earlier : List Line) (text : List ℕ) (parts : List (List ℕ)) (content : Content) (path : Components) (link : List ℕ) → parts ≡ split delim text → TakesContent parts content → IsPlaced root earlier content.meta.kind content.path.now path
-    → link ≡ content.link.now → 0 < length earlier → IsNext delim root earlier text (record { number = length earlier + 1; path = path; rec = record { meta = content.meta; link = link } })
-sound_line delim root earlier text parts content path link e taken placed is some =
+pub sound_line : (delim : ℕ) (root : Components) (earlier : List Line) (text : List ℕ) (parts : List (List ℕ)) (content : Content) (path : Components) → parts ≡ split delim text → TakesContent parts content → IsPlaced root earlier content.meta.kind content.path.now path
+    → 0 < length earlier → IsNext delim root earlier text (line_with earlier content path)
+sound_line delim root earlier text parts content path e taken placed some =
     record {
-      reads = ap (λ (ps : List (List ℕ)). ok_or (fields_of ps) Short >>= line_in root earlier) (sym e) ∙ step _ _ _ _ _ taken.fields (sound_fields root earlier taken.f content path link taken.path taken.link taken.meta taken.no_zero taken.short placed is);
-      place = placed.place;
+      reads = ap (λ (ps : List (List ℕ)). ok_or (fields_of ps) Short >>= line_in root earlier) (sym e) ∙ step _ _ _ _ _ taken.fields (sound_fields root earlier taken.f content path content.link.now taken.path taken.link taken.meta taken.no_zero taken.short placed refl);
       behind = some;
     }
+
+-- content that was taken, or not, is the line of its text
+pub sound_next : (taken : Bool) (delim : ℕ) (root : Components) (text : List ℕ) (parts : List (List ℕ)) (content : Content) (old new : List Line) → parts ≡ split delim text → TakesContent parts content → 0 < length old → Adds taken root content old new
+    → AddsNext taken delim root text old new
+sound_next true delim root text parts content old new e holds some h = (line_with old content h.0, sound_line delim root old text parts content h.0 e holds h.1 some, h.2)
+sound_next false delim root text parts content old new e holds some h = h
+
+pub sound_result : (given : Result Bool AllocError) (delim : ℕ) (root : Components) (text : List ℕ) (parts : List (List ℕ)) (content : Content) (old new : List Line) → parts ≡ split delim text → TakesContent parts content → 0 < length old
+    → IfOk given (λ taken. Adds taken root content old new) → IfOk given (λ taken. AddsNext taken delim root text old new)
+sound_result (Ok taken) delim root text parts content old new e holds some h = sound_next taken delim root text parts content old new e holds some h
+sound_result (Err error) delim root text parts content old new e holds some h = tt
 
 -- a reader that has a line has its root
 pub settled_behind : (delim : ℕ) (known : Progress) (text : List ℕ) → 0 < length known.lines → known ≡ progress_of (root_behind known.lines known.root delim (text ∷ [])) known.lines

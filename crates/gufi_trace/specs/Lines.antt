@@ -12,9 +12,10 @@ use Rattle.gufi_base.specs.Numbers.{read_u32, read_u64, read_i64}
 use Rattle.gufi_base.specs.Paths.{Components, read_path, is_prefix}
 use Rattle.gufi_base.specs.Kinds.{read_kind, is_dir}
 use Rattle.gufi_tree.specs.Build.{is_dir_line}
+use Rattle.gufi_tree.specs.StanzaLines.{stanza_holds}
 use Rattle.gufi_trace.specs.declared.fault.TraceKind.{TraceKind}
 use Rattle.gufi_trace.specs.declared.fault.TraceKind.TheVariants.{BadPath, LongName, BadType, BadNumber, NotUnderRoot, WrongStanza, TooMany}
-use Rattle.gufi_trace.specs.TraceText.{is_bad_path, stanza_holds}
+use Rattle.gufi_trace.specs.TraceText.{is_bad_path}
 use Rattle.gufi_trace.specs.Fields.{Texts, fields_in}
 
 -- a number, or the fault of its field

@@ -1,5 +1,5 @@
 -- What a quick reader takes of a line that is sound.
-use Rattle.std.specs.Prelude.{◌≡◌, ℕ, ◌+◌, ◌^◌, ◌<◌, ◌≤◌, ◌==◌, false, List, ◌∷◌, ◌++◌, length, take, drop, Option, Some, None, Ok, IsTrue}
+use Rattle.std.specs.Prelude.{◌≡◌, ℕ, ◌+◌, ◌^◌, ◌<◌, ◌≤◌, ◌==◌, Bool, true, false, List, ◌∷◌, ◌++◌, length, take, drop, Option, Some, None, Ok, IsTrue}
 use Rattle.std.specs.List.{list_any}
 use Rattle.std.specs.Str.Parse.{digits_value}
 use Rattle.gufi_base.specs.declared.record.Kind.{Kind}
@@ -78,8 +78,21 @@ pub record IsPlaced (root : Components) (earlier : List Line) (kind : Kind) (byt
   pub reads : read_path bytes ≡ Ok (root ++ path)
   pub place : place_fault earlier kind path ≡ None
 
--- a line that is sound at its place, behind others
+-- the line that such content makes behind others, at a path
+abbrev pub line_with : List Line → Content → Components → Line
+line_with earlier content path = record { number = length earlier + 1; path = path; rec = record { meta = content.meta; link = content.link.now } }
+
+-- whether content was taken: then its line has come to the others, at its place; else they are as they were
+abbrev pub Adds : Bool → Components → Content → List Line → List Line → Type 0
+Adds true root content old new = (path : Components) × IsPlaced root old content.meta.kind content.path.now path × (new ≡ line_with old content path ∷ old)
+Adds false root content old new = new ≡ old
+
+-- a line that is sound behind others
 pub record IsNext (delim : ℕ) (root : Components) (earlier : List Line) (text : List ℕ) (line : Line) : Type 0 where
   pub reads : line_of delim root earlier text ≡ Ok line
-  pub place : place_fault earlier line.rec.meta.kind line.path ≡ None
   pub behind : 0 < length earlier
+
+-- the same of a text's line
+abbrev pub AddsNext : Bool → ℕ → Components → List ℕ → List Line → List Line → Type 0
+AddsNext true delim root text old new = (line : Line) × IsNext delim root old text line × (new ≡ line ∷ old)
+AddsNext false delim root text old new = new ≡ old

@@ -10,12 +10,13 @@ use Rattle.gufi_base.specs.declared.path.PathFault.TheVariants as paths
 use Rattle.gufi_base.specs.Limits.{max_dirs, max_entries, max_link}
 use Rattle.gufi_base.specs.Words.{is_empty, part_at, split, all_but_last, last_of, result_map_err, ◌>>=◌, ◌>>◌, refuse}
 use Rattle.gufi_base.specs.Numbers.{read_u32, read_u64, read_i64}
-use Rattle.gufi_base.specs.Paths.{Components, read_path, is_prefix, is_child_of}
+use Rattle.gufi_base.specs.Paths.{Components, read_path, is_prefix}
 use Rattle.gufi_base.specs.Kinds.{read_kind, is_dir}
 use Rattle.gufi_tree.specs.declared.fault.TreeFault.{TreeFault}
 use Rattle.gufi_tree.specs.declared.fault.TreeFault.TheVariants as trees
 use Rattle.gufi_tree.specs.Tree.{Directory}
 use Rattle.gufi_tree.specs.Build.{is_dir_line, tree_of}
+use Rattle.gufi_tree.specs.StanzaLines.{stanza_holds}
 use Rattle.gufi_trace.specs.declared.fault.TraceKind.{TraceKind}
 use Rattle.gufi_trace.specs.declared.fault.TraceKind.TheVariants.{Short, BadPath, LongName, BadType, BadNumber, NotUnderRoot, WrongStanza, TooMany, CutLine}
 use Rattle.gufi_trace.specs.declared.fault.TraceFault.{TraceFault}
@@ -59,10 +60,6 @@ read_meta fields = do
   Ok (record { kind = kind; inode = inode; mode = mode % 4096; nlink = nlink; uid = uid; gid = gid; size = size; blksize = blksize; blocks = blocks; atime = atime; mtime = mtime; ctime = ctime })
 
 -- Of the earlier lines, the newest first: the directory of the stanza, and how many are directories and entries.
-abbrev pub stanza_holds : List Line → Components → Bool
-stanza_holds [] path = false
-stanza_holds (line ∷ earlier) path = if is_dir_line line then is_child_of line.path path else stanza_holds earlier path
-
 abbrev pub is_in_stanza : List Line → Kind → Components → Bool
 is_in_stanza earlier kind path = is_dir kind || stanza_holds earlier path
 

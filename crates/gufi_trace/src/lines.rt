@@ -1,89 +1,48 @@
 //! The lines that a reader has.
 
-ghost use Rattle.std.specs.Prelude.{◌≡◌, ℕ, ◌+◌, ◌≤◌, List, [], ◌∷◌, ◌++◌, length, reverse, None, OnOk, IfOk, IfErr, IfSome};
+ghost use Rattle.std.specs.Prelude.{◌≡◌, ℕ, ◌+◌, ◌≤◌, ◌<◌, true, false, nat_le, List, [], ◌∷◌, length, reverse, None, MatchOption, OnOk, IfOk, IfErr};
 ghost use Rattle.std.specs.Result.{result_unwrap_or};
+ghost use Rattle.gufi_base.specs.Kinds.{is_dir};
 ghost use Rattle.gufi_base.specs.Limits.{max_dirs, max_entries};
 ghost use Rattle.gufi_base.specs.Words.{part_at};
-ghost use Rattle.gufi_base.specs.Paths.{read_path};
+ghost use Rattle.gufi_base.specs.Paths.{Components, read_path, is_child_of, base_name};
+ghost use Rattle.gufi_tree.specs.StanzaLines.{stanza_holds};
 ghost use Rattle.gufi_trace.specs.TraceText.{root_of};
-ghost use Rattle.gufi_trace.specs.Lines.{place_fault, line_of};
-ghost use Rattle.gufi_trace.specs.Counted.{IsCounted};
+ghost use Rattle.gufi_trace.specs.Lines.{dirs_of, entries_of, place_fault, line_of};
 ghost use Rattle.gufi_trace.specs.Reading.{Gives};
-ghost use Rattle.gufi_trace.specs.Taken.{IsNext};
 ghost use Rattle.gufi_trace.specs.Progress.{root_behind, lines_from, Stops};
 
 use crate::content::{read_meta, read_path};
 use crate::fault::{Refused, TraceError, TraceFault, TraceKind};
 use crate::fields::{Parts, read_fields};
-use crate::quick::{Place, next_line};
-use gufi_base::{Bytes, Kind, Line, Memory, Path, PathFault, Rec};
+use crate::quick::add_sound;
+use gufi_base::{Bytes, Kind, Line, Memory, Name, Path, PathFault, Rec};
+use gufi_tree::Stanzas;
 use std::alloc::{AllocError, Global};
 use std::marker::Model;
 
-pub(crate) const MAX_DIRS: usize = 262144;
+const MAX_DIRS: usize = 262144;
 
-pub(crate) const MAX_ENTRIES: usize = 1048576;
+const MAX_ENTRIES: usize = 1048576;
 
-/// The lines so far, with the place of the last directory and the count of directories.
+/// The lines so far, by their stanzas.
 ///
 /// Contracts see the lines, the newest first.
 #[derive(Drop)]
 pub(crate) struct Lines {
-    items: Vec<Line>,
-    stanza: usize,
-    dirs: usize,
+    stanzas: Stanzas,
 }
 
 impl Model for Lines {
     ghost use Rattle.std.specs.Prelude.{List, reverse};
     ghost use Rattle.gufi_base.specs.declared.record.Line.{Line};
-    ghost use Rattle.gufi_trace.specs.Counted.{IsCounted};
+    ghost use Rattle.gufi_trace.specs.Few.{AreFew};
 
     ghost Value = { List Line };
 
-    ghost view = { λ p. reverse p.items.items };
+    ghost view = { λ p. reverse p.stanzas };
 
-    ghost invariant = { λ p. IsCounted p.items.items p.stanza p.dirs };
-}
-
-/// What is wrong with a line at its place.
-#[tactic(auto, unfolding(crate::specs::Lines::place_fault))]
-fn fault_behind(
-    items: &[Line],
-    stanza: usize,
-    dirs: usize,
-    kind: Kind,
-    path: &Path,
-) -> Option<TraceKind>
-    requires { IsCounted items.now stanza dirs }
-    ensures { result ≡ place_fault (reverse items.now) kind path.now }
-{
-    if kind.is_dir() {
-        if dirs >= MAX_DIRS {
-            return Some(TraceKind::TooMany { limit: 262144 });
-        }
-        return None;
-    }
-    if items.is_empty() || !path.is_child_of(&items[stanza].path) {
-        return Some(TraceKind::WrongStanza);
-    }
-    if items.len() - dirs >= MAX_ENTRIES {
-        return Some(TraceKind::TooMany { limit: 1048576 });
-    }
-    None
-}
-
-/// The place of the last directory and the count of directories, with one line more.
-fn counted(items: &[Line], stanza: usize, dirs: usize, line: &Line) -> (usize, usize)
-    requires counted { IsCounted items.now stanza dirs }
-    requires placed { place_fault (reverse items.now) line.now.rec.meta.kind line.now.path ≡ None }
-    ensures { IsCounted (items.now ++ line.now ∷ []) result.0 result.1 }
-{
-    if line.rec.meta.kind.is_dir() {
-        (items.len(), dirs + 1)
-    } else {
-        (stanza, dirs)
-    }
+    ghost invariant = { λ p. AreFew (reverse p.stanzas) };
 }
 
 impl Lines {
@@ -91,9 +50,7 @@ impl Lines {
         ensures { result ≡ [] }
     {
         Lines {
-            items: Vec::new(alloc),
-            stanza: 0,
-            dirs: 0,
+            stanzas: Stanzas::new(alloc),
         }
     }
 
@@ -101,49 +58,107 @@ impl Lines {
         ensures is { result ≡ length self.now }
         ensures few { result ≤ max_dirs + max_entries }
     {
-        self.items.len()
+        self.stanzas.len()
     }
 
-    pub(crate) fn into_items(self) -> Vec<Line>
-        ensures few { length result.items ≤ max_dirs + max_entries }
-        ensures items { result.items ≡ reverse self }
+    pub(crate) fn into_stanzas(self) -> Stanzas
+        ensures few { length result ≤ max_dirs + max_entries }
+        ensures lines { result ≡ reverse self }
     {
-        self.items
+        self.stanzas
+    }
+
+    pub(crate) fn has_max_dirs(&self) -> bool
+        ensures { result ≡ nat_le max_dirs (dirs_of self.now) }
+    {
+        self.stanzas.dirs() >= MAX_DIRS
+    }
+
+    pub(crate) fn has_max_entries(&self) -> bool
+        ensures { result ≡ nat_le max_entries (entries_of self.now) }
+    {
+        self.stanzas.len() - self.stanzas.dirs() >= MAX_ENTRIES
+    }
+
+    /// The directory of the last stanza.
+    pub(crate) fn stanza(&self) -> Option<&Path>
+        ensures { MatchOption result (self.now ≡ []) (λ path. (child : Components) → stanza_holds self.now child ≡ is_child_of path.now child) }
+    {
+        self.stanzas.stanza()
     }
 
     /// What is wrong with a line at its place.
+    #[tactic(auto, unfolding(crate::specs::Lines::place_fault))]
     fn fault_of(&self, kind: Kind, path: &Path) -> Option<TraceKind>
         ensures { result ≡ place_fault self.now kind path.now }
     {
-        fault_behind(&self.items, self.stanza, self.dirs, kind, path)
+        if kind.is_dir() {
+            if self.has_max_dirs() {
+                return Some(TraceKind::TooMany { limit: 262144 });
+            }
+            return None;
+        }
+        match self.stanza() {
+            Some(directory) if path.is_child_of(directory) => {}
+            _ => return Some(TraceKind::WrongStanza),
+        }
+        if self.has_max_entries() {
+            return Some(TraceKind::TooMany { limit: 1048576 });
+        }
+        None
     }
 
-    /// The next line, where it is seen to be sound.
-    fn quick_line(
-        &self,
-        alloc: Global,
-        delim: u8,
-        root: &Path,
-        text: &[u8],
-    ) -> Result<Option<Line>, AllocError>
-        ensures { IfOk result (λ given. IfSome given (IsNext delim root.now self.now text.now)) }
+    /// Takes a directory's line. Where there is no memory for it, the others are given back.
+    pub(crate) fn push_dir(&mut self, alloc: Global, path: Path, rec: Rec) -> Result<(), AllocError>
+        requires kind { is_dir rec.meta.kind ≡ true }
+        requires room { dirs_of self.old < max_dirs }
+        ensures { OnOk result (self.new ≡ record { number = length self.old + 1; path = path; rec = rec } ∷ self.old) }
     {
-        let place = Place {
-            stanza: self.stanza,
-            dirs: self.dirs,
-        };
-        next_line(alloc, delim, root, &self.items, place, text)
+        match self.stanzas.push_dir(alloc, path, rec) {
+            Ok(()) => Ok(()),
+            Err(error) => {
+                self.stanzas = Stanzas::new(alloc);
+                Err(error)
+            }
+        }
+    }
+
+    /// Takes the line of an entry of the last stanza's directory. Where there is no memory for it, the others are given back.
+    pub(crate) fn push_entry(
+        &mut self,
+        alloc: Global,
+        name: Name,
+        rec: Rec,
+    ) -> Result<(), AllocError>
+        requires kind { is_dir rec.meta.kind ≡ false }
+        requires room { entries_of self.old < max_entries }
+        requires place { (path : Components) × (stanza_holds self.old path ≡ true) × (base_name path ≡ name) }
+        ensures { OnOk result ((path : Components) → stanza_holds self.old path ≡ true → base_name path ≡ name → self.new ≡ record { number = length self.old + 1; path = path; rec = rec } ∷ self.old) }
+    {
+        match self.stanzas.push_entry(name, rec) {
+            Ok(()) => Ok(()),
+            Err(error) => {
+                self.stanzas = Stanzas::new(alloc);
+                Err(error)
+            }
+        }
     }
 
     /// Takes the next line, which stands at its place.
-    fn push(&mut self, line: Line) -> Result<(), AllocError>
-        requires { place_fault self.old line.rec.meta.kind line.path ≡ None }
+    fn push(&mut self, alloc: Global, line: Line) -> Result<(), AllocError>
+        requires number { line.number ≡ length self.old + 1 }
+        requires placed { place_fault self.old line.rec.meta.kind line.path ≡ None }
         ensures { OnOk result (self.new ≡ line ∷ self.old) }
     {
-        let (stanza, dirs) = counted(&self.items, self.stanza, self.dirs, &line);
-        self.items.push(line)?;
-        self.stanza = stanza;
-        self.dirs = dirs;
+        let Line { path, rec, .. } = line;
+        if rec.meta.kind.is_dir() {
+            self.push_dir(alloc, path, rec)?;
+            return Ok(());
+        }
+        let Some(name) = path.into_name() else {
+            unreachable!();
+        };
+        self.push_entry(alloc, name, rec)?;
         Ok(())
     }
 }
@@ -159,6 +174,7 @@ fn read_line(
 ) -> Result<Line, Refused>
     ensures line { Gives (λ line. line) result (line_of delim root.now lines.now text.now) }
     ensures placed { IfOk result (λ line. place_fault lines.now line.rec.meta.kind line.path ≡ None) }
+    ensures number { IfOk result (λ line. line.number ≡ length lines.now + 1) }
 {
     let fields = read_fields(text, delim)?;
     let path = read_path(alloc, fields.path, fields.link)?;
@@ -232,7 +248,7 @@ impl Progress {
         self.settle_root(alloc, delim, text)?;
         match read_line(alloc, delim, &self.root, &self.lines, text) {
             Ok(line) => {
-                self.lines.push(line)?;
+                self.lines.push(alloc, line)?;
                 Ok(())
             }
             Err(Refused::Memory) => Err(TraceError::Memory),
@@ -248,8 +264,8 @@ impl Progress {
         ensures ok { OnOk result ((more : List (List ℕ)) → lines_from delim self.old (text.now ∷ more) ≡ lines_from delim self.new more) }
         ensures err { IfErr result (λ e. (more : List (List ℕ)) → Stops e (lines_from delim self.old (text.now ∷ more))) }
     {
-        if let Some(line) = self.lines.quick_line(alloc, delim, &self.root, text)? {
-            self.lines.push(line)?;
+        let taken = add_sound(alloc, delim, &self.root, &mut self.lines, text)?;
+        if taken {
             return Ok(());
         }
         self.add_exactly(alloc, delim, text)

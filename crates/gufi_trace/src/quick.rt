@@ -1,16 +1,14 @@
 //! Lines that are seen to be sound in one pass: nearly all are. What is told nothing here, the exact readers read.
 
-ghost use Rattle.std.specs.Prelude.{◌≡◌, ℕ, ℤ, true, false, ◌<◌, List, length, reverse, IfOk, IfSome};
+ghost use Rattle.std.specs.Prelude.{◌≡◌, ℕ, ℤ, true, false, IfOk, IfSome};
 ghost use Rattle.gufi_base.specs.Kinds.{is_dir};
 ghost use Rattle.gufi_base.specs.Numbers.{read_u32, read_u64, read_i64};
-ghost use Rattle.gufi_trace.specs.Counted.{IsCounted};
-ghost use Rattle.gufi_trace.specs.Lines.{dirs_of};
-ghost use Rattle.gufi_trace.specs.Taken.{Takes, TakesOwner, TakesSizes, TakesMeta, TakesContent, IsPlaced, IsNext};
+ghost use Rattle.gufi_trace.specs.Taken.{Takes, TakesOwner, TakesSizes, TakesMeta, TakesContent, Adds, AddsNext};
 
 use crate::content::{MAX_LINK, MODES, has_zero};
 use crate::fields::Parts;
-use crate::lines::{MAX_DIRS, MAX_ENTRIES};
-use gufi_base::{Bytes, Kind, Line, Meta, Path, Rec};
+use crate::lines::Lines;
+use gufi_base::{Bytes, Kind, Meta, Name, Path, Rec};
 use std::alloc::{AllocError, Global};
 
 #[inline(always)]
@@ -119,6 +117,7 @@ fn next_meta(parts: &mut Parts<'_>) -> Option<Meta>
 }
 
 /// What a line holds, its path and link as they stand in it.
+#[derive(Clone, Copy)]
 pub(crate) struct Content<'a> {
     pub path: &'a [u8],
     pub meta: Meta,
@@ -137,106 +136,75 @@ fn content_of<'a>(parts: &mut Parts<'a>) -> Option<Content<'a>>
     Some(Content { path, meta, link })
 }
 
-/// The path of a directory's line.
-fn directory_path(
+/// Takes a directory's line, where its path is plain and it stands at its place.
+fn add_directory(
     alloc: Global,
     root: &Path,
-    items: &[Line],
-    dirs: usize,
-    kind: Kind,
-    bytes: &[u8],
-) -> Result<Option<Path>, AllocError>
-    requires counted { dirs ≡ dirs_of (reverse items.now) }
-    requires dir { is_dir kind ≡ true }
-    ensures { IfOk result (λ given. IfSome given (IsPlaced root.now (reverse items.now) kind bytes.now)) }
+    lines: &mut Lines,
+    content: &Content<'_>,
+) -> Result<bool, AllocError>
+    requires { is_dir content.now.meta.kind ≡ true }
+    ensures { IfOk result (λ taken. Adds taken root.now content.now lines.old lines.new) }
 {
-    if dirs >= MAX_DIRS {
-        return Ok(None);
+    if lines.has_max_dirs() {
+        return Ok(false);
     }
-    match root.names_behind(bytes) {
-        Some(names) => Ok(Some(Path::of_names(alloc, names)?)),
-        None => Ok(None),
-    }
+    let Some(names) = root.names_behind(content.path) else {
+        return Ok(false);
+    };
+    let path = Path::of_names(alloc, names)?;
+    let link = Bytes::from_slice(alloc, content.link)?;
+    let meta = content.meta;
+    lines.push_dir(alloc, path, Rec { meta, link })?;
+    Ok(true)
 }
 
-/// The path of an entry's line, whose front is that of the directory before it.
-fn entry_path(
+/// Takes an entry's line, where the front of its path is that of the directory before it. Its own path isn't made.
+fn add_entry(
     alloc: Global,
     root: &Path,
-    items: &[Line],
-    place: Place,
-    kind: Kind,
-    bytes: &[u8],
-) -> Result<Option<Path>, AllocError>
-    requires counted { IsCounted items.now place.stanza place.dirs }
-    requires some { 0 < length items.now }
-    requires entry { is_dir kind ≡ false }
-    ensures { IfOk result (λ given. IfSome given (IsPlaced root.now (reverse items.now) kind bytes.now)) }
+    lines: &mut Lines,
+    content: &Content<'_>,
+) -> Result<bool, AllocError>
+    requires { is_dir content.now.meta.kind ≡ false }
+    ensures { IfOk result (λ taken. Adds taken root.now content.now lines.old lines.new) }
 {
-    if items.len() - place.dirs >= MAX_ENTRIES {
-        return Ok(None);
+    if lines.has_max_entries() {
+        return Ok(false);
     }
-    let parent = &items[place.stanza].path;
-    match parent.child_name(root, bytes) {
-        Some(name) => Ok(Some(parent.child(alloc, name)?)),
-        None => Ok(None),
-    }
+    let Some(parent) = lines.stanza() else {
+        return Ok(false);
+    };
+    let Some(name) = parent.child_name(root, content.path) else {
+        return Ok(false);
+    };
+    let name = Name::of_checked(alloc, name)?;
+    let link = Bytes::from_slice(alloc, content.link)?;
+    let meta = content.meta;
+    lines.push_entry(alloc, name, Rec { meta, link })?;
+    Ok(true)
 }
 
-/// The path of a line, where it is plain and the line stands at its place.
-fn path_at(
-    alloc: Global,
-    root: &Path,
-    items: &[Line],
-    place: Place,
-    kind: Kind,
-    bytes: &[u8],
-) -> Result<Option<Path>, AllocError>
-    requires counted { IsCounted items.now place.stanza place.dirs }
-    requires some { 0 < length items.now }
-    ensures { IfOk result (λ given. IfSome given (IsPlaced root.now (reverse items.now) kind bytes.now)) }
-{
-    if kind.is_dir() {
-        directory_path(alloc, root, items, place.dirs, kind, bytes)
-    } else {
-        entry_path(alloc, root, items, place, kind, bytes)
-    }
-}
-
-/// Where the directory of the stanza stands among the lines, and how many directories there are.
-#[derive(Clone, Copy)]
-pub(crate) struct Place {
-    pub stanza: usize,
-    pub dirs: usize,
-}
-
-/// The next line behind others, where it is seen to be sound.
-pub(crate) fn next_line(
+/// Takes the next line behind others, where it is seen to be sound; tells whether it was.
+pub(crate) fn add_sound(
     alloc: Global,
     delim: u8,
     root: &Path,
-    items: &[Line],
-    place: Place,
+    lines: &mut Lines,
     text: &[u8],
-) -> Result<Option<Line>, AllocError>
-    requires { IsCounted items.now place.stanza place.dirs }
-    ensures { IfOk result (λ given. IfSome given (IsNext delim root.now (reverse items.now) text.now)) }
+) -> Result<bool, AllocError>
+    ensures { IfOk result (λ taken. AddsNext taken delim root.now text.now lines.old lines.new) }
 {
-    if items.is_empty() {
-        return Ok(None);
+    if lines.len() == 0 {
+        return Ok(false);
     }
     let mut parts = Parts::of(text, delim);
     let Some(content) = content_of(&mut parts) else {
-        return Ok(None);
+        return Ok(false);
     };
-    let Content { path, meta, link } = content;
-    let Some(path) = path_at(alloc, root, items, place, meta.kind, path)? else {
-        return Ok(None);
-    };
-    let link = Bytes::from_slice(alloc, link)?;
-    Ok(Some(Line {
-        number: items.len() as u32 + 1,
-        path,
-        rec: Rec { meta, link },
-    }))
+    if content.meta.kind.is_dir() {
+        add_directory(alloc, root, lines, &content)
+    } else {
+        add_entry(alloc, root, lines, &content)
+    }
 }

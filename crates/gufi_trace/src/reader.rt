@@ -11,6 +11,7 @@ use crate::fault::{TraceError, TraceFault, TraceKind};
 use crate::fields::Parts;
 use crate::lines::Progress;
 use gufi_base::{Bytes, Line, Memory};
+use gufi_tree::Stanzas;
 use std::alloc::Global;
 use std::marker::Model;
 
@@ -142,10 +143,10 @@ impl TraceReader {
         }
     }
 
-    /// The lines, at the end of the stream.
-    pub fn finish(self) -> Result<Vec<Line>, TraceError>
-        ensures lines { (stream : List ℕ) → HasRead self stream → GivesLines result (trace_lines self.delim stream) }
-        ensures few { IfOk result (λ lines. length lines.items ≤ max_dirs + max_entries) }
+    /// The lines by their stanzas, at the end of the stream. Takes no memory.
+    pub fn finish_stanzas(self) -> Result<Stanzas, TraceError>
+        ensures lines { (stream : List ℕ) → HasRead self stream → GivesUnless TraceError.Memory result (trace_lines self.delim stream) }
+        ensures few { IfOk result (λ stanzas. length stanzas ≤ max_dirs + max_entries) }
     {
         let TraceReader {
             progress,
@@ -162,7 +163,16 @@ impl TraceReader {
             let kind = TraceKind::CutLine;
             return Err(TraceError::Fault(TraceFault { line, kind }));
         }
-        Ok(lines.into_items())
+        Ok(lines.into_stanzas())
+    }
+
+    /// The lines, at the end of the stream.
+    pub fn finish(self, alloc: Global) -> Result<Vec<Line>, TraceError>
+        ensures lines { (stream : List ℕ) → HasRead self stream → GivesLines result (trace_lines self.delim stream) }
+        ensures few { IfOk result (λ lines. length lines.items ≤ max_dirs + max_entries) }
+    {
+        let stanzas = self.finish_stanzas()?;
+        Ok(stanzas.into_lines(alloc)?)
     }
 }
 
@@ -175,7 +185,7 @@ pub fn read_pieces(alloc: Global, delim: u8, pieces: &[Bytes]) -> Result<Vec<Lin
     for piece in pieces {
         reader.feed(alloc, piece.as_slice())?;
     }
-    reader.finish()
+    reader.finish(alloc)
 }
 
 /// The lines of a trace that comes whole.
@@ -185,5 +195,5 @@ pub fn read_trace(alloc: Global, delim: u8, bytes: &[u8]) -> Result<Vec<Line>, T
 {
     let mut reader = TraceReader::new(alloc, delim)?;
     reader.feed(alloc, bytes)?;
-    reader.finish()
+    reader.finish(alloc)
 }

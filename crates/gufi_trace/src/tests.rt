@@ -24,7 +24,7 @@ fn read_cut(alloc: Global, at: usize) -> Result<Vec<Line>, TraceError> {
     let (front, back) = GOOD.split_at(at.min(GOOD.len()));
     reader.feed(alloc, front)?;
     reader.feed(alloc, back)?;
-    reader.finish()
+    reader.finish(alloc)
 }
 
 #[test]
@@ -52,6 +52,15 @@ fn pieces_and_the_whole_read_the_same(rt: HostRuntime) -> Result<(), Fail> {
     Ok(())
 }
 
+#[test]
+fn lines_are_kept_by_their_stanzas(rt: HostRuntime) -> Result<(), Fail> {
+    let mut reader = TraceReader::new(rt.alloc(), b'|')?;
+    reader.feed(rt.alloc(), GOOD)?;
+    let stanzas = reader.finish_stanzas()?;
+    assert_eq!(rt; (stanzas.len(), stanzas.dirs()), (4, 3));
+    Ok(())
+}
+
 /// The printed fault of a trace, which is that of every later call too.
 fn fault_text(alloc: Global, bytes: &[u8]) -> Result<Vec<u8>, TraceError> {
     let mut text = Vec::new(alloc);
@@ -61,7 +70,7 @@ fn fault_text(alloc: Global, bytes: &[u8]) -> Result<Vec<u8>, TraceError> {
             first.put(&mut text)?;
         }
     }
-    if let Err(TraceError::Fault(last)) = reader.finish() {
+    if let Err(TraceError::Fault(last)) = reader.finish(alloc) {
         if text.is_empty() {
             last.put(&mut text)?;
         }

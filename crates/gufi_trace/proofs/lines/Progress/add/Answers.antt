@@ -1,8 +1,10 @@
+use Rattle.std.proofs.Common.{Bool, subst}
+use Rattle.gufi_trace.specs.Taken.{AddsNext}
 use Rattle.gufi_trace.proofs.Feeds.{line_taken}
 use Rattle.gufi_trace.proofs.SoundLines.{settled_behind}
 use Rattle.gufi_trace.proofs.lines.Progress.add.Goals as goal
 
-pub returns-in-Some-clause-ok : goal.returns-in-Some-clause-ok
-returns-in-Some-clause-ok c =
-    let next = rw c.in-Some.is at c.in_ok-line.ensures in
-    line_taken c.args.delim c.args.self.now c.args.self.now c.args.text.now c.in-Some.line c.push.new.self (settled_behind c.args.delim c.args.self.now c.args.text.now next.behind) next.reads c.in_ok-push.ensures
+pub returns-then-taken-clause-ok : goal.returns-then-taken-clause-ok
+returns-then-taken-clause-ok c =
+    let next = subst (λ (b : Bool). AddsNext b c.args.delim c.args.self.now.root c.args.text.now c.args.self.now.lines c.add_sound.new.lines) c.if-taken.true c.in_ok-taken.ensures in
+    line_taken c.args.delim c.args.self.now c.args.self.now c.args.text.now next.0 c.add_sound.new.lines (settled_behind c.args.delim c.args.self.now c.args.text.now next.1.behind) next.1.reads next.2

@@ -4,7 +4,7 @@ use Rattle.gufi_trace.specs.Reader.{Reading, HasRead}
 use Rattle.gufi_trace.specs.contracts.reader.TraceReader.{the_view}
 use Rattle.gufi_trace.specs.TraceText.{trace_lines}
 use Rattle.gufi_trace.proofs.Feeds.{good_at, finish_failed, finish_whole, finish_cut}
-use Rattle.gufi_trace.proofs.reader.TraceReader.finish.Goals as goal
+use Rattle.gufi_trace.proofs.reader.TraceReader.finish_stanzas.Goals as goal
 
 pub returns-in-Some-clause-lines : goal.returns-in-Some-clause-lines
 returns-in-Some-clause-lines c = finish_failed c.args.self c.in-Some.error (ap (λ (r : Reading). r.failed) (sym c.self.view_is) ∙ c.in-Some.is)
@@ -20,4 +20,4 @@ returns-clause-lines c = λ stream h.
     let r = the_view c.self.inside in
     let good = good_at r stream c.in_default.is (subst (λ (x : Reading). HasRead x stream) (sym c.self.view_is) h) in
     let whole = finish_whole r stream good (let e = eqb-true _ _ (sym c.is_empty.ensures ∙ c.if-not-is_empty.false) in omega (arith, e)) in
-    ap (λ (x : Reading). trace_lines x.delim stream) (sym c.self.view_is) ∙ whole ∙ ap (λ ls. Ok ls) (sym c.into_items.ensures.items)
+    ap (λ (x : Reading). trace_lines x.delim stream) (sym c.self.view_is) ∙ whole ∙ ap (λ ls. Ok ls) (sym c.into_stanzas.ensures.lines)
