@@ -6,14 +6,14 @@ use Rattle.std.specs.Io.KnownBytes.{Consumes, IsAtEnd}
 use Rattle.std.proofs.lemmas.List.{length-append, length-take}
 use Rattle.std.proofs.lemmas.Bool.Decides.{nat_tests}
 use Rattle.gufi_io.specs.Files.{Files, Holds, Lacks, HoldsFront, IsReadUpTo}
-use Rattle.gufi_base.specs.Words.{◌>>=◌, result_map_err}
+use Rattle.gufi_base.specs.Words.{◌>>=◌, result_map_err, GivesUnless}
 use Rattle.gufi_base.specs.Limits.{max_trace}
 use Rattle.gufi_base.specs.declared.record.Line.{Line}
 use Rattle.gufi_tree.specs.Tree.{Directory}
 use Rattle.gufi_tree.specs.Build.{tree_of}
 use Rattle.gufi_tree.specs.declared.fault.TreeFault.{TreeFault}
 use Rattle.gufi_trace.specs.TraceText.{trace_lines, trace_means, of_line, of_tree}
-use Rattle.gufi_trace.specs.Reader.{Reading, HasRead, GivesLines}
+use Rattle.gufi_trace.specs.Reader.{Reading, HasRead}
 use Rattle.gufi_trace.specs.declared.fault.TraceFault.{TraceFault}
 use Rattle.gufi_trace.specs.declared.fault.TraceError.{TraceError}
 use Rattle.gufi_trace.specs.declared.fault.TraceError.TheVariants as errors
@@ -21,7 +21,7 @@ use Rattle.gufi_top.specs.declared.halt.Halt.{Halt}
 use Rattle.gufi_top.specs.declared.halt.Halt.TheVariants as halts
 use Rattle.gufi_top.specs.Reasons.{Reason, not_found, past_limit, file_in, trace_in, tree_within, trace_reason}
 use Rattle.gufi_top.specs.Calls.{Gives, GivesOver}
-use Rattle.gufi_top.specs.Views.{bytes_view, lines_view}
+use Rattle.gufi_top.specs.Views.{bytes_view}
 use Rattle.gufi_top.specs.Fed.{lines_within, lines_in, HasReadFile, IsFedUpTo}
 
 pub file_whole : (told : Option Files) (max : ℕ) (name : List ℕ) (bytes : Vec ℕ Global) → Holds told name bytes.items → length bytes.items ≤ max
@@ -105,19 +105,19 @@ lines_are : (files : Files) (delim : ℕ) (name bytes : List ℕ) → files name
 unfolding lines_in
 lines_are files delim name bytes held short = ap (λ (r : Result (List ℕ) Reason). r >>= lines_within delim name) (held_bytes files name bytes held short)
 
-pub lines_ok : (told : Option Files) (delim : ℕ) (name : List ℕ) (reader : Reading) (lines : Vec Line Global) → HasReadFile told name reader → reader.delim ≡ delim
-    → ((stream : List ℕ) → HasRead reader stream → GivesLines (Ok lines) (trace_lines reader.delim stream)) → GivesOver told lines_view (Ok lines) (lines_in delim name)
+pub lines_ok : (told : Option Files) (delim : ℕ) (name : List ℕ) (reader : Reading) (lines : List Line) → HasReadFile told name reader → reader.delim ≡ delim
+    → ((stream : List ℕ) → HasRead reader stream → GivesUnless errors.Memory (Ok lines) (trace_lines reader.delim stream)) → GivesOver told (λ ls. ls) (Ok lines) (lines_in delim name)
 unfolding lines_within
 lines_ok None delim name reader lines file is read = tt
 lines_ok (Some files) delim name reader lines file is read =
     lines_are files delim name file.0 file.1 file.2 ∙ ap (result_map_err (line_reason name)) (ap (λ (d : ℕ). trace_lines d file.0) (sym is) ∙ read file.0 file.3)
 
-pub lines_refused : (told : Option Files) (delim : ℕ) (name : List ℕ) (reader : Reading) (fault : TraceFault) (r : Result (Vec Line Global) Halt) → HasReadFile told name reader → reader.delim ≡ delim
-    → ((stream : List ℕ) → HasRead reader stream → GivesLines (Err (errors.Fault fault)) (trace_lines reader.delim stream)) → Gives (λ x. x) r (Err (trace_reason name (of_line (errors.Fault fault)))) → GivesOver told lines_view r (lines_in delim name)
+pub lines_refused : (told : Option Files) (delim : ℕ) (name : List ℕ) (reader : Reading) (fault : TraceFault) (r : Result (List Line) Halt) → HasReadFile told name reader → reader.delim ≡ delim
+    → ((stream : List ℕ) → HasRead reader stream → GivesUnless errors.Memory (Err (errors.Fault fault)) (trace_lines reader.delim stream)) → Gives (λ x. x) r (Err (trace_reason name (of_line (errors.Fault fault)))) → GivesOver told (λ ls. ls) r (lines_in delim name)
 unfolding lines_within
 lines_refused None delim name reader fault r file is read told = tt
 lines_refused (Some files) delim name reader fault r file is read told =
-    given_as lines_view r (trace_reason name (of_line (errors.Fault fault))) _ told
+    given_as (λ ls. ls) r (trace_reason name (of_line (errors.Fault fault))) _ told
     (lines_are files delim name file.0 file.1 file.2 ∙ ap (result_map_err (line_reason name)) (ap (λ (d : ℕ). trace_lines d file.0) (sym is) ∙ read file.0 file.3 (λ e. absurd cc)))
 
 -- a reason that stays the reason of what follows
@@ -126,7 +126,7 @@ stays (halts.Refused status note) step next told goes_on = goes_on _ told
 stays halts.ReadFault step next told goes_on = tt
 stays halts.Memory step next told goes_on = tt
 
-pub lines_err : (told : Option Files) (delim : ℕ) (name : List ℕ) (e : Halt) → GivesOver told bytes_view (Err e) (file_in max_trace name) → GivesOver told lines_view (Err e) (lines_in delim name)
+pub lines_err : (told : Option Files) (delim : ℕ) (name : List ℕ) (e : Halt) → GivesOver told bytes_view (Err e) (file_in max_trace name) → GivesOver {A = List Line} told (λ ls. ls) (Err e) (lines_in delim name)
 unfolding lines_in
 lines_err None delim name e file = tt
 lines_err (Some files) delim name e file = stays e (file_in max_trace name files) _ file (λ why is. rw is refl)
@@ -166,14 +166,14 @@ unfolding lines_within tree_within trace_means
 from_refusal delim name (Ok bytes) why e = through_err name (trace_lines delim bytes) tree_of why e
 from_refusal delim name (Err reason) why e = let same : reason ≡ why = cc in ap Err same
 
-pub trace_ok : (told : Option Files) (delim : ℕ) (name : List ℕ) (lines : Vec Line Global) (r : Result (List Directory) Halt)
-    → GivesOver told lines_view (Ok lines) (lines_in delim name) → Gives (λ t. t) r (result_map_err (tree_reason name) (tree_of lines.items)) → GivesOver told (λ t. t) r (trace_in delim name)
+pub trace_ok : (told : Option Files) (delim : ℕ) (name : List ℕ) (lines : List Line) (r : Result (List Directory) Halt)
+    → GivesOver told (λ ls. ls) (Ok lines) (lines_in delim name) → Gives (λ t. t) r (result_map_err (tree_reason name) (tree_of lines)) → GivesOver told (λ t. t) r (trace_in delim name)
 unfolding lines_in trace_in
 trace_ok None delim name lines r read tree = tt
-trace_ok (Some files) delim name lines r read tree = rw (from_lines delim name (file_in max_trace name files) lines.items read) tree
+trace_ok (Some files) delim name lines r read tree = rw (from_lines delim name (file_in max_trace name files) lines read) tree
 
 pub trace_err : (told : Option Files) (delim : ℕ) (name : List ℕ) (e : Halt)
-    → GivesOver told lines_view (Err e) (lines_in delim name) → GivesOver {A = List Directory} told (λ t. t) (Err e) (trace_in delim name)
+    → GivesOver {A = List Line} told (λ ls. ls) (Err e) (lines_in delim name) → GivesOver {A = List Directory} told (λ t. t) (Err e) (trace_in delim name)
 unfolding lines_in trace_in
 trace_err None delim name e read = tt
 trace_err (Some files) delim name e read = stays e (lines_in delim name files) _ read (λ why is. from_refusal delim name (file_in max_trace name files) why is)

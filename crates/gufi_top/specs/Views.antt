@@ -1,7 +1,6 @@
 -- What the program's own values stand for.
 use Rattle.std.specs.Prelude.{ℕ, List, Vec}
 use Rattle.std.specs.declared.alloc.Global.{Global}
-use Rattle.gufi_base.specs.declared.record.Line.{Line}
 use Rattle.gufi_top.specs.Verdict.{Verdict, writes}
 use Rattle.gufi_top.specs.declared.halt.Text.{Text}
 
@@ -10,6 +9,3 @@ text_view text = writes (record { out = text.out.items; notes = text.notes.items
 
 abbrev pub bytes_view : Vec ℕ Global → List ℕ
 bytes_view bytes = bytes.items
-
-abbrev pub lines_view : Vec Line Global → List Line
-lines_view lines = lines.items

@@ -7,17 +7,16 @@ ghost use Rattle.gufi_io.specs.Causes.{Rose};
 ghost use Rattle.gufi_io.specs.Files.{Holds};
 ghost use Rattle.gufi_trace.specs.Reader.{HasRead};
 ghost use Rattle.gufi_trace.specs.TraceText.{of_line, of_tree};
-ghost use Rattle.gufi_top.specs.Views.{bytes_view, lines_view};
+ghost use Rattle.gufi_top.specs.Views.{bytes_view};
 ghost use Rattle.gufi_top.specs.Reasons.{file_in, trace_in, trace_reason};
 ghost use Rattle.gufi_top.specs.Calls.{Gives, GivesOver, IsOfBytes, IsPastWords, HaltHasCause};
 ghost use Rattle.gufi_top.specs.Fed.{lines_in, HasReadFile};
 
 use crate::halt::{Halt, refused};
 use crate::note;
-use gufi_base::Line;
 use gufi_io::{OpenFault, ReadError, Shelf, read_all};
 use gufi_trace::{TraceError, TraceFault, TraceKind, TraceReader};
-use gufi_tree::{Tree, TreeFault, build};
+use gufi_tree::{Stanzas, Tree, TreeFault, build_stanzas};
 use std::alloc::{AllocError, Global};
 
 /// How many bytes a trace may have.
@@ -109,22 +108,22 @@ fn feed_file<F: Shelf>(
     refused(6, note::past_limit(alloc, name, MAX_TRACE)?)
 }
 
-// The lines of the trace in a file, whose bytes are never all in memory.
+// The lines of the trace in a file by their stanzas. The file's bytes are never all in memory.
 #[tactic(auto, using(crate::proofs::ReadingLemmas::lines))]
 fn read_lines<F: Shelf>(
     alloc: Global,
     shelf: &mut F,
     name: &str,
     delim: u8,
-) -> Result<Vec<Line>, Halt>
-    ensures lines { GivesOver (F.files shelf.old) lines_view result (lines_in delim name.now) }
+) -> Result<Stanzas, Halt>
+    ensures lines { GivesOver (F.files shelf.old) (λ lines. lines) result (lines_in delim name.now) }
     ensures past_words { IfErr result IsPastWords }
     ensures cause { IfErr result (HaltHasCause (F.faults shelf.old) (F.faults shelf.new) (F.absents shelf.old) (F.absents shelf.new)) }
-    ensures few { IfOk result (λ lines. length lines.items ≤ max_dirs + max_entries) }
+    ensures few { IfOk result (λ lines. length lines ≤ max_dirs + max_entries) }
 {
     let reader = TraceReader::new(alloc, delim)?;
     let reader = feed_file(alloc, shelf, name, reader)?;
-    match reader.finish() {
+    match reader.finish_stanzas() {
         Ok(lines) => Ok(lines),
         Err(TraceError::Fault(fault)) => refuse_line(alloc, name, fault),
         Err(TraceError::Memory) => Err(Halt::Memory),
@@ -133,13 +132,13 @@ fn read_lines<F: Shelf>(
 
 // The tree of the lines.
 #[tactic(auto, unfolding(crate::specs::Reasons::trace_reason))]
-fn build_tree(alloc: Global, name: &str, lines: Vec<Line>) -> Result<Tree, Halt>
-    requires { length lines.items ≤ max_dirs + max_entries }
-    ensures tree { Gives (λ tree. tree) result (result_map_err (λ f. trace_reason name.now (of_tree f)) (tree_of lines.items)) }
+fn build_tree(alloc: Global, name: &str, lines: Stanzas) -> Result<Tree, Halt>
+    requires { length lines ≤ max_dirs + max_entries }
+    ensures tree { Gives (λ tree. tree) result (result_map_err (λ f. trace_reason name.now (of_tree f)) (tree_of lines)) }
     ensures of_bytes { IfErr result IsOfBytes }
     ensures past_words { IfErr result IsPastWords }
 {
-    match build(alloc, lines) {
+    match build_stanzas(alloc, lines) {
         Ok(tree) => Ok(tree),
         Err(TreeFault::Memory) => Err(Halt::Memory),
         Err(fault) => refused(5, note::tree_line(alloc, name, fault)?),
