@@ -1,6 +1,6 @@
 //! The records of a generated tree.
 
-ghost use Rattle.std.specs.Prelude.{◌≡◌, ◌≤◌, ◌<◌};
+ghost use Rattle.std.specs.Prelude.{◌≡◌};
 ghost use Rattle.gufi_gen.specs.Generated.{directory_mode, made_meta, directory_meta, entry_meta};
 
 use gufi_base::{Kind, Meta};
@@ -17,7 +17,6 @@ fn mode_of(number: u32) -> u16
 
 /// A record with the owners and times of a directory.
 fn made_meta(kind: Kind, number: u32, inode: u64, mode: u16, size: u64) -> Meta
-    requires { number ≤ 200000 }
     ensures { result ≡ made_meta kind number inode mode size }
 {
     let time = NEWEST - i64::from(number);
@@ -39,7 +38,6 @@ fn made_meta(kind: Kind, number: u32, inode: u64, mode: u16, size: u64) -> Meta
 
 /// The record of a directory.
 pub(crate) fn directory_meta(number: u32) -> Meta
-    requires { number ≤ 200000 }
     ensures { result ≡ directory_meta number }
 {
     let inode = u64::from(number) + 1;
@@ -48,8 +46,6 @@ pub(crate) fn directory_meta(number: u32) -> Meta
 
 /// The record of an entry of a directory.
 pub(crate) fn entry_meta(number: u32, place: u32) -> Meta
-    requires directory { number ≤ 200000 }
-    requires entry { place < 5 }
     ensures { result ≡ entry_meta number place }
 {
     let number_wide = u64::from(number);

@@ -1,7 +1,6 @@
 //! The trace of a generated tree.
 
-ghost use Rattle.std.specs.Prelude.{◌≡◌, ◌++◌, ◌%◌, ◌≤◌, ◌<◌, IsTrue, IfOk, OnOk};
-ghost use Rattle.gufi_base.specs.Delimiters.{may_delimit};
+ghost use Rattle.std.specs.Prelude.{◌≡◌, ◌++◌, ◌%◌, IfOk, OnOk};
 ghost use Rattle.gufi_base.specs.Paths.{slashed_text};
 ghost use Rattle.gufi_gen.specs.Generated.{directory_path, gen_text};
 ghost use Rattle.gufi_gen.specs.Lines.{made_path_text, directory_line, entry_line, entry_lines, stanza_text};
@@ -37,8 +36,7 @@ fn write_path(path: &mut Vec<u8>, number: u32) -> Result<(), Memory>
 }
 
 fn put_directory(out: &mut Vec<u8>, delim: u8, path: &[u8], number: u32) -> Result<(), Memory>
-    requires path { path.now ≡ made_path_text number }
-    requires number { number ≤ 200000 }
+    requires { path.now ≡ made_path_text number }
     ensures { OnOk result (out.new.items ≡ out.old.items ++ directory_line delim number) }
 {
     put(out, path)?;
@@ -52,9 +50,7 @@ fn put_entry(
     number: u32,
     place: u32,
 ) -> Result<(), Memory>
-    requires path { path.now ≡ made_path_text number }
-    requires number { number ≤ 200000 }
-    requires place { place < 5 }
+    requires { path.now ≡ made_path_text number }
     ensures { OnOk result (out.new.items ≡ out.old.items ++ entry_line delim number place) }
 {
     put(out, path)?;
@@ -64,8 +60,7 @@ fn put_entry(
 }
 
 fn put_entries(out: &mut Vec<u8>, delim: u8, path: &[u8], number: u32) -> Result<(), Memory>
-    requires path { path.now ≡ made_path_text number }
-    requires number { number ≤ 200000 }
+    requires { path.now ≡ made_path_text number }
     ensures { OnOk result (out.new.items ≡ out.old.items ++ entry_lines delim number (number % 5)) }
 {
     for place in 0..number % 5 {
@@ -76,7 +71,6 @@ fn put_entries(out: &mut Vec<u8>, delim: u8, path: &[u8], number: u32) -> Result
 
 /// The lines of a directory and its entries; the path is written into memory that serves for all of them.
 fn put_stanza(out: &mut Vec<u8>, delim: u8, path: &mut Vec<u8>, number: u32) -> Result<(), Memory>
-    requires { number ≤ 200000 }
     ensures { OnOk result (out.new.items ≡ out.old.items ++ stanza_text delim number) }
 {
     write_path(path, number)?;
@@ -84,15 +78,12 @@ fn put_stanza(out: &mut Vec<u8>, delim: u8, path: &mut Vec<u8>, number: u32) -> 
     put_entries(out, delim, path, number)
 }
 
-/// The trace of a tree of 1 to 200,000 directories, made from their number alone.
+/// The trace of a tree of so many directories, made from their number alone: the same one each time.
 ///
 /// Below the root `/g` each directory has up to eight directories and up to four files. Takes time and memory in
-/// proportion to the bytes, which are reserved once.
+/// proportion to the bytes, which are reserved once up to 200,000 directories.
 #[tactic(auto, unfolding(crate::specs::Generated::gen_text))]
 pub fn gen_trace(alloc: Global, n: u32, delim: u8) -> Result<Vec<u8>, Memory>
-    requires some { 1 ≤ n }
-    requires bounded { n ≤ 200000 }
-    requires delim { IsTrue (may_delimit delim) }
     ensures { IfOk result (λ text. text.items ≡ gen_text n delim) }
 {
     let mut text = Vec::with_capacity(alloc, n as usize * STANZA)?;
