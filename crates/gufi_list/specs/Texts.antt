@@ -6,16 +6,13 @@ use Rattle.gufi_base.specs.Kinds.{kind_letter}
 use Rattle.gufi_base.specs.Words.{line}
 use Rattle.gufi_base.specs.Paths.{path_text}
 use Rattle.gufi_sums.specs.declared.summary.Summary.{Summary}
+use Rattle.gufi_sums.specs.Counts.{counts_text}
 
 -- ---- the total line
 
 abbrev pub pair_text : {A : Type 0} → (A → List ℕ) → Option (A × A) → List ℕ
 pair_text number None = codes "- -"
 pair_text number (Some p) = number p.0 ++ codes " " ++ number p.1
-
-abbrev pub counts_text : Summary → List ℕ
-counts_text s = codes "dirs " ++ decimal s.dirs ++ codes " files " ++ decimal s.files ++ codes " links " ++ decimal s.links
-    ++ codes " others " ++ decimal s.others ++ codes " bytes " ++ decimal s.bytes
 
 abbrev pub total_text : Summary → List ℕ
 total_text s = counts_text s ++ codes " size " ++ pair_text decimal s.size ++ codes " mtime " ++ pair_text signed_decimal s.mtime

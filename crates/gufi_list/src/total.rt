@@ -3,11 +3,11 @@
 ghost use Rattle.std.specs.Prelude.{◌≡◌, ◌++◌, IfOk, OnOk, codes, decimal};
 ghost use Rattle.std.specs.Fmt.{signed_decimal};
 ghost use Rattle.gufi_list.specs.Pieces.{ranges_text};
-ghost use Rattle.gufi_list.specs.Texts.{pair_text, counts_text, total_text};
+ghost use Rattle.gufi_list.specs.Texts.{pair_text, total_text};
 
 use crate::put::{put_named, put_signed, put_word};
-use gufi_base::{Memory, put_u128};
-use gufi_sums::Summary;
+use gufi_base::Memory;
+use gufi_sums::{Summary, put_counts};
 use std::alloc::Global;
 
 /// A word, and a pair over no rows.
@@ -52,17 +52,6 @@ fn put_ids(out: &mut Vec<u8>, word: &[u8], pair: Option<(u32, u32)>) -> Result<(
             put_named(out, b" ", u64::from(greatest))
         }
     }
-}
-
-fn put_counts(out: &mut Vec<u8>, sum: &Summary) -> Result<(), Memory>
-    ensures { OnOk result (out.new.items ≡ out.old.items ++ counts_text sum.now) }
-{
-    put_named(out, b"dirs ", sum.dirs)?;
-    put_named(out, b" files ", sum.files)?;
-    put_named(out, b" links ", sum.links)?;
-    put_named(out, b" others ", sum.others)?;
-    put_word(out, b" bytes ")?;
-    put_u128(out, sum.bytes)
 }
 
 fn put_ranges(out: &mut Vec<u8>, sum: &Summary) -> Result<(), Memory>

@@ -5,9 +5,11 @@
 //! It stands on `gufi_base`; walks that count and stores that keep sums stand on it.
 #![tactic(auto)]
 
+mod counts;
 mod skip;
 mod summary;
 
+pub use counts::put_counts;
 pub use skip::{NoSkip, Skip};
 pub use summary::Summary;
 

@@ -1,17 +1,19 @@
 -- Lemmas on what a command asks of one tree.
-use Rattle.std.proofs.Common.{◌≡◌, ◌≢◌, ℕ, ◌<◌, true, List, [], ◌∷◌, length, get_or, refl, sym, ap, ◌∙◌, subst}
+use Rattle.std.proofs.Common.{◌≡◌, ◌≢◌, ℕ, ◌<◌, ◌≤◌, true, not, List, [], ◌∷◌, length, get_or, refl, sym, ap, ◌∙◌, subst, arith}
 use Rattle.std.specs.Prelude.{Bool, Option, Some, None, Result, Ok, Err, IfOk, OnOk, IfErr, filter, Vec}
 use Rattle.std.specs.declared.alloc.Global.{Global}
 use Rattle.std.specs.List.Sorted.{IsPermutation}
 use Rattle.std.specs.List.{flat_map}
 use Rattle.std.proofs.lemmas.List.{append-nil}
+use Rattle.std.proofs.lemmas.List.Filters.{length-filter_both}
 use Rattle.gufi_base.specs.declared.record.Row.{Row}
-use Rattle.gufi_base.specs.Words.{◌>>=◌, result_map_err, ascends}
+use Rattle.gufi_base.specs.Words.{◌>>=◌, ascends}
 use Rattle.gufi_base.specs.Paths.{Components, path_eq}
-use Rattle.gufi_base.specs.Rows.{row_cmp}
+use Rattle.gufi_base.specs.Rows.{row_cmp, home, depth_below}
 use Rattle.gufi_base.specs.PathLines.{path_lines, ArePathsOf}
 use Rattle.gufi_access.specs.declared.class.Principal.{Principal}
-use Rattle.gufi_tree.specs.Tree.{Directory, dir_row, may_list, HasTreeShape}
+use Rattle.gufi_tree.specs.Tree.{Directory, all_rows, dir_row, may_list, HasTreeShape}
+use Rattle.gufi_tree.specs.Listed.{is_listed}
 use Rattle.gufi_tree.specs.declared.tree.DirId.{DirId}
 use Rattle.gufi_tree.specs.declared.resolve.Resolved.TheVariants.{Found}
 use Rattle.gufi_tree.specs.Resolve.{resolve}
@@ -25,7 +27,7 @@ use Rattle.gufi_sums.specs.declared.summary.Summary.{Summary}
 use Rattle.gufi_sums.specs.Total.{total}
 use Rattle.gufi_list.specs.Texts.{stat_text}
 use Rattle.gufi_walk.specs.declared.refusal.Refusal.{Refusal}
-use Rattle.gufi_walk.specs.Answer.{answer, refusal_of, reply_rows, rows_or, Alike}
+use Rattle.gufi_walk.specs.Answer.{answer, listed_rows, refusal_of, rows_or}
 use Rattle.gufi_walk.proofs.Isolation.{alike_replies}
 use Rattle.gufi_walk.proofs.Pieces.{answer-ascends}
 use Rattle.gufi_walk.proofs.StartRow.{start_row}
@@ -38,7 +40,7 @@ use Rattle.gufi_top.specs.Calls.{Gives, Replies}
 use Rattle.gufi_top.specs.Reasons.{start_reason}
 use Rattle.gufi_top.specs.Verdict.{replied, asked}
 use Rattle.gufi_top.proofs.ReadingLemmas.{given_as}
-use Rattle.gufi_top.specs.Asks.{Ask, walk_ask, stat_ask, ask_holds, ask_text, ask_reply, AsksArePrivate}
+use Rattle.gufi_top.specs.Asks.{Ask, stat_ask, ask_holds, ask_text, ask_reply, AsksArePrivate}
 
 -- where the start is found, the text of the answer
 pub reply_found : (tree : List Directory) (who : Principal) (start : Components) (ask : Ask) → refusal_of (resolve tree who start) ≡ None
@@ -93,6 +95,17 @@ pub rows_of_answer : (tree : List Directory) (who : Principal) (start : Componen
     → IsPermutation kept (answer tree who start asks) → ((other : List Row) → IsPermutation kept other → ascends row_cmp other ≡ true → rows ≡ other)
     → rows ≡ answer tree who start asks
 rows_of_answer tree who start asks kept rows shape are given = given (answer tree who start asks) are (answer-ascends tree shape who start asks)
+
+-- there are no more of them than rows
+filter-few : (p : Row → Bool) (rows : List Row) → length (filter p rows) ≤ length rows
+filter-few p rows = let parts = length-filter_both p (λ row. not (p row)) (λ row. refl) rows in omega (arith, parts)
+
+pub answer-few : (tree : List Directory) (who : Principal) (start : Components) (asks : Row → ℕ → Bool) → length (answer tree who start asks) ≤ length (all_rows tree)
+unfolding answer
+answer-few tree who start asks =
+    let listed = filter-few (λ row. is_listed tree who start (home row)) (all_rows tree) in
+    let asked = filter-few (λ row. asks row (depth_below (length start) row)) (listed_rows tree who start) in
+    omega (arith, listed, asked)
 
 -- the start's place
 pub place_found : (tree : List Directory) (who : Principal) (start : Components) (id : DirId) → HasTreeShape tree → resolve tree who start ≡ Found id → id.0 < length tree

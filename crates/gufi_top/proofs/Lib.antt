@@ -3,3 +3,4 @@ pub mod RunLemmas
 pub mod StepLemmas
 pub mod QueryLemmas
 pub mod AskLemmas
+pub mod SummaryLemmas

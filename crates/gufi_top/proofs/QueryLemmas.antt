@@ -1,6 +1,6 @@
 -- Lemmas on commands with a USER and a START.
-use Rattle.std.proofs.Common.{◌≡◌, ℕ, List, refl}
-use Rattle.std.specs.Prelude.{Option, Some, None, Result, Ok, Err}
+use Rattle.std.proofs.Common.{List, refl}
+use Rattle.std.specs.Prelude.{Option, Result, Ok, Err}
 use Rattle.gufi_io.specs.Files.{Files}
 use Rattle.gufi_base.specs.Words.{◌>>=◌}
 use Rattle.gufi_access.specs.declared.class.Principal.{Principal}
@@ -17,7 +17,7 @@ use Rattle.gufi_top.specs.Views.{text_view}
 use Rattle.gufi_top.specs.declared.halt.Text.{Text}
 use Rattle.gufi_top.specs.declared.halt.Halt.{Halt}
 use Rattle.gufi_top.specs.declared.halt.Halt.TheVariants as halts
-use Rattle.gufi_top.proofs.StepLemmas.{fails_on, over_ok, over_err, given_over}
+use Rattle.gufi_top.proofs.StepLemmas.{over_ok, over_err, given_over}
 
 -- ---- the principal, and then the tree
 

@@ -179,3 +179,19 @@ trace_err None delim name e read = tt
 trace_err (Some files) delim name e read = stays e (lines_in delim name files) _ read (λ why is. from_refusal delim name (file_in max_trace name files) why is)
 
 pub ruleset traces = (trace_ok, trace_err)
+
+-- ---- the tree of a trace that comes whole
+
+pub whole_ok : (delim : ℕ) (name bytes : List ℕ) (lines : List Line) (r : Result (List Directory) Halt)
+    → GivesUnless errors.Memory (Ok lines) (trace_lines delim bytes) → Gives (λ t. t) r (result_map_err (tree_reason name) (tree_of lines)) → Gives (λ t. t) r (tree_within delim name bytes)
+unfolding tree_within trace_means
+whole_ok delim name bytes lines r read tree = rw (through_ok name (trace_lines delim bytes) tree_of lines (ap (result_map_err (line_reason name)) read)) tree
+
+pub whole_refused : (delim : ℕ) (name bytes : List ℕ) (fault : TraceFault) (r : Result (List Directory) Halt)
+    → GivesUnless errors.Memory (Err (errors.Fault fault)) (trace_lines delim bytes) → Gives (λ x. x) r (Err (trace_reason name (of_line (errors.Fault fault)))) → Gives (λ t. t) r (tree_within delim name bytes)
+unfolding tree_within trace_means
+whole_refused delim name bytes fault r read told =
+    given_as (λ t. t) r (trace_reason name (of_line (errors.Fault fault))) _ told
+    (through_err name (trace_lines delim bytes) tree_of _ (ap (result_map_err (line_reason name)) (read (λ e. absurd cc))))
+
+pub ruleset wholes = (whole_ok, whole_refused)

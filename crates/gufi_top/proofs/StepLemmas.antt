@@ -1,5 +1,5 @@
 -- Lemmas on steps over the files, one behind another.
-use Rattle.std.proofs.Common.{◌≡◌, ◌≤◌, ℕ, List, refl, arith}
+use Rattle.std.proofs.Common.{◌≤◌, ℕ, List, refl, arith}
 use Rattle.std.specs.Prelude.{Option, Some, None, Result, Ok, Err, Vec}
 use Rattle.std.specs.declared.alloc.Global.{Global}
 use Rattle.gufi_io.specs.Files.{Files}

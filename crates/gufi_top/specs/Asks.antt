@@ -1,26 +1,31 @@
 -- What the commands of one answer ask of the rows, and what they write of them.
-use Rattle.std.specs.Prelude.{◌≡◌, ℕ, Bool, true, List, filter, Result, Ok}
+use Rattle.std.specs.Prelude.{◌≡◌, ℕ, Bool, true, List, ◌++◌, filter, Result, Ok, codes}
 use Rattle.std.specs.List.{flat_map}
 use Rattle.gufi_base.specs.declared.record.Row.{Row}
-use Rattle.gufi_base.specs.Words.{◌>>=◌}
+use Rattle.gufi_base.specs.Words.{◌>>=◌, line}
 use Rattle.gufi_base.specs.Paths.{Components, path_eq}
 use Rattle.gufi_base.specs.PathLines.{path_lines}
 use Rattle.gufi_access.specs.declared.class.Principal.{Principal}
 use Rattle.gufi_tree.specs.Tree.{Directory}
+use Rattle.gufi_sums.specs.declared.summary.Summary.{Summary}
 use Rattle.gufi_sums.specs.Total.{total}
 use Rattle.gufi_users.specs.Entries.{UserTables}
 use Rattle.gufi_find.specs.Expressions.{Find, find_holds}
-use Rattle.gufi_list.specs.Texts.{stat_text}
+use Rattle.gufi_list.specs.Texts.{stat_text, total_text}
 use Rattle.gufi_list.specs.Listings.{ls_text, ls_asks}
+use Rattle.gufi_stats.specs.declared.report.Report.{Report}
+use Rattle.gufi_stats.specs.Reports.{stats_text}
 use Rattle.gufi_walk.specs.declared.refusal.Refusal.{Refusal}
 use Rattle.gufi_walk.specs.Answer.{reply_rows, Alike}
 
--- ls has the names of owners, and whether it is long and shows all
+-- ls has the names of owners, and whether it is long and shows all; a total has the words before it
 pub data Ask : Type 0 where
   walk_ask : Ask
   find_ask : Find → Ask
   ls_ask : UserTables → Bool → Bool → Ask
   stat_ask : Ask
+  stats_ask : Report → Ask
+  total_ask : List ℕ → Ask
 
 -- whether an ask admits a row at a depth below its start
 abbrev pub ask_holds : Ask → Row → ℕ → Bool
@@ -28,10 +33,16 @@ ask_holds walk_ask row depth = true
 ask_holds (find_ask expression) row depth = find_holds expression row depth
 ask_holds (ls_ask tables long all) row depth = ls_asks all row depth
 ask_holds stat_ask row depth = true
+ask_holds (stats_ask report) row depth = true
+ask_holds (total_ask name) row depth = true
 
 -- The start's own row is among those of an answer.
 abbrev pub stat_lines : Components → List Row → List ℕ
 stat_lines start rows = flat_map (λ row. stat_text row (total rows)) (filter (λ row. path_eq start row.path) rows)
+
+-- a sum behind the name of whom it is for
+abbrev pub total_line : List ℕ → Summary → List ℕ
+total_line name sum = line (name ++ codes " " ++ total_text sum)
 
 -- what is written of the rows that an ask admits below a start
 abbrev pub ask_text : Ask → Components → List Row → List ℕ
@@ -39,6 +50,8 @@ ask_text walk_ask start rows = path_lines rows
 ask_text (find_ask expression) start rows = path_lines rows
 ask_text (ls_ask tables long all) start rows = ls_text rows tables long all
 ask_text stat_ask start rows = stat_lines start rows
+ask_text (stats_ask report) start rows = stats_text rows start report
+ask_text (total_ask name) start rows = total_line name (total rows)
 
 -- the refusal of the start, or what is written
 unfoldable pub ask_reply : List Directory → Principal → Components → Ask → Result (List ℕ) Refusal

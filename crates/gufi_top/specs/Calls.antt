@@ -1,5 +1,5 @@
 -- What the program's own calls give: the value of a step, or the reason for which it gives none.
-use Rattle.std.specs.Prelude.{◌≡◌, ◌≢◌, ℕ, List, Vec, ⊤, Option, Some, None, Result, Ok, Err}
+use Rattle.std.specs.Prelude.{◌≡◌, ◌≢◌, ℕ, List, ◌++◌, Vec, ⊤, Option, Some, None, Result, Ok, Err}
 use Rattle.std.specs.declared.alloc.Global.{Global}
 use Rattle.gufi_io.specs.Files.{Files}
 use Rattle.gufi_io.specs.Causes.{Rose}
@@ -29,6 +29,11 @@ GivesOver (Some files) view call step = Gives view call (step files)
 abbrev pub Replies : Result (Vec ℕ Global) Refusal → Result (List ℕ) Refusal → Type 0
 Replies (Ok text) given = given ≡ Ok text.items
 Replies (Err refusal) given = refusal ≢ refusals.Memory → given ≡ Err refusal
+
+-- what a call appended is the reply that is given, unless memory ran out
+abbrev pub AppendsReply : Result (Unit {0}) Refusal → List ℕ → List ℕ → Result (List ℕ) Refusal → Type 0
+AppendsReply (Ok done) old new given = (text : List ℕ) × (given ≡ Ok text) × (new ≡ old ++ text)
+AppendsReply (Err refusal) old new given = refusal ≢ refusals.Memory → given ≡ Err refusal
 
 -- each reason comes only where its count rose
 abbrev pub HaltHasCause : ℕ → ℕ → ℕ → ℕ → Halt → Type 0

@@ -1,5 +1,5 @@
 -- Why a command is refused, and what its files mean or are refused for.
-use Rattle.std.specs.Prelude.{ℕ, ◌+◌, nat_lt, List, [], ◌++◌, length, Option, Some, None, ok_or, unwrap_or, Result, Ok, Err, codes, decimal}
+use Rattle.std.specs.Prelude.{ℕ, ◌+◌, nat_lt, List, [], ◌++◌, length, Option, Some, None, ok_or, unwrap_or, Result, Ok, codes, decimal}
 use Rattle.gufi_io.specs.Files.{Files}
 use Rattle.gufi_base.specs.Limits.{max_trace, max_users}
 use Rattle.gufi_base.specs.Words.{line, capped_number, ◌>>=◌, ◌>>◌, refuse, result_map_err}

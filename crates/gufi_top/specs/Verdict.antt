@@ -1,5 +1,5 @@
 -- What the words and the files come to: a reason with its status and note, or a text.
-use Rattle.std.specs.Prelude.{ℕ, ℤ, Bool, true, false, List, [], Option, ok_or, Result, Ok, Err}
+use Rattle.std.specs.Prelude.{ℕ, ℤ, Bool, true, false, List, [], ◌∷◌, ◌++◌, Option, ok_or, Result, Ok, Err, if◌then◌else◌, codes}
 use Rattle.gufi_io.specs.Files.{Files}
 use Rattle.gufi_base.specs.Words.{◌>>=◌, result_map_err}
 use Rattle.gufi_base.specs.Paths.{Components}
@@ -10,14 +10,19 @@ use Rattle.gufi_users.specs.Entries.{UserTables}
 use Rattle.gufi_users.specs.Users.{principal_of}
 use Rattle.gufi_find.specs.Expressions.{Find}
 use Rattle.gufi_find.specs.Reading.{read_find}
+use Rattle.gufi_stats.specs.declared.report.Report.{Report}
+use Rattle.gufi_stats.specs.declared.report.Report.TheVariants as reports
+use Rattle.gufi_gen.specs.Generated.{gen_text}
 use Rattle.gufi_roll.specs.CanRoll.{roll_flags, roll_report, report_text}
 use Rattle.gufi_walk.specs.declared.refusal.Refusal.{Refusal}
 use Rattle.gufi_words.specs.CommandWords.{read_words}
+use Rattle.gufi_words.specs.declared.command.ReportWord.{ReportWord}
+use Rattle.gufi_words.specs.declared.command.ReportWord.TheVariants as report_words
 use Rattle.gufi_words.specs.declared.command.Common.{Common}
 use Rattle.gufi_words.specs.declared.command.Command.{Command}
 use Rattle.gufi_words.specs.declared.command.Command.TheVariants as commands
-use Rattle.gufi_top.specs.Reasons.{Reason, word_refused, words_reason, find_reason, start_reason, tables_in, trace_in}
-use Rattle.gufi_top.specs.Asks.{Ask, walk_ask, find_ask, ls_ask, stat_ask, ask_reply}
+use Rattle.gufi_top.specs.Reasons.{Reason, word_refused, words_reason, find_reason, start_reason, tables_in, trace_in, tree_within}
+use Rattle.gufi_top.specs.Asks.{Ask, walk_ask, find_ask, ls_ask, stat_ask, stats_ask, total_ask, ask_reply}
 
 -- what goes to the output, and the note of status 0
 pub record Written : Type 0 where
@@ -80,6 +85,15 @@ find_asking user_at now words tables = expression_in user_at now words tables >>
 abbrev pub ls_asking : Bool → Bool → Asking
 ls_asking long all tables = Ok (ls_ask tables long all)
 
+abbrev pub report_of : ReportWord → Report
+report_of report_words.Levels = reports.Levels
+report_of report_words.Uids = reports.Uids
+report_of report_words.Gids = reports.Gids
+report_of report_words.Leaves = reports.Leaves
+
+abbrev pub stats_asking : Report → Asking
+stats_asking report tables = Ok (stats_ask report)
+
 -- ---- rollup: its report is a note
 
 abbrev pub rolled_up : ℕ → List Directory → Result Verdict Reason
@@ -87,6 +101,34 @@ rolled_up limit tree = Ok (writes (record { out = []; notes = report_text (roll_
 
 unfoldable pub rollup_over : List ℕ → ℕ → ℕ → Files → Result Verdict Reason
 rollup_over index delim limit files = trace_in delim index files >>= rolled_up limit
+
+-- ---- gen: the trace of n directories, or what a run over it comes to
+
+-- the total of all that a principal lists, behind his name
+abbrev pub total_for : List Directory → List ℕ → Principal → Result (List ℕ) Refusal
+total_for tree name who = ask_reply tree who [] (total_ask name)
+
+-- the report of the roll-up under the limit 1,000, and the totals of three principals
+unfoldable pub summary_of : List Directory → Result (List ℕ) Refusal
+summary_of tree =
+    total_for tree (codes "0") (principal 0 []) >>= λ first.
+    total_for tree (codes "1001:101") (principal 1001 (101 ∷ [])) >>= λ second.
+    total_for tree (codes "1002") (principal 1002 []) >>= λ third.
+    Ok (report_text (roll_report tree (roll_flags tree 1000)) ++ (first ++ (second ++ third)))
+
+-- the tree of a generated trace, as of a file `gen`
+abbrev pub generated_tree : ℕ → ℕ → Result (List Directory) Reason
+generated_tree n delim = tree_within delim (codes "gen") (gen_text n delim)
+
+unfoldable pub summary_over : ℕ → ℕ → Result Verdict Reason
+summary_over n delim = generated_tree n delim >>= λ tree. replied (summary_of tree)
+
+-- no file plays a part
+abbrev pub gen_verdict : ℕ → ℕ → Bool → Result Verdict Reason
+gen_verdict n delim summary = if summary then summary_over n delim else writes_only (gen_text n delim)
+
+abbrev pub gen_over : ℕ → ℕ → Bool → Files → Result Verdict Reason
+gen_over n delim summary files = gen_verdict n delim summary
 
 -- ---- each command; one whose work hasn't come is refused at its name
 
@@ -101,9 +143,9 @@ command_over (commands.Query common text) = not_open
 command_over (commands.Find common now words) = ask_over common (find_asking common.user_at now words)
 command_over (commands.Ls common long all) = ask_over common (ls_asking long all)
 command_over (commands.Stat common) = ask_over common stat_asking
-command_over (commands.Stats common report) = not_open
+command_over (commands.Stats common report) = ask_over common (stats_asking (report_of report))
 command_over (commands.Session passwd group delim workers now script) = not_open
-command_over (commands.Gen n delim workers summary) = not_open
+command_over (commands.Gen n delim workers summary) = gen_over n delim summary
 
 -- ---- the verdict
 
@@ -125,7 +167,7 @@ may_refuse (commands.Ls common long all) = true
 may_refuse (commands.Stat common) = true
 may_refuse (commands.Stats common report) = true
 may_refuse (commands.Session passwd group delim workers now script) = true
-may_refuse (commands.Gen n delim workers summary) = true
+may_refuse (commands.Gen n delim workers summary) = false
 
 abbrev pub may_refuse_read : Result Command Reason → Bool
 may_refuse_read (Ok command) = may_refuse command

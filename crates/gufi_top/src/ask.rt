@@ -1,18 +1,20 @@
 //! What a command asks of one tree, and what it writes of the answer.
-ghost use Rattle.std.specs.Prelude.{◌≡◌, ◌≢◌, ◌<◌, true, length, slice_index_or, Ok, Err, Some, None, IfOk, IfErr, OnOk};
+ghost use Rattle.std.specs.Prelude.{◌≡◌, ◌≢◌, ◌<◌, ◌++◌, true, length, slice_index_or, Ok, Err, Some, None, IfOk, IfErr, OnOk};
 ghost use Rattle.gufi_base.specs.PathLines.{path_lines};
+ghost use Rattle.gufi_sums.specs.Total.{total};
 ghost use Rattle.gufi_tree.specs.Tree.{Directory, HasTreeShape, dir_row};
 ghost use Rattle.gufi_tree.specs.Resolve.{resolve};
 ghost use Rattle.gufi_walk.specs.Answer.{answer, refusal_of};
-ghost use Rattle.gufi_top.specs.Asks.{walk_ask, find_ask, ls_ask, stat_ask, ask_reply};
+ghost use Rattle.gufi_top.specs.Asks.{walk_ask, find_ask, ls_ask, stat_ask, stats_ask, total_ask, total_line, ask_reply};
 ghost use Rattle.gufi_top.specs.Calls.{Replies};
 ghost use Rattle.gufi_top.specs.Starts.{StartsWithRow};
 
 use gufi_access::Principal;
 use gufi_base::{Always, Bytes, Memory, Path, PathList, Pred, Rec, Row, RowList};
 use gufi_find::FindExpr;
-use gufi_list::{OneBelow, ls_text, stat_text};
+use gufi_list::{OneBelow, ls_text, stat_text, total_text};
 use gufi_snap::Snapshot;
+use gufi_stats::{Report, stats_text};
 use gufi_sums::{NoSkip, Summary};
 use gufi_tree::{DirId, Resolved, Tree};
 use gufi_users::Users;
@@ -57,6 +59,18 @@ fn rows_of<P: Pred>(
     }
 }
 
+/// The sum of all rows that the principal lists from the start.
+fn sum_of(alloc: Global, snap: &Snapshot, who: &Principal, start: &Path) -> Result<Summary, Refusal>
+    ensures sum { IfOk result (λ sum. sum ≡ total (answer snap.now.tree who.now start.now (λ row depth. true))) }
+    ensures found { OnOk result (refusal_of (resolve snap.now.tree who.now start.now) ≡ None) }
+    ensures refusal { IfErr result (λ refusal. refusal ≢ Refusal.Memory → refusal_of (resolve snap.now.tree who.now start.now) ≡ Some refusal) }
+{
+    match answer_uncounted::<Always, Summary, NoSkip>(alloc, snap, who, start, &Always, &NoSkip) {
+        Ok(sum) => Ok(sum),
+        Err(refusal) => Err(refusal),
+    }
+}
+
 /// The paths of all rows that the principal lists from the start.
 pub(crate) fn walk_text(
     alloc: Global,
@@ -96,6 +110,51 @@ pub(crate) fn listing_text(
 {
     match rows_of(alloc, snap, who, start, &OneBelow { all }) {
         Ok(rows) => Ok(ls_text(alloc, &rows, users, long, all)?),
+        Err(refusal) => Err(refusal),
+    }
+}
+
+/// A report over all rows that the principal lists from the start.
+pub(crate) fn report_text(
+    alloc: Global,
+    snap: &Snapshot,
+    who: &Principal,
+    start: &Path,
+    report: Report,
+) -> Result<Vec<u8>, Refusal>
+    ensures { Replies result (ask_reply snap.now.tree who.now start.now (stats_ask report)) }
+{
+    let _tree = snap.tree();
+    match rows_of(alloc, snap, who, start, &Always) {
+        Ok(rows) => Ok(stats_text(alloc, &rows, start, report)?),
+        Err(refusal) => Err(refusal),
+    }
+}
+
+/// A sum behind the name of whom it is for.
+fn named_total(alloc: Global, name: &[u8], sum: &Summary) -> Result<Vec<u8>, Memory>
+    ensures { IfOk result (λ text. text.items ≡ total_line name.now sum.now) }
+{
+    let total = total_text(alloc, sum)?;
+    let mut text = Vec::from_slice(alloc, name)?;
+    text.push(b' ')?;
+    text.extend_from_slice(&total)?;
+    text.push(b'\n')?;
+    Ok(text)
+}
+
+/// The sum of all rows that the principal lists from the start, behind his name.
+pub(crate) fn total_for(
+    alloc: Global,
+    snap: &Snapshot,
+    who: &Principal,
+    start: &Path,
+    name: &[u8],
+) -> Result<Vec<u8>, Refusal>
+    ensures { Replies result (ask_reply snap.now.tree who.now start.now (total_ask name.now)) }
+{
+    match sum_of(alloc, snap, who, start) {
+        Ok(sum) => Ok(named_total(alloc, name, &sum)?),
         Err(refusal) => Err(refusal),
     }
 }
@@ -163,7 +222,7 @@ fn record_with(
     requires { StartsWithRow snap.now.tree who.now start.now row.now }
     ensures { Replies result (ask_reply snap.now.tree who.now start.now stat_ask) }
 {
-    match answer_uncounted::<Always, Summary, NoSkip>(alloc, snap, who, start, &Always, &NoSkip) {
+    match sum_of(alloc, snap, who, start) {
         Ok(sum) => Ok(stat_text(alloc, row, &sum)?),
         Err(refusal) => Err(refusal),
     }

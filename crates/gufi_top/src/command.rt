@@ -3,19 +3,21 @@ ghost use Rattle.std.specs.Prelude.{◌≡◌, Err, IfErr, IfOk, IsTrue};
 ghost use Rattle.gufi_top.specs.Views.{text_view};
 ghost use Rattle.gufi_access.specs.Access.{principal};
 ghost use Rattle.gufi_top.specs.Reasons.{word_refused};
-ghost use Rattle.gufi_top.specs.Verdict.{walk_over, command_over, may_refuse};
+ghost use Rattle.gufi_top.specs.Verdict.{walk_over, command_over, may_refuse, report_of};
 ghost use Rattle.gufi_top.specs.Calls.{Gives, GivesOver, OfWordsOnlyIf, IsOfBytes, IsPastWords, HaltHasCause};
 
+use crate::generate::generate;
 use crate::halt::{Halt, Text, refused};
 use crate::note;
 use crate::query::ask;
-use crate::question::{Find, Ls, Stat};
+use crate::question::{Find, Ls, Stat, Stats};
 use crate::rollup::rollup;
 use crate::walk::walk;
 use gufi_access::{Groups, Principal};
 use gufi_base::Nums;
 use gufi_io::Shelf;
-use gufi_words::Command;
+use gufi_stats::Report;
+use gufi_words::{Command, ReportWord};
 use std::alloc::{AllocError, Global};
 
 fn principal_of(alloc: Global, uid: u32, gids: &Nums) -> Result<Principal, AllocError>
@@ -44,6 +46,17 @@ fn walk_as<F: Shelf>(
     match principal_of(alloc, uid, gids) {
         Ok(who) => walk(alloc, shelf, trace, &who, delim),
         Err(_) => Err(Halt::Memory),
+    }
+}
+
+fn report_of(word: ReportWord) -> Report
+    ensures { result ≡ report_of word }
+{
+    match word {
+        ReportWord::Levels => Report::Levels,
+        ReportWord::Uids => Report::Uids,
+        ReportWord::Gids => Report::Gids,
+        ReportWord::Leaves => Report::Leaves,
     }
 }
 
@@ -98,6 +111,20 @@ pub(crate) fn answer_command<F: Shelf>(
             },
         ),
         Command::Stat { common } => ask(alloc, shelf, common, &Stat),
+        Command::Stats { common, report } => ask(
+            alloc,
+            shelf,
+            common,
+            &Stats {
+                report: report_of(*report),
+            },
+        ),
+        Command::Gen {
+            n,
+            delim,
+            summary,
+            ..
+        } => generate(alloc, *n, *delim, *summary),
         _ => not_open(alloc),
     }
 }

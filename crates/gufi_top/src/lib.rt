@@ -8,12 +8,15 @@ mod ask;
 mod command;
 #[cfg(test)]
 mod find_tests;
+mod generate;
 mod halt;
 mod laws;
 mod note;
 mod query;
 mod question;
 mod reading;
+#[cfg(test)]
+mod report_tests;
 mod rollup;
 mod run;
 mod start;

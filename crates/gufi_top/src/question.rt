@@ -7,10 +7,10 @@ ghost use Rattle.gufi_users.specs.Entries.{UserTables};
 ghost use Rattle.gufi_top.specs.Asks.{Ask, find_ask};
 ghost use Rattle.gufi_top.specs.Reasons.{Reason, word_fault};
 ghost use Rattle.gufi_top.specs.Views.{text_view};
-ghost use Rattle.gufi_top.specs.Verdict.{asked, asked_if, expression_in, find_asking, ls_asking, stat_asking};
+ghost use Rattle.gufi_top.specs.Verdict.{asked, asked_if, expression_in, find_asking, ls_asking, stat_asking, stats_asking};
 ghost use Rattle.gufi_top.specs.Calls.{Gives, IsOfBytes};
 
-use crate::ask::{find_text, listing_text, record_text};
+use crate::ask::{find_text, listing_text, record_text, report_text};
 use crate::halt::{Halt, Text as Written, refused};
 use crate::note;
 use crate::start::written;
@@ -18,6 +18,7 @@ use crate::walk::snapshot_of;
 use gufi_access::Principal;
 use gufi_base::{Path, Text};
 use gufi_find::{FindError, FindExpr, FindKind, read_find};
+use gufi_stats::Report;
 use gufi_tree::Tree;
 use gufi_users::Users;
 use std::alloc::Global;
@@ -166,5 +167,29 @@ impl Question for Ls {
             alloc,
             listing_text(alloc, &snap, who, start, users, self.long, self.all),
         )
+    }
+}
+
+/// A report over all rows that the user lists from the start.
+#[derive(Clone, Copy)]
+pub(crate) struct Stats {
+    pub(crate) report: Report,
+}
+
+impl Question for Stats {
+    ghost asks = { λ stats. stats_asking stats.report };
+
+    #[tactic(auto, using(crate::proofs::AskLemmas::asking))]
+    fn answer(
+        &self,
+        alloc: Global,
+        _users: &Users,
+        tree: Tree,
+        limit: u64,
+        who: &Principal,
+        start: &Path,
+    ) -> Result<Written, Halt> {
+        let snap = snapshot_of(alloc, tree, limit)?;
+        written(alloc, report_text(alloc, &snap, who, start, self.report))
     }
 }

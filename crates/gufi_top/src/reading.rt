@@ -8,14 +8,14 @@ ghost use Rattle.gufi_io.specs.Files.{Holds};
 ghost use Rattle.gufi_trace.specs.Reader.{HasRead};
 ghost use Rattle.gufi_trace.specs.TraceText.{of_line, of_tree};
 ghost use Rattle.gufi_top.specs.Views.{bytes_view};
-ghost use Rattle.gufi_top.specs.Reasons.{file_in, trace_in, trace_reason};
+ghost use Rattle.gufi_top.specs.Reasons.{file_in, trace_in, tree_within, trace_reason};
 ghost use Rattle.gufi_top.specs.Calls.{Gives, GivesOver, IsOfBytes, IsPastWords, HaltHasCause};
 ghost use Rattle.gufi_top.specs.Fed.{lines_in, HasReadFile};
 
 use crate::halt::{Halt, refused};
 use crate::note;
 use gufi_io::{OpenFault, ReadError, Shelf, read_all};
-use gufi_trace::{TraceError, TraceFault, TraceKind, TraceReader};
+use gufi_trace::{TraceError, TraceFault, TraceKind, TraceReader, read_trace};
 use gufi_tree::{Stanzas, Tree, TreeFault, build_stanzas};
 use std::alloc::{AllocError, Global};
 
@@ -160,5 +160,24 @@ pub(crate) fn read_trace_file<F: Shelf>(
     match read_lines(alloc, shelf, name, delim) {
         Ok(lines) => build_tree(alloc, name, lines),
         Err(halt) => Err(halt),
+    }
+}
+
+/// The tree of a trace that comes whole, as of a file of this name.
+#[tactic(auto, using(crate::proofs::ReadingLemmas::wholes))]
+pub(crate) fn read_trace_bytes(
+    alloc: Global,
+    name: &str,
+    delim: u8,
+    bytes: &[u8],
+) -> Result<Tree, Halt>
+    ensures tree { Gives (λ tree. tree) result (tree_within delim name.now bytes.now) }
+    ensures of_bytes { IfErr result IsOfBytes }
+    ensures past_words { IfErr result IsPastWords }
+{
+    match read_trace(alloc, delim, bytes) {
+        Ok(lines) => build_tree(alloc, name, lines),
+        Err(TraceError::Fault(fault)) => refuse_line(alloc, name, fault),
+        Err(TraceError::Memory) => Err(Halt::Memory),
     }
 }

@@ -15,7 +15,7 @@ use gufi_tree::Tree;
 use std::alloc::Global;
 
 /// What a tree's roll-up comes to.
-fn report_of(alloc: Global, tree: &Tree, limit: u64) -> Result<RollReport, Memory>
+pub(crate) fn report_of(alloc: Global, tree: &Tree, limit: u64) -> Result<RollReport, Memory>
     ensures { IfOk result (λ report. report ≡ roll_report tree.now (roll_flags tree.now limit)) }
 {
     let flags = roll(alloc, tree, limit)?;

@@ -11,7 +11,7 @@ use std::thread::Threads;
 pub(crate) const A: &[u8] = b"/r|d|1|493|2|101|100|4096|4096|8|10|20|30|\n";
 
 // A directory whose owner's class denies its owner, with a file.
-const B: &[u8] = b"/r|d|1|493|3|101|100|4096|4096|8|10|20|30|
+pub(crate) const B: &[u8] = b"/r|d|1|493|3|101|100|4096|4096|8|10|20|30|
 /r/c|d|2|45|2|102|200|4096|4096|8|10|22|30|
 /r/c/x|f|3|420|1|102|200|7|4096|8|10|21|30|
 ";
@@ -97,7 +97,7 @@ fn shelf_of<R: AllocGlobal + Abort>(
 }
 
 fn sink_of(alloc: Global, bad_writes: &[u64]) -> Result<MemSink, AllocError> {
-    let room = vec![in alloc; 0; 300]?;
+    let room = vec![in alloc; 0; 600]?;
     Ok(MemSink::new(room, 5, bad_writes.to_vec(alloc)?))
 }
 

@@ -188,12 +188,12 @@ pub fn read_pieces(alloc: Global, delim: u8, pieces: &[Bytes]) -> Result<Vec<Lin
     reader.finish(alloc)
 }
 
-/// The lines of a trace that comes whole.
-pub fn read_trace(alloc: Global, delim: u8, bytes: &[u8]) -> Result<Vec<Line>, TraceError>
-    ensures lines { GivesLines result (trace_lines delim bytes.now) }
-    ensures few { IfOk result (λ lines. length lines.items ≤ max_dirs + max_entries) }
+/// The lines of a trace that comes whole, by their stanzas.
+pub fn read_trace(alloc: Global, delim: u8, bytes: &[u8]) -> Result<Stanzas, TraceError>
+    ensures lines { GivesUnless TraceError.Memory result (trace_lines delim bytes.now) }
+    ensures few { IfOk result (λ stanzas. length stanzas ≤ max_dirs + max_entries) }
 {
     let mut reader = TraceReader::new(alloc, delim)?;
     reader.feed(alloc, bytes)?;
-    reader.finish(alloc)
+    reader.finish_stanzas()
 }

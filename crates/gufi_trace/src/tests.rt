@@ -3,7 +3,7 @@ ghost use Rattle.gufi_base.specs.Delimiters.{may_delimit};
 
 use super::*;
 use gufi_base::{Bytes, Line, Path};
-use gufi_tree::{TreeFault, build};
+use gufi_tree::{TreeFault, build_stanzas};
 use std::alloc::Global;
 use std::test::Fail;
 
@@ -48,7 +48,8 @@ fn pieces_and_the_whole_read_the_same(rt: HostRuntime) -> Result<(), Fail> {
         summary(&read_pieces(alloc, b'|', &pieces)?),
         Some((4, 5, 4))
     );
-    assert_eq!(rt; summary(&read_trace(alloc, b'|', GOOD)?), Some((4, 5, 4)));
+    let lines = read_trace(alloc, b'|', GOOD)?.into_lines(alloc)?;
+    assert_eq!(rt; summary(&lines), Some((4, 5, 4)));
     Ok(())
 }
 
@@ -130,7 +131,7 @@ fn rewritten(
     let Ok(lines) = read_trace(alloc, b'|', trace) else {
         return Err(WriteTraceFault::Memory);
     };
-    let Ok(tree) = build(alloc, lines) else {
+    let Ok(tree) = build_stanzas(alloc, lines) else {
         return Err(WriteTraceFault::Memory);
     };
     let Ok(root) = Path::read(alloc, root) else {

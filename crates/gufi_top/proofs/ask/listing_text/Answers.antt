@@ -1,5 +1,4 @@
-use Rattle.std.proofs.Common.{◌∙◌, ap, sym}
-use Rattle.gufi_users.specs.Entries.{UserTables}
+use Rattle.std.proofs.Common.{◌∙◌, ap}
 use Rattle.gufi_list.specs.Listings.{ls_text}
 use Rattle.gufi_top.specs.Asks.{ls_ask}
 use Rattle.gufi_top.proofs.AskLemmas.{replies_found, replies_refused}

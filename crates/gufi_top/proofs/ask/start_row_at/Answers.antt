@@ -1,5 +1,4 @@
-use Rattle.std.proofs.Common.{◌<◌, ap, sym, length, subst}
-use Rattle.gufi_tree.specs.Tree.{dir_row}
+use Rattle.std.proofs.Common.{◌<◌, sym, length, subst}
 use Rattle.gufi_top.proofs.AskLemmas.{place_found, row_found}
 use Rattle.gufi_top.proofs.ask.start_row_at.Goals as goal
 

@@ -1,0 +1,14 @@
+//! Generated traces: the trace of a tree of so many directories, the same each time, to try an index on.
+//!
+//! Contracts see a trace as its bytes: `gen_text` says which.
+//! It stands on `gufi_base`; the call that prints a generated trace stands on it.
+#![tactic(auto)]
+
+mod line;
+mod made;
+mod trace;
+
+pub use trace::gen_trace;
+
+#[cfg(test)]
+mod tests;

@@ -1,0 +1,158 @@
+-- The sums of rows by a number, as one row more comes behind the others.
+use Rattle.std.proofs.Common.{◌≡◌, ℕ, ◌≤◌, true, false, not, cond, List, [], ◌∷◌, ◌++◌, length, eqb, map, refl, sym, ap, ◌∙◌, subst, inl, inr, arith, append-nil}
+use Rattle.std.specs.Prelude.{Some, None, unwrap_or, ◌||◌}
+use Rattle.std.specs.declared.cmp.Ordering.TheVariants.{Less}
+use Rattle.std.specs.Ordering.{nat_cmp, is_eq, ordering_reverse}
+use Rattle.std.specs.List.{list_any, filter, flat_map}
+use Rattle.std.specs.Map.{lookup}
+use Rattle.std.specs.BTreeMap.{insert_entry}
+use Rattle.std.proofs.lemmas.Bool.{cases_Bool, eqb-true, eq-eqb, false≢true}
+use Rattle.std.proofs.lemmas.Cmp.{nat_cmp_total}
+use Rattle.std.proofs.lemmas.List.{map-append}
+use Rattle.std.proofs.lemmas.List.Elements.{filter-append}
+use Rattle.std.proofs.lemmas.List.Filters.{length-filter_both}
+use Rattle.gufi_base.specs.declared.record.Row.{Row}
+use Rattle.gufi_base.specs.Words.{insert_by, sort_by, ascends, distinct, without}
+use Rattle.gufi_base.proofs.SortedOnce.{order_cases, ascends-tail, ascends-sort_by}
+use Rattle.gufi_sums.specs.declared.summary.Summary.{Summary}
+use Rattle.gufi_sums.specs.Total.{total, empty, add, rows_in, IsBounded}
+use Rattle.gufi_sums.specs.Laws.{total-add, total-counts}
+use Rattle.gufi_stats.specs.Groups.{group_sum, numbers, grouped, sum_in, group_lines}
+use Rattle.gufi_stats.specs.Reports.{group_line, by_key}
+use Rattle.gufi_stats.proofs.Numbers.{nat_cmp-eqb, eqb-sym, Once-distinct, sorted-behind, any-sorted, AreAbove, above-apart, without-above, insert-below, rest-above, above-both}
+
+abbrev pub entries : (ℕ → Summary) → List ℕ → List (ℕ × Summary)
+entries sums ns = map (λ n. (n, sums n)) ns
+
+-- the sums differ at one number alone
+abbrev Agree : (ℕ → Summary) → (ℕ → Summary) → ℕ → Type 0
+Agree sums new k = (n : ℕ) → eqb n k ≡ false → new n ≡ sums n
+
+entries-above : (sums new : ℕ → Summary) (k : ℕ) → Agree sums new k → (ns : List ℕ) → AreAbove k ns → entries new ns ≡ entries sums ns
+entries-above sums new k agree [] above = refl
+entries-above sums new k agree (n ∷ ns) above = λ i. (n, agree n (above-apart k n above.0) i) ∷ entries-above sums new k agree ns above.1 i
+
+-- a sum is put at its number, in place of the one that stands there
+put : (sums new : ℕ → Summary) (k : ℕ) → Agree sums new k → (ns : List ℕ) → ascends nat_cmp ns ≡ true
+    → entries new (insert_by nat_cmp k (without k ns)) ≡ insert_entry nat_cmp (entries sums ns) k (new k)
+put sums new k agree [] up = refl
+put sums new k agree (m ∷ ns) up =
+    let behind = rest-above m ns up in
+    let goal : Type 0 = entries new (insert_by nat_cmp k (without k (m ∷ ns))) ≡ insert_entry nat_cmp (entries sums (m ∷ ns)) k (new k) in
+    order_cases (nat_cmp k m) goal
+    (λ below.
+    let all = above-both k m ns below behind in
+    rw (without-above k (m ∷ ns) all, insert-below k (m ∷ ns) all, below) (ap (λ (l : List (ℕ × Summary)). (k, new k) ∷ l) (entries-above sums new k agree (m ∷ ns) all)))
+    (λ same.
+    let is : k ≡ m = eqb-true k m (sym (nat_cmp-eqb k m) ∙ ap is_eq same) in
+    let all : AreAbove k ns = subst (λ x. AreAbove x ns) (sym is) behind in
+    rw (eq-eqb m k (sym is), without-above k ns all, insert-below k ns all, same) (λ i. (is i, new k) ∷ entries-above sums new k agree ns all i))
+    (λ above.
+    let below : nat_cmp m k ≡ Less = nat_cmp_total.antisymm m k ∙ ap ordering_reverse above in
+    let off : eqb m k ≡ false = sym (nat_cmp-eqb m k) ∙ ap is_eq below in
+    rw (off, below, above) (λ i. (m, agree m off i) ∷ put sums new k agree ns (ascends-tail nat_cmp nat_cmp_total m ns up) i))
+
+total-nil : empty ≡ total []
+unfolding total
+total-nil = refl
+
+pub sum-behind : (key : Row → ℕ) (rows : List Row) (row : Row) (n : ℕ) → group_sum key (rows ++ row ∷ []) n ≡ cond (eqb (key row) n) (add (group_sum key rows n) row.rec.meta) (group_sum key rows n)
+sum-behind key rows row n =
+    ap total (filter-append (λ (r : Row). eqb (key r) n) rows (row ∷ []))
+    ∙ elim (cases_Bool (eqb (key row) n)) [
+      | inl same ↦ rw same (total-add (filter (λ (r : Row). eqb (key r) n) rows) row)
+      | inr other ↦ rw other (ap total (append-nil (filter (λ (r : Row). eqb (key r) n) rows)))
+    ]
+
+-- one row more, behind the others
+pub grouped-behind : (key : Row → ℕ) (rows : List Row) (row : Row)
+    → grouped key (rows ++ row ∷ []) ≡ insert_entry nat_cmp (grouped key rows) (key row) (add (group_sum key rows (key row)) row.rec.meta)
+unfolding grouped
+grouped-behind key rows row =
+    let k = key row in
+    let sums = group_sum key rows in
+    let new = group_sum key (rows ++ row ∷ []) in
+    let ns = numbers key rows in
+    let there : eqb k k ≡ true = eq-eqb k k refl in
+    let here : new k ≡ add (sums k) row.rec.meta = sum-behind key rows row k ∙ ap (λ b. cond b (add (sums k) row.rec.meta) (sums k)) there in
+    let agree : Agree sums new k = λ n off. sum-behind key rows row n ∙ ap (λ b. cond b (add (sums n) row.rec.meta) (sums n)) (eqb-sym k n ∙ off) in
+    ap (λ xs. entries new (sort_by nat_cmp (distinct xs))) (map-append key rows (row ∷ []))
+    ∙ ap (entries new) (sorted-behind (map key rows) k)
+    ∙ put sums new k agree ns (ascends-sort_by nat_cmp nat_cmp_total (distinct (map key rows)) (Once-distinct (map key rows)))
+    ∙ ap (λ s. insert_entry nat_cmp (entries sums ns) k s) here
+
+-- ---- the sum that stands at a number
+
+look : (sums : ℕ → Summary) (n : ℕ) (ns : List ℕ) → lookup (λ m. is_eq (nat_cmp n m)) (entries sums ns) ≡ cond (list_any (eqb n) ns) (Some (sums n)) None
+look sums n [] = refl
+look sums n (m ∷ ns) =
+    elim (cases_Bool (eqb n m)) [
+      | inl same ↦ rw (nat_cmp-eqb n m, same) (ap (λ k. Some (sums k)) (sym (eqb-true n m same)))
+      | inr other ↦ rw (nat_cmp-eqb n m, other) (look sums n ns)
+    ]
+
+none-there : (key : Row → ℕ) (rows : List Row) (n : ℕ) → list_any (eqb n) (map key rows) ≡ false → filter (λ row. eqb (key row) n) rows ≡ []
+none-there key [] n none = refl
+none-there key (row ∷ rows) n none =
+    elim (cases_Bool (eqb n (key row))) [
+      | inl same ↦ absurd (false≢true (sym none ∙ ap (λ b. b || list_any (eqb n) (map key rows)) same))
+      | inr other ↦ rw (eqb-sym (key row) n, other) (none-there key rows n (ap (λ b. b || list_any (eqb n) (map key rows)) (sym other) ∙ none))
+    ]
+
+pub sum_in-grouped : (key : Row → ℕ) (rows : List Row) (n : ℕ) → sum_in (grouped key rows) n ≡ group_sum key rows n
+unfolding grouped
+sum_in-grouped key rows n =
+    ap (λ found. unwrap_or found empty) (look (group_sum key rows) n (numbers key rows) ∙ ap (λ b. cond b (Some (group_sum key rows n)) None) (any-sorted n (map key rows)))
+    ∙ elim (cases_Bool (list_any (eqb n) (map key rows))) [
+      | inl there ↦ rw there refl
+      | inr none ↦ rw (none) (total-nil ∙ sym (ap total (none-there key rows n none)))
+    ]
+
+-- ---- the loop over the rows
+
+pub grouped-none : (key : Row → ℕ) → [] ≡ grouped key []
+unfolding grouped
+grouped-none key = refl
+
+pub bounded-none : (key : Row → ℕ) (n : ℕ) → IsBounded (group_sum key [] n)
+unfolding total
+bounded-none key n = omega arith
+
+pub sum-few : (key : Row → ℕ) (rows : List Row) (n : ℕ) → rows_in (group_sum key rows n) ≤ length rows
+sum-few key rows n =
+    let counts = total-counts (filter (λ (r : Row). eqb (key r) n) rows) in
+    let parts = length-filter_both (λ (r : Row). eqb (key r) n) (λ (r : Row). not (eqb (key r) n)) (λ r. refl) rows in
+    omega (arith, counts, parts)
+
+pub sum-there : (key : Row → ℕ) (rows : List Row) (groups : List (ℕ × Summary)) (n : ℕ) → groups ≡ grouped key rows → sum_in groups n ≡ group_sum key rows n
+sum-there key rows groups n is = ap (λ g. sum_in g n) is ∙ sum_in-grouped key rows n
+
+-- one row more is counted
+pub row-counted : (key : Row → ℕ) (rows : List Row) (row : Row) (n : ℕ) (groups new : List (ℕ × Summary)) → n ≡ key row → groups ≡ grouped key rows
+    → new ≡ insert_entry nat_cmp groups n (add (sum_in groups n) row.rec.meta) → new ≡ grouped key (rows ++ row ∷ [])
+row-counted key rows row n groups new number is put =
+    put
+    ∙ (λ i. insert_entry nat_cmp (is i) (number i) (add (sum_in (is i) (number i)) row.rec.meta))
+    ∙ ap (λ s. insert_entry nat_cmp (grouped key rows) (key row) (add s row.rec.meta)) (sum_in-grouped key rows (key row))
+    ∙ sym (grouped-behind key rows row)
+
+pub row-bounded : (key : Row → ℕ) (rows : List Row) (row : Row) (n : ℕ) (groups : List (ℕ × Summary)) → n ≡ key row → groups ≡ grouped key rows
+    → IsBounded (add (sum_in groups n) row.rec.meta) → ((m : ℕ) → IsBounded (group_sum key rows m)) → (m : ℕ) → IsBounded (group_sum key (rows ++ row ∷ []) m)
+row-bounded key rows row n groups number is added each m =
+    subst IsBounded (sym (sum-behind key rows row m))
+    (elim (cases_Bool (eqb (key row) m)) [
+      | inl same ↦
+          let here : sum_in groups n ≡ group_sum key rows m = sum-there key rows groups n is ∙ ap (group_sum key rows) (number ∙ eqb-true (key row) m same) in
+          rw same (subst (λ s. IsBounded (add s row.rec.meta)) here added)
+      | inr other ↦ rw other (each m)
+    ])
+
+-- ---- the lines
+
+lines-mapped : (word : List ℕ) (key : Row → ℕ) (rows : List Row) (ns : List ℕ) → group_lines word (entries (group_sum key rows) ns) ≡ flat_map (group_line word key rows) ns
+lines-mapped word key rows [] = refl
+lines-mapped word key rows (n ∷ ns) = ap (λ (t : List ℕ). group_line word key rows n ++ t) (lines-mapped word key rows ns)
+
+pub lines-grouped : (word : List ℕ) (key : Row → ℕ) (rows : List Row) (groups : List (ℕ × Summary)) → groups ≡ grouped key rows → group_lines word groups ≡ by_key word key rows
+unfolding grouped by_key
+lines-grouped word key rows groups is = ap (group_lines word) is ∙ lines-mapped word key rows (numbers key rows)

@@ -1,0 +1,40 @@
+-- The sums of rows by a number, as they are kept.
+use Rattle.std.specs.Prelude.{ℕ, ◌==◌, List, ◌++◌, map, filter, unwrap_or, codes, decimal}
+use Rattle.std.specs.List.{flat_map}
+use Rattle.std.specs.Map.{lookup}
+use Rattle.std.specs.Ordering.{nat_cmp, is_eq}
+use Rattle.gufi_base.specs.declared.record.Row.{Row}
+use Rattle.gufi_base.specs.Rows.{depth_below}
+use Rattle.gufi_base.specs.Words.{distinct, sort_by, line}
+use Rattle.gufi_sums.specs.declared.summary.Summary.{Summary}
+use Rattle.gufi_sums.specs.Counts.{counts_text}
+use Rattle.gufi_sums.specs.Total.{total, empty}
+use Rattle.gufi_stats.specs.declared.group.Key.{Key}
+use Rattle.gufi_stats.specs.declared.group.Key.TheVariants.{Level, Uid, Gid}
+
+abbrev pub number_of : Key → Row → ℕ
+number_of (Level above) row = depth_below above row
+number_of Uid row = row.rec.meta.uid
+number_of Gid row = row.rec.meta.gid
+
+-- the sum of the rows that have a number
+abbrev pub group_sum : (Row → ℕ) → List Row → ℕ → Summary
+group_sum key rows n = total (filter (λ row. key row == n) rows)
+
+-- the numbers that a row has, ascending
+abbrev pub numbers : (Row → ℕ) → List Row → List ℕ
+numbers key rows = sort_by nat_cmp (distinct (map key rows))
+
+-- each number that a row has, ascending, with its sum
+unfoldable pub grouped : (Row → ℕ) → List Row → List (ℕ × Summary)
+grouped key rows = map (λ n. (n, group_sum key rows n)) (numbers key rows)
+
+-- the sum that stands at a number
+abbrev pub sum_in : List (ℕ × Summary) → ℕ → Summary
+sum_in groups n = unwrap_or (lookup (λ m. is_eq (nat_cmp n m)) groups) empty
+
+abbrev pub sum_line : List ℕ → ℕ × Summary → List ℕ
+sum_line word group = line (word ++ codes " " ++ decimal group.0 ++ codes " " ++ counts_text group.1)
+
+abbrev pub group_lines : List ℕ → List (ℕ × Summary) → List ℕ
+group_lines word groups = flat_map (sum_line word) groups
