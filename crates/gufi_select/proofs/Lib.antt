@@ -6,3 +6,5 @@ pub mod RowLemmas
 pub mod LevelLemmas
 pub mod TokenLemmas
 pub mod ReadLemmas
+pub mod LineLemmas
+pub mod Sharing

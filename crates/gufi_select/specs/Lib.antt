@@ -9,3 +9,4 @@ pub mod TokenFaults
 pub mod Levels
 pub mod Reading
 pub mod States
+pub mod Lines

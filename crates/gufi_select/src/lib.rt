@@ -10,6 +10,7 @@ mod open_levels;
 mod operator;
 mod pattern;
 mod place;
+mod projection;
 mod reading;
 mod regexp;
 mod select;
@@ -20,5 +21,9 @@ mod token;
 mod word;
 
 pub use fault::{SelectError, SelectKind};
+pub use projection::select_text;
 pub use reading::read_select;
 pub use select::Select;
+
+#[cfg(test)]
+mod tests;
