@@ -1,4 +1,7 @@
-//! The SELECT profile.
+//! The SELECT profile: a query that chooses rows by a condition and prints columns of them.
+//!
+//! Contracts see a SELECT as its columns, its table, its REGEXP and a formula of conditions. It stands on rows, formulas
+//! and the `regex` crate; what prints queries stands on it.
 #![tactic(auto)]
 
 mod column;
