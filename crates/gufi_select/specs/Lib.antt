@@ -1,0 +1,12 @@
+pub mod Patterns
+pub mod Columns
+pub mod Parts
+pub mod Kept
+pub mod Names
+pub mod Tokens
+pub mod Faults
+pub mod TokenFaults
+pub mod Levels
+pub mod Reading
+pub mod States
+pub mod Lines

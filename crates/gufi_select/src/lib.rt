@@ -1,0 +1,32 @@
+//! The SELECT profile: a query that chooses rows by a condition and prints columns of them.
+//!
+//! Contracts see a SELECT as its columns, its table, its REGEXP and a formula of conditions. It stands on rows, formulas
+//! and the `regex` crate; what prints queries stands on it.
+#![tactic(auto)]
+
+mod column;
+mod condition;
+mod fault;
+mod formula;
+mod level;
+mod open_levels;
+mod operator;
+mod pattern;
+mod place;
+mod projection;
+mod reading;
+mod regexp;
+mod select;
+mod state;
+mod step;
+mod term;
+mod token;
+mod word;
+
+pub use fault::{SelectError, SelectKind};
+pub use projection::select_text;
+pub use reading::read_select;
+pub use select::Select;
+
+#[cfg(test)]
+mod tests;
