@@ -1,0 +1,4 @@
+mod Numbers
+mod PathSizes
+mod Appends
+mod Written
