@@ -2,3 +2,9 @@ mod Numbers
 mod PathSizes
 mod Appends
 mod Written
+mod Repeats
+mod Searches
+mod EntryLoop
+mod Fronts
+mod Shape
+mod DirectoryLoop

@@ -2,7 +2,7 @@
 //!
 //! Each reader is given the bytes from some place on, and gives what it read with the bytes behind it.
 
-ghost use Rattle.std.specs.Prelude.{◌≡◌, not};
+ghost use Rattle.std.specs.Prelude.{◌≡◌, IfOk};
 ghost use Rattle.std.specs.Int.{w8, w16, w32, w64};
 ghost use Rattle.std.specs.List.{list_all};
 ghost use Rattle.gufi_base.specs.Names.{is_path_byte};
@@ -79,7 +79,8 @@ fn i64_at(bytes: &[u8]) -> Result<(i64, &[u8]), Refused>
 /// What a record of this kind holds before its link.
 #[tactic(auto, unfolding(crate::specs::Fields::meta_at))]
 fn meta_at(bytes: &[u8], kind: Kind) -> Result<(Meta, &[u8]), Refused>
-    ensures { Gives (λ x. (x.0, x.1.now)) result (meta_at kind bytes.now) }
+    ensures gives { Gives (λ x. (x.0, x.1.now)) result (meta_at kind bytes.now) }
+    ensures kind { IfOk result (λ x. x.0.kind ≡ kind) }
 {
     let (inode, modes) = u64_at(bytes)?;
     let (mode, rest) = u16_at(modes)?;
@@ -137,7 +138,8 @@ fn link_at(bytes: &[u8]) -> Result<(&[u8], &[u8]), Refused>
 /// A record of this kind. One allocation where there is a link.
 #[tactic(auto, unfolding(crate::specs::Fields::record_at))]
 pub(crate) fn record_at(alloc: Global, bytes: &[u8], kind: Kind) -> Result<(Rec, &[u8]), Refused>
-    ensures { Gives (λ x. (x.0, x.1.now)) result (record_at kind bytes.now) }
+    ensures gives { Gives (λ x. (x.0, x.1.now)) result (record_at kind bytes.now) }
+    ensures kind { IfOk result (λ x. x.0.meta.kind ≡ kind) }
 {
     let (meta, rest) = meta_at(bytes, kind)?;
     let (link, rest) = link_at(rest)?;

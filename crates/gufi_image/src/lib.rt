@@ -4,10 +4,13 @@
 //! It stands on `gufi_snap` and what that stands on; the top call stands on it.
 #![tactic(auto)]
 
+mod directory;
+mod entry;
 mod fault;
 mod fields;
 mod name;
 mod put;
+mod reader;
 mod writer;
 
 pub use fault::{ImageError, ImageKind};
