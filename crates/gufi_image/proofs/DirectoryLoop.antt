@@ -40,8 +40,8 @@ directory_goes_on {Z} total shared seen pushed flags more one found count i byte
     let own : directory_at total (dirs_in shared) bytes ≡ Ok (flagged found, after) = subst (λ (s : List (Arc Stored Z)). directory_at total (dirs_in s) bytes ≡ Ok (flagged found, after)) same h in
     let step : one_directory total (front_of shared flags) bytes ≡ Ok (with_one (front_of shared flags) (flagged found), after) = rw own refl in
     let is : front_of pushed more ≡ with_one (front_of shared flags) (flagged found) =
-        ap (λ (dirs : List Directory). record { dirs = dirs; flags = more }) (dirs_push shared pushed one found.stored push value)
-        ∙ ap (λ (fs : List Flag). record { dirs = dirs_in shared ++ directory_of found.stored ∷ []; flags = fs }) flag
+    ap (λ (dirs : List Directory). record { dirs = dirs; flags = more }) (dirs_push shared pushed one found.stored push value)
+    ∙ ap (λ (fs : List Flag). record { dirs = dirs_in shared ++ directory_of found.stored ∷ []; flags = fs }) flag
     in
     subst (λ (f : Front). repeated (one_directory total) (count - (i + 1)) f after ≡ whole) (sym is)
     (goes_on (one_directory total) count i (front_of shared flags) (with_one (front_of shared flags) (flagged found)) bytes after whole lt step so_far)

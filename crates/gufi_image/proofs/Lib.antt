@@ -8,3 +8,4 @@ mod EntryLoop
 mod Fronts
 mod Shape
 mod DirectoryLoop
+mod Flags

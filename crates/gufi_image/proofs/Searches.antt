@@ -113,6 +113,6 @@ pub parent_there : {Z : Type 0} (before : List (Arc Stored Z)) (i : ℕ) (shared
 parent_there before i shared parent sorted lt is value =
     let here : slice_get before i ≡ Some shared = slice_get-get_or before i shared lt ∙ ap Some (sym is) in
     let there : slice_get (directories_of (values_of before)) i ≡ Some (directory_of parent) =
-        slice_get-map directory_of (values_of before) i ∙ ap (option_map directory_of) (slice_get-map arc_value before i ∙ ap (option_map arc_value) here) ∙ ap (λ (s : Stored). Some (directory_of s)) (sym value)
+    slice_get-map directory_of (values_of before) i ∙ ap (option_map directory_of) (slice_get-map arc_value before i ∙ ap (option_map arc_value) here) ∙ ap (λ (s : Stored). Some (directory_of s)) (sym value)
     in
     record { there = there; sorted = all_there (λ (dir : Directory). ascends entry_cmp dir.entries) (directories_of (values_of before)) i (directory_of parent) sorted there }

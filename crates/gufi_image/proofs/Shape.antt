@@ -18,7 +18,7 @@ use Rattle.gufi_tree.specs.declared.tree.Entry.{Entry}
 use Rattle.gufi_tree.specs.Tree.{Directory, dir_cmp, entry_cmp, entry_count, entry_row, own_rows, has_dir, has_entry_named, is_at, is_kinded, HasTreeShape}
 use Rattle.gufi_tree.proofs.Built.{path_cmp-total, dir_cmp-total, path_eq-Decides, parent_path-child, base_name-child}
 use Rattle.gufi_image.specs.Directories.{follows}
-use Rattle.gufi_image.specs.Placed.{AreEntries, IsBelow, IsChild, IsPlaced, IsNext, IsFront, AreDirectories}
+use Rattle.gufi_image.specs.Placed.{AreEntries, IsBelow, IsChild, IsPlaced, IsNext, IsFront, AreDirectories, IsWhole}
 use Rattle.gufi_image.proofs.Searches.{in_order, false_from}
 use Rattle.gufi_image.proofs.Fronts.{push_up, all_push, all_weaken, any_there, path_more, has_more, has_neither, not_true, one_path}
 
@@ -74,10 +74,10 @@ none_below dirs dir name up = has_neither dirs dir path (false_from (has_dir dir
       let last : get_or all (length dirs) x ≡ dir = get_or-append_seam dirs dir [] x in
       let same : path ≡ x.path = (path_eq-Decides path x.path).0 w.4 in
       let lower : path_cmp path dir.path ≡ Less =
-          ap (λ (p : Components). path_cmp p dir.path) same
-          ∙ sym (ap (λ (v : Directory). path_cmp v.path dir.path) there)
-          ∙ sym (ap (λ (v : Directory). path_cmp (get_or all w.0 x).path v.path) last)
-          ∙ less
+      ap (λ (p : Components). path_cmp p dir.path) same
+      ∙ sym (ap (λ (v : Directory). path_cmp v.path dir.path) there)
+      ∙ sym (ap (λ (v : Directory). path_cmp (get_or all w.0 x).path v.path) last)
+      ∙ less
       in
       let clash : Greater ≡ Less = sym (path_more dir.path name) ∙ lower in
       absurd cc
@@ -98,8 +98,8 @@ front_push : (total : ℕ) (dirs : List Directory) (dir : Directory) → IsFront
 front_push total dirs dir h n = record {
   order = up;
   parents = all_push (λ (d : Directory). has_dir more (parent_path d.path)) dirs dir
-  (all_weaken (λ (d : Directory). has_dir dirs (parent_path d.path)) (λ (d : Directory). has_dir more (parent_path d.path)) dirs (λ i x e q. has_more dirs dir (parent_path x.path) q) h.parents)
-  (placed_parent dirs dir n.placed);
+      (all_weaken (λ (d : Directory). has_dir dirs (parent_path d.path)) (λ (d : Directory). has_dir more (parent_path d.path)) dirs (λ i x e q. has_more dirs dir (parent_path x.path) q) h.parents)
+      (placed_parent dirs dir n.placed);
   entries = all_push (λ (d : Directory). ascends entry_cmp d.entries) dirs dir h.entries n.entries.order;
   kinds = all_push is_kinded dirs dir h.kinds (and_from (is_dir dir.rec.meta.kind) (list_all (λ (e : Entry). not (is_dir e.rec.meta.kind)) dir.entries) n.kind n.entries.kinds);
   apart = all_push (apart_in more) dirs dir (all_weaken (apart_in dirs) (apart_in more) dirs old_apart h.apart) (all_each (λ (entry : Entry). not (has_dir more (dir.path ++ entry.name ∷ []))) dir.entries (λ entry. ap not (none_below dirs dir entry.name up)));
@@ -146,3 +146,10 @@ pub rows_count : (dirs : List Directory) → length (flat_map own_rows dirs) ≡
 rows_count [] = refl
 rows_count (d ∷ ds) =
     omega (arith, rows_count ds, length-append (own_rows d) (flat_map own_rows ds), length-map d.entries (entry_row d.path), sum_by-cons (λ (x : Directory). length x.entries) d ds)
+
+pub whole_from : (number total : ℕ) (dirs : List Directory) → AreDirectories number total dirs → 0 < number → number ≤ 262144 → total ≤ 1048576 → IsWhole dirs
+whole_from number total dirs h some few entries = record {
+  shape = shape_from dirs h.front (omega (arith, h.count, some));
+  dirs_fit = omega (arith, h.count, few);
+  rows_fit = omega (arith, rows_count dirs, h.count, h.few, few, entries);
+}

@@ -1,11 +1,11 @@
 -- How the parts of an image lie to those before them.
-use Rattle.std.specs.Prelude.{◌≡◌, ℕ, ◌+◌, ◌≤◌, Bool, true, false, not, ◌||◌, List, [], ◌∷◌, ◌++◌, length, slice_get, Some, IsTrue}
-use Rattle.std.specs.List.{list_all}
+use Rattle.std.specs.Prelude.{◌≡◌, ℕ, ◌+◌, ◌≤◌, ◌<◌, ◌^◌, Bool, true, false, not, ◌||◌, List, [], ◌∷◌, ◌++◌, length, slice_get, Some, IsTrue}
+use Rattle.std.specs.List.{list_all, flat_map}
 use Rattle.gufi_base.specs.Words.{is_empty, ascends}
 use Rattle.gufi_base.specs.Kinds.{is_dir}
 use Rattle.gufi_base.specs.Paths.{Components, parent_path}
 use Rattle.gufi_tree.specs.declared.tree.Entry.{Entry}
-use Rattle.gufi_tree.specs.Tree.{Directory, dir_cmp, entry_cmp, entry_count, has_dir, has_entry_named, is_kinded}
+use Rattle.gufi_tree.specs.Tree.{Directory, dir_cmp, entry_cmp, entry_count, has_dir, has_entry_named, is_kinded, own_rows, HasTreeShape}
 use Rattle.gufi_image.specs.Directories.{follows}
 
 -- entries in name order, of which none is a directory
@@ -53,3 +53,9 @@ pub record AreDirectories (number total : ℕ) (dirs : List Directory) : Type 0 
   pub front : IsFront dirs
   pub count : length dirs ≡ number
   pub few : entry_count dirs ≤ total
+
+-- directories that are a whole tree, with fewer rows than a tree may have
+pub record IsWhole (dirs : List Directory) : Type 0 where
+  pub shape : HasTreeShape dirs
+  pub dirs_fit : length dirs < 2 ^ 32
+  pub rows_fit : length (flat_map own_rows dirs) < 2 ^ 32

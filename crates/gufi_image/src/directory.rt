@@ -37,11 +37,12 @@ pub(crate) struct Found {
     pub flag: Flag,
 }
 
-/// Directories with their flags.
+/// Directories with their flags, and how many entries they have.
 #[derive(Drop)]
 pub(crate) struct Directories {
     pub stored: Vec<Arc<Stored, Global>>,
     pub flags: Vec<Flag>,
+    pub entries: u32,
 }
 
 /// The root's empty name.
@@ -225,6 +226,7 @@ pub(crate) fn directories_at(
     total: u32,
 ) -> Result<(Directories, &[u8]), Refused>
     ensures gives { Gives (λ x. (front x.0, x.1.now)) result (directories_at count total bytes.now) }
+    ensures entries { IfOk result (λ x. x.0.entries ≡ entry_count (directories_of (values_of x.0.stored.items))) }
     ensures directories { IfOk result (λ x. AreDirectories count total (directories_of (values_of x.0.stored.items))) }
 {
     let few = (count as usize).min(bytes.len() / LEAST_DIRECTORY);
@@ -239,5 +241,13 @@ pub(crate) fn directories_at(
         stored.push(Arc::new(alloc, found.stored)?)?;
         rest = after;
     }
-    Ok((Directories { stored, flags }, rest))
+    let entries = so_far;
+    Ok((
+        Directories {
+            stored,
+            flags,
+            entries,
+        },
+        rest,
+    ))
 }

@@ -1,5 +1,6 @@
 //! What may be wrong with an image.
 
+use gufi_base::Memory;
 use std::alloc::{AllocError, AllocFailed};
 use std::fmt;
 use thiserror::Error;
@@ -89,6 +90,17 @@ impl<T: Drop> From<AllocFailed<T>> for Refused {
     ghost from_gives = { λ _ e. e ≡ Memory };
 
     fn from(_: AllocFailed<T>) -> Refused {
+        Refused::Memory
+    }
+}
+
+impl From<Memory> for Refused {
+    ghost use Rattle.std.specs.Prelude.{◌≡◌};
+    ghost use Rattle.gufi_image.specs.declared.fault.Refused.TheVariants.{Memory};
+
+    ghost from_gives = { λ _ e. e ≡ Memory };
+
+    fn from(_: Memory) -> Refused {
         Refused::Memory
     }
 }

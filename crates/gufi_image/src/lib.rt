@@ -14,6 +14,7 @@ mod reader;
 mod writer;
 
 pub use fault::{ImageError, ImageKind};
+pub use reader::read_image;
 pub use writer::write_image;
 
 #[cfg(test)]

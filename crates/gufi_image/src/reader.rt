@@ -1,17 +1,17 @@
 //! A snapshot from the bytes of its image.
 
-ghost use Rattle.std.specs.Prelude.{◌≡◌, ◌<◌, ◌≤◌, ◌^◌, length, IfOk, MatchResult};
+ghost use Rattle.std.specs.Prelude.{◌≡◌, ◌<◌, ◌≤◌, length, IfOk};
 ghost use Rattle.std.specs.Int.{w16};
 ghost use Rattle.std.specs.Bool.{nat_eq};
 ghost use Rattle.std.specs.List.{starts_with};
-ghost use Rattle.gufi_base.specs.Limits.{max_dirs, max_entries};
+ghost use Rattle.gufi_base.specs.Limits.{max_dirs, max_entries, max_image};
 ghost use Rattle.gufi_base.specs.Words.{GivesUnless};
 ghost use Rattle.gufi_tree.specs.Stored.{directories_of, values_of};
 ghost use Rattle.gufi_roll.specs.CanRoll.{roll_flags};
 ghost use Rattle.gufi_image.specs.Bytes.{magic};
 ghost use Rattle.gufi_image.specs.Fields.{Gives};
-ghost use Rattle.gufi_image.specs.Reading.{version_at, counts_at, head_at, all_at, snapshot_at, image_means, fault_in, wrong_flag};
-ghost use Rattle.gufi_image.specs.Placed.{AreDirectories};
+ghost use Rattle.gufi_image.specs.Reading.{version_at, counts_at, head_at, all_at, snapshot_at, image_means, differs, wrong_flag};
+ghost use Rattle.gufi_image.specs.Placed.{IsWhole};
 ghost use Rattle.gufi_image.specs.Parts.{counts, flags_of};
 
 use crate::directory::{Directories, Flag, directories_at};
@@ -98,4 +98,84 @@ fn head_at(bytes: &[u8]) -> Result<(Head, &[u8]), Refused>
     }
     let (_version, rest) = version_at(&bytes[6..])?;
     counts_at(rest)
+}
+
+/// All directories of an image, before their flags are looked at.
+#[tactic(auto, unfolding(crate::specs::Reading::all_at))]
+fn all_at(alloc: Global, bytes: &[u8]) -> Result<Parts, Refused>
+    ensures gives { Gives flags_of result (all_at bytes.now) }
+    ensures whole { IfOk result (λ parts. IsWhole (directories_of (values_of parts.directories.stored.items))) }
+{
+    let (head, rest) = head_at(bytes)?;
+    let (directories, rest) = directories_at(alloc, rest, head.dirs, head.entries)?;
+    if directories.entries != head.entries {
+        return Err(Refused::Flaw(Flaw {
+            left: head.left,
+            kind: ImageKind::Number,
+        }));
+    }
+    if !rest.is_empty() {
+        return Err(flaw(rest, ImageKind::Trailing));
+    }
+    let limit = head.limit;
+    Ok(Parts { limit, directories })
+}
+
+fn differs(flag: bool, rolled: bool) -> bool
+    ensures { result ≡ differs flag rolled }
+{
+    flag != rolled
+}
+
+/// Whether the flags are those of the rule of roll-up.
+fn flags_hold(snap: &Snapshot, flags: &[Flag]) -> Result<(), Refused>
+    ensures { Gives (λ u. u) result (wrong_flag (roll_flags snap.now.tree snap.now.limit) flags.now) }
+{
+    for number in 0..snap.tree().dirs() {
+        let place = number as usize;
+        if place >= flags.len() {
+            return Ok(());
+        }
+        let flag = flags[place];
+        if differs(flag.set, snap.rolled(DirId(number))) {
+            let left = flag.left;
+            let kind = ImageKind::Roll;
+            return Err(Refused::Flaw(Flaw { left, kind }));
+        }
+    }
+    Ok(())
+}
+
+/// The snapshot of the image.
+#[tactic(auto, unfolding(crate::specs::Reading::snapshot_at))]
+fn snapshot_at(alloc: Global, bytes: &[u8]) -> Result<Snapshot, Refused>
+    ensures { Gives (λ snap. snap) result (snapshot_at bytes.now) }
+{
+    let parts = all_at(alloc, bytes)?;
+    let limit = parts.limit;
+    let directories = parts.directories;
+    let flags = directories.flags;
+    let tree = tree_of_directories(alloc, directories.stored)?;
+    let snap = Snapshot::build_uncounted(alloc, tree, limit)?;
+    flags_hold(&snap, flags.as_slice())?;
+    Ok(snap)
+}
+
+/// The snapshot whose image the bytes are, or the first fault from the left, with its offset.
+///
+/// One pass over the bytes. No more memory is taken than the snapshot's and five bytes for each directory.
+#[tactic(auto, unfolding(crate::specs::Reading::image_means))]
+pub fn read_image(alloc: Global, bytes: &[u8]) -> Result<Snapshot, ImageError>
+    requires { length bytes.now ≤ max_image }
+    ensures { GivesUnless ImageError.Memory result (image_means bytes.now) }
+{
+    match snapshot_at(alloc, bytes) {
+        Ok(snap) => Ok(snap),
+        Err(Refused::Memory) => Err(ImageError::Memory),
+        Err(Refused::Flaw(flaw)) => {
+            let offset = bytes.len().saturating_sub(flaw.left) as u32;
+            let kind = flaw.kind;
+            Err(ImageError::Fault { offset, kind })
+        }
+    }
 }

@@ -23,8 +23,8 @@ loop-preserved c =
     let value = c.in_ok-new.ensures.ok in
     record {
       so_far = directory_goes_on c.args.total shared c.deref.result.now pushed c.loop.flags.items c.push.new.self.items one found c.args.count c.loop.counter c.loop.rest.now c.in_ok-found.after.now
-      (repeated (one_directory c.args.total) c.args.count no_front c.args.bytes.now)
-      c.deref.ensures.value push value c.in_ok-push.ensures.items c.loop-test.true c.in_ok-found.ensures.gives c.loop.invariant.so_far;
+          (repeated (one_directory c.args.total) c.args.count no_front c.args.bytes.now)
+          c.deref.ensures.value push value c.in_ok-push.ensures.items c.loop-test.true c.in_ok-found.ensures.gives c.loop.invariant.so_far;
       count = counted_more shared pushed one found.stored c.loop.so_far c.entries_in.result push value c.loop.invariant.count c.entries_in.ensures;
       directories = one_more c.args.total c.loop.counter shared c.deref.result.now pushed one found.stored c.deref.ensures.value push value c.loop.invariant.directories c.in_ok-found.ensures.next;
     }

@@ -20,7 +20,7 @@ loop-preserved c =
     let before = c.loop.entries.items in
     record {
       so_far = entry_goes_on path before c.deref.result.now c.push.new.self.items c.args.count c.loop.counter c.loop.rest.now c.in_ok-entry.after.now c.in_ok-entry.entry (repeated (one_entry path) c.args.count [] c.args.bytes.now)
-      c.deref.ensures.value c.loop-test.true c.in_ok-entry.ensures.gives c.in_ok-push.ensures.items c.loop.invariant.so_far;
+          c.deref.ensures.value c.loop-test.true c.in_ok-entry.ensures.gives c.in_ok-push.ensures.items c.loop.invariant.so_far;
       entries = one_more before c.deref.result.now c.push.new.self.items c.in_ok-entry.entry c.deref.ensures.value c.in_ok-push.ensures.items c.loop.invariant.entries c.in_ok-entry.ensures.order c.in_ok-entry.ensures.kind;
     }
 
