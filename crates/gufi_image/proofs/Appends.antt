@@ -1,5 +1,5 @@
 -- What several calls append, one after the other.
-use Rattle.std.proofs.Common.{◌≡◌, ℕ, List, ◌++◌, Result, Ok, Err, refl, sym, ap, ◌∙◌, append_assoc}
+use Rattle.std.proofs.Common.{◌≡◌, ℕ, List, ◌++◌, Result, Ok, Err, ap, ◌∙◌, append_assoc}
 use Rattle.std.specs.Prelude.{OnOk}
 
 pub append_then : {E : Type 0} (r : Result (Unit {0}) E) (old mid new z y : List ℕ) → mid ≡ old ++ z → OnOk r (new ≡ mid ++ y) → OnOk r (new ≡ old ++ (z ++ y))

@@ -1,9 +1,8 @@
 -- Directories read one after the other.
-use Rattle.std.proofs.Common.{◌≡◌, ℕ, ◌+◌, ◌-◌, ◌<◌, List, [], ◌∷◌, ◌++◌, map, length, Result, Ok, refl, sym, ap, subst, ◌∙◌, arith}
+use Rattle.std.proofs.Common.{◌≡◌, ℕ, ◌+◌, ◌-◌, ◌<◌, List, [], ◌∷◌, ◌++◌, length, Result, Ok, refl, sym, ap, subst, ◌∙◌, arith}
 use Rattle.std.specs.declared.sync.Arc.{Arc}
 use Rattle.std.specs.Arc.{arc_value}
 use Rattle.std.proofs.lemmas.List.{map-append}
-use Rattle.gufi_base.specs.Words.{◌>>=◌}
 use Rattle.gufi_tree.specs.declared.tree.Stored.{Stored}
 use Rattle.gufi_tree.specs.Stored.{directory_of, directories_of, values_of}
 use Rattle.gufi_tree.specs.Tree.{Directory, entry_count}

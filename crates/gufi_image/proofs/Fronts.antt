@@ -1,23 +1,19 @@
 -- Lists that grow by one.
-use Rattle.std.proofs.Common.{◌≡◌, ℕ, zero, suc, ◌+◌, ◌-◌, ◌<◌, ◌≤◌, Bool, true, false, not, ◌&&◌, ◌||◌, cond, List, [], ◌∷◌, ◌++◌, length, get_or, Some, None, refl, sym, ap, subst, ◌∙◌, arith, length-append, inl, inr, ◌⊎◌, ⊎_elim}
-use Rattle.std.specs.Prelude.{bytes_eq, slice_get}
+use Rattle.std.proofs.Common.{◌≡◌, ℕ, zero, suc, ◌<◌, Bool, true, false, not, ◌||◌, cond, List, [], ◌∷◌, ◌++◌, get_or, Some, refl, sym, ap, ◌∙◌, inl, inr, ◌⊎◌}
+use Rattle.std.specs.Prelude.{slice_get}
 use Rattle.std.specs.declared.cmp.Ordering.TheVariants.{Less, Equal, Greater}
 use Rattle.std.specs.declared.cmp.Ordering.{Ordering}
-use Rattle.std.specs.Ordering.{nat_cmp, is_lt, ordering_then}
-use Rattle.std.specs.Cmp.Lexicographic.{slice_cmp}
+use Rattle.std.specs.Ordering.{is_lt, ordering_then}
 use Rattle.std.specs.List.{list_any, list_all}
-use Rattle.std.proofs.lemmas.Bool.{and_parts, and_from, cases_lt, cases_order}
+use Rattle.std.proofs.lemmas.Bool.{and_parts, and_from, cases_order}
 use Rattle.std.proofs.lemmas.Cmp.{nat_list_cmp_total, tied_itself}
-use Rattle.std.proofs.lemmas.List.Folds.{list_any-append, Any-from_list_any}
+use Rattle.std.proofs.lemmas.List.Folds.{list_any-append}
 use Rattle.std.proofs.lemmas.Option.{slice_get_within, get_or_from_slice_get}
-use Rattle.std.proofs.lemmas.Slice.Eq.{bytes_eq-Decides}
 use Rattle.gufi_base.specs.Words.{ascends, last_of}
-use Rattle.gufi_base.specs.Paths.{Components, path_cmp, path_eq, parent_path, base_name}
-use Rattle.gufi_tree.specs.declared.tree.Entry.{Entry}
-use Rattle.gufi_tree.specs.Tree.{Directory, dir_cmp, entry_cmp, has_dir, is_at, is_kinded, has_entry_named}
-use Rattle.gufi_tree.proofs.Built.{path_cmp-total, dir_cmp-total, path_eq-Decides, parent_path-child, base_name-child}
-use Rattle.gufi_image.specs.Directories.{follows}
-use Rattle.gufi_image.proofs.Searches.{in_order, false_from, some_same}
+use Rattle.gufi_base.specs.Paths.{Components, path_cmp, path_eq}
+use Rattle.gufi_tree.specs.Tree.{Directory, dir_cmp, has_dir, is_at}
+use Rattle.gufi_tree.proofs.Built.{path_cmp-total, dir_cmp-total}
+use Rattle.gufi_image.proofs.Searches.{in_order, some_same}
 
 cond_parts : (b c : Bool) → cond b c false ≡ true → (b ≡ true) × (c ≡ true)
 cond_parts true c e = (refl, e)

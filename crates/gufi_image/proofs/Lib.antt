@@ -9,3 +9,4 @@ mod Fronts
 mod Shape
 mod DirectoryLoop
 mod Flags
+mod Worked

@@ -1,9 +1,8 @@
 -- Directories read one after the other have a tree's shape.
-use Rattle.std.proofs.Common.{◌≡◌, ℕ, zero, suc, ◌+◌, ◌<◌, ◌≤◌, ◌^◌, Bool, true, false, not, ◌&&◌, ◌||◌, List, [], ◌∷◌, ◌++◌, length, get_or, Some, refl, sym, ap, subst, ◌∙◌, arith, length-append}
+use Rattle.std.proofs.Common.{◌≡◌, ℕ, ◌+◌, ◌<◌, ◌≤◌, Bool, true, false, not, ◌||◌, List, [], ◌∷◌, ◌++◌, length, get_or, Some, refl, sym, ap, subst, ◌∙◌, arith, length-append}
 use Rattle.std.specs.Prelude.{bytes_eq, slice_get}
 use Rattle.std.specs.declared.cmp.Ordering.TheVariants.{Less, Equal, Greater}
-use Rattle.std.specs.declared.cmp.Ordering.{Ordering}
-use Rattle.std.specs.List.{list_any, list_all, flat_map}
+use Rattle.std.specs.List.{list_all, flat_map}
 use Rattle.std.proofs.lemmas.Bool.{and_from}
 use Rattle.std.proofs.lemmas.Cmp.{tied_itself}
 use Rattle.std.proofs.lemmas.List.Folds.{Any-from_list_any}
@@ -17,8 +16,7 @@ use Rattle.gufi_base.specs.Paths.{Components, path_cmp, path_eq, parent_path, ba
 use Rattle.gufi_tree.specs.declared.tree.Entry.{Entry}
 use Rattle.gufi_tree.specs.Tree.{Directory, dir_cmp, entry_cmp, entry_count, entry_row, own_rows, has_dir, has_entry_named, is_at, is_kinded, HasTreeShape}
 use Rattle.gufi_tree.proofs.Built.{path_cmp-total, dir_cmp-total, path_eq-Decides, parent_path-child, base_name-child}
-use Rattle.gufi_image.specs.Directories.{follows}
-use Rattle.gufi_image.specs.Placed.{AreEntries, IsBelow, IsChild, IsPlaced, IsNext, IsFront, AreDirectories, IsWhole}
+use Rattle.gufi_image.specs.Placed.{IsPlaced, IsNext, IsFront, AreDirectories, IsWhole}
 use Rattle.gufi_image.proofs.Searches.{in_order, false_from}
 use Rattle.gufi_image.proofs.Fronts.{push_up, all_push, all_weaken, any_there, path_more, has_more, has_neither, not_true, one_path}
 

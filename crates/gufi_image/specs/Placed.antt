@@ -1,5 +1,5 @@
 -- How the parts of an image lie to those before them.
-use Rattle.std.specs.Prelude.{◌≡◌, ℕ, ◌+◌, ◌≤◌, ◌<◌, ◌^◌, Bool, true, false, not, ◌||◌, List, [], ◌∷◌, ◌++◌, length, slice_get, Some, IsTrue}
+use Rattle.std.specs.Prelude.{◌≡◌, ℕ, ◌+◌, ◌≤◌, ◌<◌, ◌^◌, true, false, not, ◌||◌, List, [], ◌∷◌, ◌++◌, length, slice_get, Some, IsTrue}
 use Rattle.std.specs.List.{list_all, flat_map}
 use Rattle.gufi_base.specs.Words.{is_empty, ascends}
 use Rattle.gufi_base.specs.Kinds.{is_dir}

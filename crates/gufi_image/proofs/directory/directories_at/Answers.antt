@@ -1,4 +1,3 @@
-use Rattle.std.proofs.Common.{ap, sym, ◌∙◌, length, arith, rules}
 use Rattle.std.proofs.lemmas.Result.{err_from_is_err_and}
 use Rattle.gufi_image.specs.Directories.{one_directory, no_front, directories_at}
 use Rattle.gufi_image.specs.Repeated.{repeated}

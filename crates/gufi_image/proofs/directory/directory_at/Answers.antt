@@ -1,4 +1,4 @@
-use Rattle.std.proofs.Common.{◌≡◌, ◌+◌, ap, sym, ◌∙◌, arith, subst, length, List, ℕ}
+use Rattle.std.proofs.Common.{ap, arith}
 use Rattle.gufi_base.specs.declared.record.Kind.{Kind}
 use Rattle.gufi_base.specs.Kinds.{is_dir}
 use Rattle.gufi_image.proofs.EntryLoop.{entries_count}

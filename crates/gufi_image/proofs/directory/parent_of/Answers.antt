@@ -1,4 +1,4 @@
-use Rattle.std.proofs.Common.{ap, ◌∙◌, sym, rules, arith}
+use Rattle.std.proofs.Common.{arith}
 use Rattle.gufi_image.proofs.Searches.{parent_there}
 use Rattle.gufi_image.proofs.directory.parent_of.Goals as goal
 

@@ -1,4 +1,4 @@
-use Rattle.std.proofs.Common.{◌≡◌, ap, sym, ◌∙◌, arith, false, length}
+use Rattle.std.proofs.Common.{ap, sym, ◌∙◌, arith, false, length}
 use Rattle.gufi_roll.specs.CanRoll.{roll_flags}
 use Rattle.gufi_image.specs.Reading.{wrong_flag}
 use Rattle.gufi_image.proofs.Flags.{flags_end, flag_differs, flag_holds}

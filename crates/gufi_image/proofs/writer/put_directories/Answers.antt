@@ -1,4 +1,4 @@
-use Rattle.std.proofs.Common.{◌≡◌, ap, ◌∙◌, sym, ◌++◌, take, List, ℕ, ◌+◌, ◌<◌, arith, append_assoc, subst, get_or, length}
+use Rattle.std.proofs.Common.{◌≡◌, ap, ◌∙◌, sym, ◌++◌, take, List, ℕ, ◌+◌, arith, append_assoc, subst}
 use Rattle.gufi_tree.specs.Tree.{Directory}
 use Rattle.gufi_tree.specs.Places.{path_at}
 use Rattle.gufi_roll.specs.CanRoll.{can_roll}

@@ -1,6 +1,5 @@
-use Rattle.std.proofs.Common.{◌≡◌, ◌<◌, ◌≤◌, ◌++◌, ap, ◌∙◌, sym, arith, subst, List, ℕ, length, []}
+use Rattle.std.proofs.Common.{◌≡◌, ◌<◌, ◌≤◌, ◌++◌, ◌∙◌, sym, subst, List, ℕ, length}
 use Rattle.std.specs.Prelude.{OnOk}
-use Rattle.gufi_base.specs.Words.{last_of}
 use Rattle.gufi_image.specs.Bytes.{name_image}
 use Rattle.gufi_image.proofs.Written.{no_last_name, some_last_name, short_last_name}
 use Rattle.gufi_image.proofs.writer.put_last_name.Goals as goal

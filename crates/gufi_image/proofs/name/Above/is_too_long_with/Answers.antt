@@ -1,4 +1,4 @@
-use Rattle.std.proofs.Common.{◌∙◌, ◌++◌, ◌∷◌, [], ap, List, ℕ}
+use Rattle.std.proofs.Common.{◌∙◌, ◌++◌, ◌∷◌, [], ap}
 use Rattle.gufi_base.specs.Paths.{Components, is_too_long}
 use Rattle.gufi_image.proofs.PathSizes.{too_long_with}
 use Rattle.gufi_image.proofs.name.Above.is_too_long_with.Goals as goal
