@@ -9,6 +9,7 @@ mod gather;
 mod likely;
 mod lines;
 mod link;
+mod ordered;
 mod place;
 mod resolve;
 mod shared;
@@ -19,6 +20,7 @@ mod tree;
 
 pub use fault::TreeFault;
 pub use lines::{build, build_stanzas};
+pub use ordered::tree_of_directories;
 pub use resolve::Resolved;
 pub use stanzas::Stanzas;
 pub use tree::{DirId, Entry, Stored, Tree};

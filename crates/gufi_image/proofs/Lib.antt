@@ -1,0 +1,12 @@
+mod Numbers
+mod PathSizes
+mod Appends
+mod Written
+mod Repeats
+mod Searches
+mod EntryLoop
+mod Fronts
+mod Shape
+mod DirectoryLoop
+mod Flags
+mod Worked

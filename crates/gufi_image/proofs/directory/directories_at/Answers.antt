@@ -1,0 +1,33 @@
+use Rattle.std.proofs.lemmas.Result.{err_from_is_err_and}
+use Rattle.gufi_image.specs.Directories.{one_directory, no_front, directories_at}
+use Rattle.gufi_image.specs.Repeated.{repeated}
+use Rattle.gufi_image.proofs.Repeats.{is_done}
+use Rattle.gufi_image.proofs.DirectoryLoop.{front_of, directory_goes_on, directory_stops, counted_more, one_more}
+use Rattle.gufi_image.proofs.directory.directories_at.Goals as goal
+
+pub returns-in_err-found-clause-gives : goal.returns-in_err-found-clause-gives
+unfolding directories_at
+returns-in_err-found-clause-gives c =
+    let p = err_from_is_err_and c.from_residual-in_err-found.result c.from_residual-in_err-found.ensures.1 in
+    rw (p.1, p.2) (directory_stops c.args.total c.in_err-found.field-0.0 c.loop.stored.items c.deref.result.now c.loop.flags.items c.args.count c.loop.counter c.loop.rest.now (repeated (one_directory c.args.total) c.args.count no_front c.args.bytes.now)
+    c.deref.ensures.value c.loop-test.true c.in_err-found.ensures.gives c.loop.invariant.so_far)
+
+pub loop-preserved : goal.loop-preserved
+loop-preserved c =
+    let found = c.in_ok-found.found in
+    let shared = c.loop.stored.items in
+    let pushed = c.push-in-loop.new.self.items in
+    let one = c.in_ok-new.field-0 in
+    let push = c.in_ok-push-2.ensures.items in
+    let value = c.in_ok-new.ensures.ok in
+    record {
+      so_far = directory_goes_on c.args.total shared c.deref.result.now pushed c.loop.flags.items c.push.new.self.items one found c.args.count c.loop.counter c.loop.rest.now c.in_ok-found.after.now
+          (repeated (one_directory c.args.total) c.args.count no_front c.args.bytes.now)
+          c.deref.ensures.value push value c.in_ok-push.ensures.items c.loop-test.true c.in_ok-found.ensures.gives c.loop.invariant.so_far;
+      count = counted_more shared pushed one found.stored c.loop.so_far c.entries_in.result push value c.loop.invariant.count c.entries_in.ensures;
+      directories = one_more c.args.total c.loop.counter shared c.deref.result.now pushed one found.stored c.deref.ensures.value push value c.loop.invariant.directories c.in_ok-found.ensures.next;
+    }
+
+pub returns-clause-gives : goal.returns-clause-gives
+unfolding directories_at
+returns-clause-gives c = is_done (one_directory c.args.total) c.args.count c.loop.counter (front_of c.loop.stored.items c.loop.flags.items) c.loop.rest.now (repeated (one_directory c.args.total) c.args.count no_front c.args.bytes.now) c.loop-test.false c.loop.invariant.so_far

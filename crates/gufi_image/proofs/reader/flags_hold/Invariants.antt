@@ -1,0 +1,7 @@
+use Rattle.std.proofs.Common.{◌≡◌, drop}
+use Rattle.gufi_roll.specs.CanRoll.{roll_flags}
+use Rattle.gufi_image.specs.Reading.{wrong_flag}
+use Rattle.gufi_image.proofs.reader.flags_hold.Given as goal
+
+abbrev pub invariant-loop-number : goal.invariant-loop-number
+invariant-loop-number l = wrong_flag (drop l.number (roll_flags l.snap.tree l.snap.limit)) (drop l.number l.flags) ≡ wrong_flag (roll_flags l.snap.tree l.snap.limit) l.flags

@@ -1,0 +1,14 @@
+pub mod Kinds
+pub mod Bytes
+pub mod Fields
+pub mod Names
+pub mod Measured
+pub mod Image
+pub mod Repeated
+pub mod Entries
+pub mod Directories
+pub mod Reading
+pub mod Sorted
+pub mod Views
+pub mod Placed
+pub mod Parts

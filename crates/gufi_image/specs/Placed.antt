@@ -1,0 +1,61 @@
+-- How the parts of an image lie to those before them.
+use Rattle.std.specs.Prelude.{◌≡◌, ℕ, ◌+◌, ◌≤◌, ◌<◌, ◌^◌, true, false, not, ◌||◌, List, [], ◌∷◌, ◌++◌, length, slice_get, Some, IsTrue}
+use Rattle.std.specs.List.{list_all, flat_map}
+use Rattle.gufi_base.specs.Words.{is_empty, ascends}
+use Rattle.gufi_base.specs.Kinds.{is_dir}
+use Rattle.gufi_base.specs.Paths.{Components, parent_path}
+use Rattle.gufi_tree.specs.declared.tree.Entry.{Entry}
+use Rattle.gufi_tree.specs.Tree.{Directory, dir_cmp, entry_cmp, entry_count, has_dir, has_entry_named, is_kinded, own_rows, HasTreeShape}
+use Rattle.gufi_image.specs.Directories.{follows}
+
+-- entries in name order, of which none is a directory
+pub record AreEntries (entries : List Entry) : Type 0 where
+  pub order : IsTrue (ascends entry_cmp entries)
+  pub kinds : IsTrue (list_all (λ (e : Entry). not (is_dir e.rec.meta.kind)) entries)
+
+-- a path with one name more than the parent's, which no entry of the parent has
+pub record IsBelow (parent : Directory) (path : Components) : Type 0 where
+  pub name : List ℕ
+  pub is : path ≡ parent.path ++ name ∷ []
+  pub free : has_entry_named name parent ≡ false
+
+-- a path above those before it, below one of them
+pub record IsChild (dirs : List Directory) (path : Components) : Type 0 where
+  pub parent : Directory
+  pub number : ℕ
+  pub there : slice_get dirs number ≡ Some parent
+  pub below : IsBelow parent path
+  pub above : follows dirs path ≡ true
+
+-- the root is the first
+abbrev pub IsPlaced : List Directory → Components → Type 0
+IsPlaced [] path = path ≡ []
+IsPlaced (first ∷ dirs) path = IsChild (first ∷ dirs) path
+
+-- a directory behind those before it, with which all entries are at most so many
+pub record IsNext (total : ℕ) (dirs : List Directory) (dir : Directory) : Type 0 where
+  pub few : entry_count dirs + length dir.entries ≤ total
+  pub kind : IsTrue (is_dir dir.rec.meta.kind)
+  pub entries : AreEntries dir.entries
+  pub placed : IsPlaced dirs dir.path
+
+-- Directories that begin a tree: all that a tree's shape asks but that the root is there.
+pub record IsFront (dirs : List Directory) : Type 0 where
+  pub order : IsTrue (ascends dir_cmp dirs)
+  pub parents : IsTrue (list_all (λ dir. has_dir dirs (parent_path dir.path)) dirs)
+  pub entries : IsTrue (list_all (λ dir. ascends entry_cmp dir.entries) dirs)
+  pub kinds : IsTrue (list_all is_kinded dirs)
+  pub apart : IsTrue (list_all (λ dir. list_all (λ entry. not (has_dir dirs (dir.path ++ entry.name ∷ []))) dir.entries) dirs)
+  pub root : IsTrue (is_empty dirs || has_dir dirs [])
+
+-- so many directories, with so many entries at most
+pub record AreDirectories (number total : ℕ) (dirs : List Directory) : Type 0 where
+  pub front : IsFront dirs
+  pub count : length dirs ≡ number
+  pub few : entry_count dirs ≤ total
+
+-- directories that are a whole tree, with fewer rows than a tree may have
+pub record IsWhole (dirs : List Directory) : Type 0 where
+  pub shape : HasTreeShape dirs
+  pub dirs_fit : length dirs < 2 ^ 32
+  pub rows_fit : length (flat_map own_rows dirs) < 2 ^ 32

@@ -1,0 +1,148 @@
+//! The fields of an image, read from the left.
+//!
+//! Each reader is given the bytes from some place on, and gives what it read with the bytes behind it.
+
+ghost use Rattle.std.specs.Prelude.{◌≡◌, IfOk};
+ghost use Rattle.std.specs.Int.{w8, w16, w32, w64};
+ghost use Rattle.std.specs.List.{list_all};
+ghost use Rattle.gufi_base.specs.Names.{is_path_byte};
+ghost use Rattle.gufi_image.specs.Fields.{Gives, flaw, bytes_at, number_at, signed_at, meta_at, link_at, record_at};
+
+use crate::fault::{Flaw, ImageKind, Refused};
+use byteorder::{ByteOrder, LittleEndian};
+use gufi_base::{Bytes, Kind, Meta, Rec};
+use std::alloc::Global;
+
+const MAX_LINK: u16 = 4096;
+
+/// A fault of the field that begins here.
+pub(crate) fn flaw(bytes: &[u8], kind: ImageKind) -> Refused
+    ensures { result ≡ Refused.Flaw (flaw bytes.now kind) }
+{
+    Refused::Flaw(Flaw {
+        left: bytes.len(),
+        kind,
+    })
+}
+
+/// So many bytes.
+#[inline]
+pub(crate) fn bytes_at(bytes: &[u8], count: usize) -> Result<(&[u8], &[u8]), Refused>
+    ensures { Gives (λ x. (x.0.now, x.1.now)) result (bytes_at count bytes.now) }
+{
+    if bytes.len() < count {
+        return Err(flaw(bytes, ImageKind::Cut));
+    }
+    Ok(bytes.split_at(count))
+}
+
+#[inline]
+pub(crate) fn u8_at(bytes: &[u8]) -> Result<(u8, &[u8]), Refused>
+    ensures { Gives (λ x. (x.0, x.1.now)) result (number_at w8 bytes.now) }
+{
+    let (field, rest) = bytes_at(bytes, 1)?;
+    Ok((field[0], rest))
+}
+
+#[inline]
+pub(crate) fn u16_at(bytes: &[u8]) -> Result<(u16, &[u8]), Refused>
+    ensures { Gives (λ x. (x.0, x.1.now)) result (number_at w16 bytes.now) }
+{
+    let (field, rest) = bytes_at(bytes, 2)?;
+    Ok((LittleEndian::read_u16(field), rest))
+}
+
+#[inline]
+pub(crate) fn u32_at(bytes: &[u8]) -> Result<(u32, &[u8]), Refused>
+    ensures { Gives (λ x. (x.0, x.1.now)) result (number_at w32 bytes.now) }
+{
+    let (field, rest) = bytes_at(bytes, 4)?;
+    Ok((LittleEndian::read_u32(field), rest))
+}
+
+#[inline]
+pub(crate) fn u64_at(bytes: &[u8]) -> Result<(u64, &[u8]), Refused>
+    ensures { Gives (λ x. (x.0, x.1.now)) result (number_at w64 bytes.now) }
+{
+    let (field, rest) = bytes_at(bytes, 8)?;
+    Ok((LittleEndian::read_u64(field), rest))
+}
+
+#[inline]
+fn i64_at(bytes: &[u8]) -> Result<(i64, &[u8]), Refused>
+    ensures { Gives (λ x. (x.0, x.1.now)) result (signed_at bytes.now) }
+{
+    let (number, rest) = u64_at(bytes)?;
+    Ok((number.cast_signed(), rest))
+}
+
+/// What a record of this kind holds before its link.
+#[tactic(auto, unfolding(crate::specs::Fields::meta_at))]
+fn meta_at(bytes: &[u8], kind: Kind) -> Result<(Meta, &[u8]), Refused>
+    ensures gives { Gives (λ x. (x.0, x.1.now)) result (meta_at kind bytes.now) }
+    ensures kind { IfOk result (λ x. x.0.kind ≡ kind) }
+{
+    let (inode, modes) = u64_at(bytes)?;
+    let (mode, rest) = u16_at(modes)?;
+    if mode > 4095 {
+        return Err(flaw(modes, ImageKind::Number));
+    }
+    let (nlink, rest) = u64_at(rest)?;
+    let (uid, rest) = u32_at(rest)?;
+    let (gid, rest) = u32_at(rest)?;
+    let (size, rest) = u64_at(rest)?;
+    let (blksize, rest) = u64_at(rest)?;
+    let (blocks, rest) = u64_at(rest)?;
+    let (atime, rest) = i64_at(rest)?;
+    let (mtime, rest) = i64_at(rest)?;
+    let (ctime, rest) = i64_at(rest)?;
+    let meta = Meta {
+        kind,
+        inode,
+        mode,
+        nlink,
+        uid,
+        gid,
+        size,
+        blksize,
+        blocks,
+        atime,
+        mtime,
+        ctime,
+    };
+    Ok((meta, rest))
+}
+
+fn are_path_bytes(bytes: &[u8]) -> bool
+    ensures { result ≡ list_all is_path_byte bytes.now }
+{
+    bytes.iter().all(|b| *b != 0 && *b != 10)
+}
+
+/// The target of a link, behind its length.
+#[tactic(auto, unfolding(crate::specs::Fields::link_at))]
+fn link_at(bytes: &[u8]) -> Result<(&[u8], &[u8]), Refused>
+    ensures { Gives (λ x. (x.0.now, x.1.now)) result (link_at bytes.now) }
+{
+    let (count, rest) = u16_at(bytes)?;
+    if count > MAX_LINK {
+        return Err(flaw(bytes, ImageKind::Name));
+    }
+    let (link, rest) = bytes_at(rest, count as usize)?;
+    if !are_path_bytes(link) {
+        return Err(flaw(bytes, ImageKind::Name));
+    }
+    Ok((link, rest))
+}
+
+/// A record of this kind. One allocation where there is a link.
+#[tactic(auto, unfolding(crate::specs::Fields::record_at))]
+pub(crate) fn record_at(alloc: Global, bytes: &[u8], kind: Kind) -> Result<(Rec, &[u8]), Refused>
+    ensures gives { Gives (λ x. (x.0, x.1.now)) result (record_at kind bytes.now) }
+    ensures kind { IfOk result (λ x. x.0.meta.kind ≡ kind) }
+{
+    let (meta, rest) = meta_at(bytes, kind)?;
+    let (link, rest) = link_at(rest)?;
+    let link = Bytes::from_slice(alloc, link)?;
+    Ok((Rec { meta, link }, rest))
+}

@@ -1,0 +1,21 @@
+//! The image of an index: a snapshot in bytes, written and read back, each fault named by its offset.
+//!
+//! Contracts see a snapshot as a tree and the limit of its roll-up, and an image as its bytes.
+//! It stands on `gufi_snap` and what that stands on; the top call stands on it.
+#![tactic(auto)]
+
+mod directory;
+mod entry;
+mod fault;
+mod fields;
+mod name;
+mod put;
+mod reader;
+mod writer;
+
+pub use fault::{ImageError, ImageKind};
+pub use reader::read_image;
+pub use writer::write_image;
+
+#[cfg(test)]
+mod tests;

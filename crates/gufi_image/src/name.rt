@@ -1,0 +1,89 @@
+//! The names in an image.
+
+ghost use Rattle.std.specs.Prelude.{◌≡◌, ◌||◌, nat_lt, ◌∷◌, [], ◌++◌};
+ghost use Rattle.gufi_base.specs.Limits.{max_components, max_path};
+ghost use Rattle.gufi_base.specs.Names.{name_of};
+ghost use Rattle.gufi_base.specs.Paths.{is_too_long};
+ghost use Rattle.gufi_image.specs.Fields.{Gives};
+ghost use Rattle.gufi_image.specs.Names.{name_at};
+
+use crate::fault::{ImageKind, Refused};
+use crate::fields::{bytes_at, flaw, u8_at};
+use gufi_base::{Name, NameFault, Path};
+use std::alloc::Global;
+use std::marker::Model;
+
+/// More names or bytes than a path may have.
+fn is_over(names: u128, bytes: u128) -> bool
+    ensures { result ≡ (nat_lt max_components names || nat_lt max_path bytes) }
+{
+    names > 256 || bytes > 4096
+}
+
+/// The path of a directory, measured once for all names in it.
+#[derive(Drop)]
+pub(crate) struct Above<'a> {
+    path: &'a Path,
+    depth: usize,
+    bytes: usize,
+}
+
+impl<'a> Model for Above<'a> {
+    ghost use Rattle.std.specs.Prelude.{ℕ, List};
+
+    ghost Value = { List (List ℕ) };
+
+    ghost use Rattle.gufi_image.specs.Measured.{IsMeasured};
+
+    ghost view = { λ a. a.path.now };
+
+    ghost invariant = { λ a. IsMeasured a.path.now a.depth a.bytes };
+}
+
+impl<'a> Above<'a> {
+    pub(crate) fn of(path: &'a Path) -> Above<'a>
+        ensures { result ≡ path.now }
+    {
+        Above {
+            path,
+            depth: path.depth(),
+            bytes: path.text().len(),
+        }
+    }
+
+    pub(crate) fn path(&self) -> &Path
+        ensures { result.now ≡ self.now }
+    {
+        self.path
+    }
+
+    fn is_too_long_with(&self, name: &[u8]) -> bool
+        ensures { result ≡ is_too_long (self.now ++ name.now ∷ []) }
+    {
+        is_over(
+            self.depth as u128 + 1,
+            self.bytes as u128 + name.len() as u128,
+        )
+    }
+}
+
+/// A name below a directory, behind its length. One allocation.
+#[tactic(auto, unfolding(crate::specs::Names::name_at))]
+pub(crate) fn name_at<'a>(
+    alloc: Global,
+    bytes: &'a [u8],
+    above: &Above<'_>,
+) -> Result<(Name, &'a [u8]), Refused>
+    ensures { Gives (λ x. (x.0, x.1.now)) result (name_at above.now bytes.now) }
+{
+    let (count, rest) = u8_at(bytes)?;
+    let (text, rest) = bytes_at(rest, count as usize)?;
+    if above.is_too_long_with(text) {
+        return Err(flaw(bytes, ImageKind::Name));
+    }
+    match Name::of(alloc, text) {
+        Ok(name) => Ok((name, rest)),
+        Err(NameFault::Memory) => Err(Refused::Memory),
+        Err(_) => Err(flaw(bytes, ImageKind::Name)),
+    }
+}
