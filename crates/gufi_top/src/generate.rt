@@ -108,7 +108,8 @@ fn summary_of(alloc: Global, tree: Tree) -> Result<Text, Halt>
 {
     let report = report_line(alloc, &tree)?;
     let snap = snapshot_of(alloc, tree, LIMIT)?;
-    written(alloc, totals_behind(alloc, &snap, report))
+    let reply = totals_behind(alloc, &snap, report);
+    written(alloc, snap, reply)
 }
 
 /// The tree of a generated trace, read as any other.

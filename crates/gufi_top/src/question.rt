@@ -60,7 +60,8 @@ impl Question for Stat {
         start: &Path,
     ) -> Result<Written, Halt> {
         let snap = snapshot_of(alloc, tree, limit)?;
-        written(alloc, record_text(alloc, &snap, who, start))
+        let reply = record_text(alloc, &snap, who, start);
+        written(alloc, snap, reply)
     }
 }
 
@@ -119,7 +120,8 @@ fn find_in(
     ensures of_bytes { IfErr result IsOfBytes }
 {
     let snap = snapshot_of(alloc, tree, limit)?;
-    written(alloc, find_text(alloc, &snap, who, start, expression))
+    let reply = find_text(alloc, &snap, who, start, expression);
+    written(alloc, snap, reply)
 }
 
 impl Question for Find<'_> {
@@ -163,10 +165,8 @@ impl Question for Ls {
         start: &Path,
     ) -> Result<Written, Halt> {
         let snap = snapshot_of(alloc, tree, limit)?;
-        written(
-            alloc,
-            listing_text(alloc, &snap, who, start, users, self.long, self.all),
-        )
+        let reply = listing_text(alloc, &snap, who, start, users, self.long, self.all);
+        written(alloc, snap, reply)
     }
 }
 
@@ -190,6 +190,7 @@ impl Question for Stats {
         start: &Path,
     ) -> Result<Written, Halt> {
         let snap = snapshot_of(alloc, tree, limit)?;
-        written(alloc, report_text(alloc, &snap, who, start, self.report))
+        let reply = report_text(alloc, &snap, who, start, self.report);
+        written(alloc, snap, reply)
     }
 }

@@ -32,7 +32,8 @@ fn walk_tree(alloc: Global, tree: Tree, who: &Principal) -> Result<Text, Halt>
 {
     let snap = snapshot_of(alloc, tree, 0)?;
     let start = Path::root(alloc)?;
-    written(alloc, walk_text(alloc, &snap, who, &start))
+    let reply = walk_text(alloc, &snap, who, &start);
+    written(alloc, snap, reply)
 }
 
 /// What `walk` writes of a trace.
