@@ -7,14 +7,20 @@ ghost use Rattle.std.specs.Cmp.Lexicographic.{slice_cmp};
 ghost use Rattle.gufi_base.specs.Words.{GivesUnless, is_empty as has_no_element};
 ghost use Rattle.gufi_base.specs.Names.{name_of, is_name, is_name_byte, dot, dot_dot};
 
+use smallvec::SmallVec;
 use std::alloc::{AllocError, Global};
 use std::cmp::Ordering;
 use std::marker::Model;
 
+/// How many bytes a name has that needs no allocation: most have fewer.
+const SHORT: usize = 24;
+
 /// One component of a path: 1 to 255 bytes without 0x00, newline and `/`, neither `.` nor `..`.
+///
+/// One of at most 24 bytes takes no memory beside its own.
 #[derive(Drop)]
 pub struct Name {
-    bytes: Vec<u8>,
+    bytes: SmallVec<u8, SHORT>,
 }
 
 impl Model for Name {
@@ -83,16 +89,16 @@ impl Name {
         if !is_name(bytes) {
             return Err(NameFault::Bad);
         }
-        let bytes = Vec::from_slice(alloc, bytes)?;
+        let bytes = SmallVec::from_slice(alloc, bytes)?;
         Ok(Name { bytes })
     }
 
-    /// The name that checked bytes are. One allocation.
+    /// The name that checked bytes are. One allocation at most.
     pub fn of_checked(alloc: Global, bytes: &[u8]) -> Result<Name, AllocError>
         requires { IsTrue (is_name bytes.now) }
         ensures { IfOk result (λ name. name ≡ bytes.now) }
     {
-        let bytes = Vec::from_slice(alloc, bytes)?;
+        let bytes = SmallVec::from_slice(alloc, bytes)?;
         Ok(Name { bytes })
     }
 
@@ -101,7 +107,9 @@ impl Name {
         requires { IsTrue (is_name bytes.items) }
         ensures { result ≡ bytes.items }
     {
-        Name { bytes }
+        Name {
+            bytes: SmallVec::from_vec(bytes),
+        }
     }
 
     /// Its bytes.

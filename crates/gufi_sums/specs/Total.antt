@@ -78,6 +78,20 @@ join a b = record {
 abbrev pub add : Summary → Meta → Summary
 add s meta = join s (meta_total meta)
 
+-- the same but for its time and its owners
+abbrev pub counted : Summary → Meta → Summary
+counted s meta = record {
+  dirs = s.dirs + (if is_dir meta.kind then 1 else 0);
+  files = s.files + (if is_file meta.kind then 1 else 0);
+  links = s.links + (if is_link meta.kind then 1 else 0);
+  others = s.others + (if is_other meta.kind then 1 else 0);
+  bytes = s.bytes + (if is_file meta.kind then meta.size else 0);
+  size = span min max s.size (if is_file meta.kind then Some (meta.size, meta.size) else None);
+  mtime = s.mtime;
+  uid = s.uid;
+  gid = s.gid;
+}
+
 -- how many rows a sum counts
 abbrev pub rows_in : Summary → ℕ
 rows_in s = s.dirs + s.files + s.links + s.others

@@ -1,7 +1,7 @@
 //! What is known of some rows without looking at them.
 ghost use Rattle.std.specs.Prelude.{◌≡◌, ◌+◌, ◌^◌, ◌<◌, min, max};
 ghost use Rattle.std.specs.Int.{int_min, int_max};
-ghost use Rattle.gufi_sums.specs.Total.{empty, add, join, meta_total, span, rows_in, IsBounded, IsTotal};
+ghost use Rattle.gufi_sums.specs.Total.{empty, add, join, counted, meta_total, span, rows_in, IsBounded, IsTotal};
 ghost use Rattle.gufi_sums.specs.Laws.{IsTotal-counted, IsTotal-reordered};
 
 use gufi_base::{Kind, Memory, Meta, RowRef, Yield};
@@ -52,8 +52,30 @@ impl Summary {
         ensures counted { rows_in self.new ≡ rows_in self.old + 1 }
         ensures bounded { IsBounded self.new }
     {
-        let one = sum_of_one(meta);
-        self.join(&one);
+        self.count(meta);
+        self.mtime = span_of_times(self.mtime, Some((meta.mtime, meta.mtime)));
+        self.uid = span_of_ids(self.uid, Some((meta.uid, meta.uid)));
+        self.gid = span_of_ids(self.gid, Some((meta.gid, meta.gid)));
+    }
+
+    /// Counts one row by its kind, with the bytes and the size of a file.
+    fn count(&mut self, meta: &Meta)
+        requires room { rows_in self.old + 1 < 2 ^ 40 }
+        requires in_bounds { IsBounded self.old }
+        ensures sum { self.new ≡ counted self.old meta.now }
+        ensures counted { rows_in self.new ≡ rows_in self.old + 1 }
+        ensures bounded { IsBounded self.new }
+    {
+        match meta.kind {
+            Kind::Dir => self.dirs += 1,
+            Kind::File => {
+                self.files += 1;
+                self.bytes += u128::from(meta.size);
+                self.size = span_of_sizes(self.size, Some((meta.size, meta.size)));
+            }
+            Kind::Link => self.links += 1,
+            Kind::Block | Kind::Char | Kind::Fifo | Kind::Socket => self.others += 1,
+        }
     }
 
     /// Takes in the rows of another sum.
@@ -99,35 +121,6 @@ impl Yield for Summary {
         self.join(&other);
         Ok(())
     }
-}
-
-fn sum_of_one(meta: &Meta) -> Summary
-    ensures sum { result ≡ meta_total meta.now }
-    ensures counted { rows_in result ≡ 1 }
-    ensures bounded { IsBounded result }
-{
-    let mut sum = Summary {
-        dirs: 0,
-        files: 0,
-        links: 0,
-        others: 0,
-        bytes: 0,
-        size: None,
-        mtime: Some((meta.mtime, meta.mtime)),
-        uid: Some((meta.uid, meta.uid)),
-        gid: Some((meta.gid, meta.gid)),
-    };
-    match meta.kind {
-        Kind::Dir => sum.dirs = 1,
-        Kind::File => {
-            sum.files = 1;
-            sum.bytes = u128::from(meta.size);
-            sum.size = Some((meta.size, meta.size));
-        }
-        Kind::Link => sum.links = 1,
-        Kind::Block | Kind::Char | Kind::Fifo | Kind::Socket => sum.others = 1,
-    }
-    sum
 }
 
 fn span_of_sizes(a: Option<(u64, u64)>, b: Option<(u64, u64)>) -> Option<(u64, u64)>
