@@ -1,6 +1,4 @@
-mod Numbers
 mod PathSizes
-mod Appends
 mod Written
 mod Repeats
 mod Searches

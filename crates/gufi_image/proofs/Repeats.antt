@@ -1,5 +1,5 @@
 -- Reading parts one after the other, as a loop does.
-use Rattle.std.proofs.Common.{◌≡◌, ℕ, zero, suc, ◌-◌, ◌+◌, ◌≤◌, ◌<◌, List, Result, Ok, Err, refl, sym, ap, subst, ◌∙◌, arith}
+use Rattle.std.proofs.Common.{◌≡◌, ℕ, zero, suc, ◌-◌, ◌+◌, ◌≤◌, ◌<◌, List, Result, Ok, Err, refl, sym, ap, ◌∙◌, arith}
 use Rattle.gufi_base.specs.Words.{◌>>=◌}
 use Rattle.gufi_image.specs.declared.fault.Flaw.{Flaw}
 use Rattle.gufi_image.specs.declared.fault.Refused.{Refused}
@@ -44,14 +44,6 @@ module _ {S : Type 0} (step : S → List ℕ → Result (S × List ℕ) Flaw) wh
       let k : count - i ≡ 0 = omega arith in
       let one : repeated step (count - i) front bytes ≡ Ok (front, bytes) = rw k refl in
       sym so_far ∙ one
-
-  -- what each step keeps holds in the end
-  pub keeps : (P : S → Type 0) → ((front : S) (bytes : List ℕ) (more : S × List ℕ) → P front → step front bytes ≡ Ok more → P more.0)
-      → (count : ℕ) (front : S) (bytes : List ℕ) (found : S × List ℕ) → P front → repeated step count front bytes ≡ Ok found → P found.0
-  keeps P each zero front bytes found h e = let same : (front, bytes) ≡ found = cc in subst (λ (x : S × List ℕ). P x.0) same h
-  keeps P each (suc count) front bytes found h e =
-      let one = bind_ok (step front bytes) (λ more. repeated step count more.0 more.1) found e in
-      keeps P each count one.0.0 one.0.1 found (each front bytes one.0 h one.1) one.2
 
   -- what each step makes one more is so many more in the end
   pub counts : (f : S → ℕ) → ((front : S) (bytes : List ℕ) (more : S × List ℕ) → step front bytes ≡ Ok more → f more.0 ≡ f front + 1)

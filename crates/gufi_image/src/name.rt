@@ -51,12 +51,6 @@ impl<'a> Above<'a> {
         }
     }
 
-    pub(crate) fn path(&self) -> &Path
-        ensures { result.now ≡ self.now }
-    {
-        self.path
-    }
-
     fn is_too_long_with(&self, name: &[u8]) -> bool
         ensures { result ≡ is_too_long (self.now ++ name.now ∷ []) }
     {
