@@ -1,3 +1,4 @@
+mod Worked
 pub mod WordLemmas
 pub mod PartLemmas
 pub mod FormulaLemmas

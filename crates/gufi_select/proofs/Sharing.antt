@@ -1,5 +1,5 @@
 -- A regex may cross threads.
-use denote.Param.Send.{IsSend, IsSync, struct_sync, recorded_sync, sendable}
+use denote.Param.Send.{IsSync, struct_sync, sendable}
 use denote.Struct.Declared.{shape}
 use Rattle.std.proofs.Crossing.{crosses}
 use Rattle.regex_class.proofs.Class.TheSendSync as class

@@ -1,7 +1,6 @@
 -- Tokens, byte by byte.
-use Rattle.std.proofs.Common.{◌≡◌, ◌≤◌, ◌<◌, ℕ, zero, suc, ◌+◌, ◌-◌, Bool, true, false, List, [], ◌∷◌, ◌++◌, length, take, drop, refl, sym, ap, ◌∙◌, arith}
+use Rattle.std.proofs.Common.{◌≡◌, ℕ, zero, suc, ◌+◌, ◌-◌, Bool, true, false, List, [], ◌∷◌, ◌++◌, length, take, drop, refl, ap, arith}
 use Rattle.std.specs.List.{take_while}
-use Rattle.gufi_select.specs.declared.token.Front.{Front}
 use Rattle.gufi_select.specs.declared.token.Quoted.{Quoted}
 use Rattle.gufi_select.specs.Tokens.{PlacedToken, is_blank, front_token, tokens_from}
 

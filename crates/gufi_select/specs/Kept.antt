@@ -1,5 +1,5 @@
 -- How the program keeps a formula.
-use Rattle.std.specs.Prelude.{◌≡◌, ℕ, Bool, List, map}
+use Rattle.std.specs.Prelude.{◌≡◌, Bool, List, map}
 use Rattle.gufi_formula.specs.Formulas.{Formula, holds}
 use Rattle.gufi_formula.specs.Steps as formulas
 use Rattle.gufi_select.specs.declared.condition.Condition.{Condition}

@@ -1,5 +1,5 @@
 -- What stands open in a condition, and how NOT and parentheses change it.
-use Rattle.std.specs.Prelude.{ℕ, nat_le, List, [], ◌∷◌, Result, Ok, Err}
+use Rattle.std.specs.Prelude.{nat_le, List, [], ◌∷◌, Result, Ok, Err}
 use Rattle.gufi_base.specs.Limits.{max_nesting}
 use Rattle.gufi_base.specs.Words.{◌>>◌, refuse}
 use Rattle.gufi_formula.specs.Formulas.{Level, new_level, with_not, level_formula, closed_into, open_ones}

@@ -1,6 +1,6 @@
 -- The lines of a SELECT in the pieces in which they are put.
 use Rattle.std.specs.Prelude.{ℕ, List, ◌∷◌, map}
-use Rattle.std.specs.List.{flat_map, join_with_byte}
+use Rattle.std.specs.List.{join_with_byte}
 use Rattle.gufi_base.specs.declared.record.Row.{Row}
 use Rattle.gufi_select.specs.declared.column.Column.{Column}
 use Rattle.gufi_select.specs.Columns.{value_at, value_text}

@@ -83,7 +83,13 @@ fn number_at(column: Column, row: RowRef<'_>, depth: u32) -> Option<i128>
 
 /// Whether the value of a column of a row compares so with a literal.
 #[inline]
-fn compares(column: Column, operator: Operator, literal: &Value, row: RowRef<'_>, depth: u32) -> bool
+fn compares(
+    column: Column,
+    operator: Operator,
+    literal: &Value,
+    row: RowRef<'_>,
+    depth: u32,
+) -> bool
     ensures { result ≡ compare_values operator (value_in column (seen_parts row.entry depth)) literal.now }
 {
     match literal {

@@ -1,6 +1,6 @@
 //! Formulas of conditions, kept as steps.
-use crate::step::{Step, run};
 use crate::condition::Condition;
+use crate::step::{Step, run};
 use gufi_base::RowRef;
 use std::alloc::{AllocError, Global};
 use std::marker::Model;

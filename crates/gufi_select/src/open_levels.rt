@@ -37,7 +37,11 @@ impl OpenLevels {
     }
 
     /// A condition is complete.
-    pub(crate) fn with_condition(self, alloc: Global, condition: Condition) -> Result<OpenLevels, AllocError>
+    pub(crate) fn with_condition(
+        self,
+        alloc: Global,
+        condition: Condition,
+    ) -> Result<OpenLevels, AllocError>
         ensures { IfOk result (λ s. open_kept s ≡ record (open_kept self) { level = with_term (test_alone condition) (open_kept self).level }) }
     {
         let term = Formula::of(alloc, condition)?;

@@ -49,12 +49,7 @@ fn put_tabbed(out: &mut Vec<u8>, column: Column, row: &Row, depth: u64) -> Resul
 }
 
 /// Columns, each behind a tab.
-fn put_others(
-    out: &mut Vec<u8>,
-    columns: &[Column],
-    row: &Row,
-    depth: u64,
-) -> Result<(), Memory>
+fn put_others(out: &mut Vec<u8>, columns: &[Column], row: &Row, depth: u64) -> Result<(), Memory>
     ensures { OnOk result (out.new.items ≡ out.old.items ++ flat_map (tabbed_text row.now depth) columns.now) }
 {
     'columns: for column in columns {
@@ -76,12 +71,7 @@ fn split_first(columns: &[Column]) -> Option<(Column, &[Column])>
 }
 
 /// Columns with a tab between two.
-fn put_columns(
-    out: &mut Vec<u8>,
-    columns: &[Column],
-    row: &Row,
-    depth: u64,
-) -> Result<(), Memory>
+fn put_columns(out: &mut Vec<u8>, columns: &[Column], row: &Row, depth: u64) -> Result<(), Memory>
     ensures { OnOk result (out.new.items ≡ out.old.items ++ columns_text row.now depth columns.now) }
 {
     let Some((first, others)) = split_first(columns) else {

@@ -103,19 +103,19 @@ impl State {
 fn built(alloc: Global, sought: Option<Sought>) -> Result<Option<Regexp>, SelectError>
     ensures { Tells (λ r. r) result (check_regexp sought) }
 {
-    let Some(Sought {
-        offset,
-        column,
-        pattern,
-    }) = sought
+    let Some(
+        Sought {
+            offset,
+            column,
+            pattern,
+        },
+    ) = sought
     else {
         return Ok(None);
     };
     match Pattern::of(alloc, pattern.as_slice()) {
         Ok(pattern) => Ok(Some(Regexp { column, pattern })),
-        Err(PatternFault::Bad) => {
-            Err(fault_at(offset, TokenFault::Kind(SelectKind::BadRegex)))
-        }
+        Err(PatternFault::Bad) => { Err(fault_at(offset, TokenFault::Kind(SelectKind::BadRegex))) }
         Err(PatternFault::Memory) => Err(SelectError::Memory),
     }
 }
@@ -164,10 +164,7 @@ fn read_state(alloc: Global, text: &[u8]) -> Result<State, SelectError>
     if state.may_end() {
         Ok(state)
     } else {
-        Err(fault_at(
-            text.len(),
-            TokenFault::Kind(SelectKind::Unexpected),
-        ))
+        Err(fault_at(text.len(), TokenFault::Kind(SelectKind::Unexpected)))
     }
 }
 

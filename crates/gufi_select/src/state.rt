@@ -199,19 +199,6 @@ impl State {
         }
     }
 
-    /// The same with another place, and other levels open.
-    pub(crate) fn in_levels(self, place: Place, levels: OpenLevels) -> State
-        ensures { state_kept result ≡ in_levels place (state_kept self) (open_kept levels) }
-    {
-        State {
-            place,
-            columns: self.columns,
-            table: self.table,
-            levels,
-            regexp: self.regexp,
-        }
-    }
-
     /// Whether the text may end here.
     pub(crate) fn may_end(&self) -> bool
         ensures { result ≡ may_end self.now.place (state_kept self.now) }

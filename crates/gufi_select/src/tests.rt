@@ -87,7 +87,10 @@ fn chosen_rows_are_printed(rt: HostRuntime) -> Result<(), Fail> {
     let found = printed(alloc, b"SELECT name FROM rows WHERE name REGEXP '^[cx]$'")?;
     assert_eq!(rt; found.as_slice(), b"c\nx\n".as_slice());
     let all = printed(alloc, b"select * from ENTRIES;")?;
-    assert_eq!(rt; all.as_slice(), b"/c/x\tx\tf\t9\t416\t2\t1001\t501\t7\t4096\t8\t-5\t100000\t30000\t\t2\n".as_slice());
+    assert_eq!(rt;
+        all.as_slice(),
+        b"/c/x\tx\tf\t9\t416\t2\t1001\t501\t7\t4096\t8\t-5\t100000\t30000\t\t2\n".as_slice()
+    );
     let link = row(alloc, b"/c/x", Kind::Link, 7, b"/y")?;
     let select = read_select(alloc, b"SELECT linkname, level FROM rows")?;
     let mut line = Vec::new(alloc);

@@ -204,7 +204,12 @@ fn text_at(alloc: Global, rest: &[u8]) -> Result<Front, AllocError>
 }
 
 /// The token that a byte begins, which is the first of these bytes; the others follow it.
-pub(crate) fn front_token(alloc: Global, first: u8, rest: &[u8], bytes: &[u8]) -> Result<Front, AllocError>
+pub(crate) fn front_token(
+    alloc: Global,
+    first: u8,
+    rest: &[u8],
+    bytes: &[u8],
+) -> Result<Front, AllocError>
     ensures { IfOk result (λ front. front ≡ front_token first rest.now bytes.now) }
 {
     if is_word_start(first) {

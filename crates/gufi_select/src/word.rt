@@ -38,97 +38,51 @@ fn is_name(letters: &[u8], name: &[u8]) -> bool
 fn keyword_of(letters: &[u8]) -> Option<Keyword>
     ensures { result ≡ lookup (lower letters.now) keywords }
 {
-    if is_name(letters, b"select") {
-        return Some(Keyword::Select);
+    match letters {
+        _ if is_name(letters, b"select") => Some(Keyword::Select),
+        _ if is_name(letters, b"from") => Some(Keyword::From),
+        _ if is_name(letters, b"where") => Some(Keyword::Where),
+        _ if is_name(letters, b"or") => Some(Keyword::Or),
+        _ if is_name(letters, b"and") => Some(Keyword::And),
+        _ if is_name(letters, b"not") => Some(Keyword::Not),
+        _ if is_name(letters, b"regexp") => Some(Keyword::Regexp),
+        _ => None,
     }
-    if is_name(letters, b"from") {
-        return Some(Keyword::From);
-    }
-    if is_name(letters, b"where") {
-        return Some(Keyword::Where);
-    }
-    if is_name(letters, b"or") {
-        return Some(Keyword::Or);
-    }
-    if is_name(letters, b"and") {
-        return Some(Keyword::And);
-    }
-    if is_name(letters, b"not") {
-        return Some(Keyword::Not);
-    }
-    if is_name(letters, b"regexp") {
-        return Some(Keyword::Regexp);
-    }
-    None
 }
 
 fn column_of(letters: &[u8]) -> Option<Column>
     ensures { result ≡ lookup (lower letters.now) columns }
 {
-    if is_name(letters, b"path") {
-        return Some(Column::Path);
+    match letters {
+        _ if is_name(letters, b"path") => Some(Column::Path),
+        _ if is_name(letters, b"name") => Some(Column::Name),
+        _ if is_name(letters, b"type") => Some(Column::Kind),
+        _ if is_name(letters, b"inode") => Some(Column::Inode),
+        _ if is_name(letters, b"mode") => Some(Column::Mode),
+        _ if is_name(letters, b"nlink") => Some(Column::Nlink),
+        _ if is_name(letters, b"uid") => Some(Column::Uid),
+        _ if is_name(letters, b"gid") => Some(Column::Gid),
+        _ if is_name(letters, b"size") => Some(Column::Size),
+        _ if is_name(letters, b"blksize") => Some(Column::Blksize),
+        _ if is_name(letters, b"blocks") => Some(Column::Blocks),
+        _ if is_name(letters, b"atime") => Some(Column::Atime),
+        _ if is_name(letters, b"mtime") => Some(Column::Mtime),
+        _ if is_name(letters, b"ctime") => Some(Column::Ctime),
+        _ if is_name(letters, b"linkname") => Some(Column::Linkname),
+        _ if is_name(letters, b"level") => Some(Column::Level),
+        _ => None,
     }
-    if is_name(letters, b"name") {
-        return Some(Column::Name);
-    }
-    if is_name(letters, b"type") {
-        return Some(Column::Kind);
-    }
-    if is_name(letters, b"inode") {
-        return Some(Column::Inode);
-    }
-    if is_name(letters, b"mode") {
-        return Some(Column::Mode);
-    }
-    if is_name(letters, b"nlink") {
-        return Some(Column::Nlink);
-    }
-    if is_name(letters, b"uid") {
-        return Some(Column::Uid);
-    }
-    if is_name(letters, b"gid") {
-        return Some(Column::Gid);
-    }
-    if is_name(letters, b"size") {
-        return Some(Column::Size);
-    }
-    if is_name(letters, b"blksize") {
-        return Some(Column::Blksize);
-    }
-    if is_name(letters, b"blocks") {
-        return Some(Column::Blocks);
-    }
-    if is_name(letters, b"atime") {
-        return Some(Column::Atime);
-    }
-    if is_name(letters, b"mtime") {
-        return Some(Column::Mtime);
-    }
-    if is_name(letters, b"ctime") {
-        return Some(Column::Ctime);
-    }
-    if is_name(letters, b"linkname") {
-        return Some(Column::Linkname);
-    }
-    if is_name(letters, b"level") {
-        return Some(Column::Level);
-    }
-    None
 }
 
 fn table_of(letters: &[u8]) -> Option<Table>
     ensures { result ≡ lookup (lower letters.now) tables }
 {
-    if is_name(letters, b"entries") {
-        return Some(Table::Entries);
+    match letters {
+        _ if is_name(letters, b"entries") => Some(Table::Entries),
+        _ if is_name(letters, b"summary") => Some(Table::Summary),
+        _ if is_name(letters, b"rows") => Some(Table::Rows),
+        _ => None,
     }
-    if is_name(letters, b"summary") {
-        return Some(Table::Summary);
-    }
-    if is_name(letters, b"rows") {
-        return Some(Table::Rows);
-    }
-    None
 }
 
 /// What letters name.

@@ -1,5 +1,5 @@
-use Rattle.std.proofs.Common.{◌≡◌, ◌∙◌, true, false, List, ℕ, sym, ap, drop}
-use Rattle.gufi_select.proofs.ReadLemmas.{led_next, led_over, ended, fault_told}
+use Rattle.std.proofs.Common.{◌∙◌, true, false, sym}
+use Rattle.gufi_select.proofs.ReadLemmas.{led_next, ended, fault_told}
 use Rattle.gufi_select.proofs.reading.read_state.Goals as goal
 
 pub bytes-preserved : goal.bytes-preserved
