@@ -1,6 +1,11 @@
 //! Worked runs of `stats` and `gen`.
-use crate::tests::{B, check_run};
+use crate::gufi_run;
+use crate::tests::{B, check_run, shelf_of, sink_of, words_of};
+use gufi_io::NoGate;
+use std::process::Abort;
+use std::sync::Wait;
 use std::test::Fail;
+use std::thread::Threads;
 
 const LEVELS: &[u8] = b"level 0 dirs 1 files 0 links 0 others 0 bytes 0
 level 1 dirs 1 files 0 links 0 others 0 bytes 0
@@ -79,5 +84,30 @@ fn trees_are_generated(rt: HostRuntime) -> Result<(), Fail> {
             b"",
         )?;
     }
+    Ok(())
+}
+
+// What a run without files writes.
+fn written<R: AllocGlobal + Abort + Threads + Wait>(
+    rt: &R,
+    words: &[&str],
+) -> Result<Vec<u8>, Fail> {
+    let alloc = rt.alloc();
+    let words = words_of(alloc, words)?;
+    let mut shelf = shelf_of(rt, "t", Vec::new(alloc), b"", &[])?;
+    let mut out = sink_of(alloc, &[])?;
+    let mut notes = sink_of(alloc, &[])?;
+    let run = gufi_run(rt, alloc, &words, &mut shelf, &mut out, &mut notes, &NoGate);
+    assert_eq!(rt; run.status, 0);
+    Ok(out.taken().to_vec(alloc)?)
+}
+
+#[test]
+fn a_large_summary_comes_again(rt: HostRuntime) -> Result<(), Fail> {
+    let words = ["gen", "--summary", "20000"];
+    let first = written(&rt, &words)?;
+    let second = written(&rt, &words)?;
+    assert!(rt; first.starts_with(b"rolled "));
+    assert_eq!(rt; first, second);
     Ok(())
 }

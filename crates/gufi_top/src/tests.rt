@@ -80,7 +80,7 @@ lab:x:500:ana,bob
 
 const WALK: &[&str] = &["walk", "t", "102", "-", "|"];
 
-fn shelf_of<R: AllocGlobal + Abort>(
+pub(crate) fn shelf_of<R: AllocGlobal + Abort>(
     rt: &R,
     name: &str,
     bytes: Vec<u8>,
@@ -96,12 +96,12 @@ fn shelf_of<R: AllocGlobal + Abort>(
     Ok(MemShelf::new(files, 65_536, Vec::new(alloc), bad_reads.to_vec(alloc)?))
 }
 
-fn sink_of(alloc: Global, bad_writes: &[u64]) -> Result<MemSink, AllocError> {
+pub(crate) fn sink_of(alloc: Global, bad_writes: &[u64]) -> Result<MemSink, AllocError> {
     let room = vec![in alloc; 0; 600]?;
     Ok(MemSink::new(room, 5, bad_writes.to_vec(alloc)?))
 }
 
-fn words_of(alloc: Global, words: &[&str]) -> Result<Vec<String>, AllocError> {
+pub(crate) fn words_of(alloc: Global, words: &[&str]) -> Result<Vec<String>, AllocError> {
     let mut all = Vec::with_capacity(alloc, words.len())?;
     for word in words {
         all.push(String::from_str(alloc, word)?)?;
