@@ -10,8 +10,9 @@ use Rattle.gufi_words.specs.declared.command.Common.{Common}
 use Rattle.gufi_top.specs.Reasons.{Reason, tables_in, trace_in}
 use Rattle.gufi_top.specs.Verdict.{Asking, asked, asked_if, user_in, asked_by, index_over, ask_over}
 use Rattle.gufi_find.specs.Expressions.{Find}
+use Rattle.gufi_select.specs.Columns.{Select}
 use Rattle.gufi_base.specs.Paths.{Components}
-use Rattle.gufi_top.specs.Asks.{find_ask}
+use Rattle.gufi_top.specs.Asks.{find_ask, query_ask}
 use Rattle.gufi_top.specs.Calls.{Gives, GivesOver}
 use Rattle.gufi_top.specs.Views.{text_view}
 use Rattle.gufi_top.specs.declared.halt.Text.{Text}
@@ -47,6 +48,21 @@ expression_err tree who start read halts.ReadFault is = tt
 expression_err tree who start read halts.Memory is = tt
 
 pub ruleset expressions = (expression_ok, expression_err)
+
+-- ---- the text of a query, and then its rows
+
+pub select_ok : (tree : List Directory) (who : Principal) (start : Components) (read : Result Select Reason) (select : Select) (r : Result Text Halt)
+    → Gives {A = Select} (λ s. s) (Ok select) read → Gives text_view r (asked tree who start (query_ask select))
+    → Gives text_view r (asked_if tree who start (read >>= λ s. Ok (query_ask s)))
+select_ok tree who start read select r is given = rw is given
+
+pub select_err : (tree : List Directory) (who : Principal) (start : Components) (read : Result Select Reason) (e : Halt)
+    → Gives {A = Select} (λ s. s) (Err e) read → Gives text_view (Err e) (asked_if tree who start (read >>= λ s. Ok (query_ask s)))
+select_err tree who start read (halts.Refused status note) is = rw is refl
+select_err tree who start read halts.ReadFault is = tt
+select_err tree who start read halts.Memory is = tt
+
+pub ruleset selects = (select_ok, select_err)
 
 -- ---- the index's file, and then the principal
 

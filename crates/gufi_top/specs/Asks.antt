@@ -11,6 +11,7 @@ use Rattle.gufi_sums.specs.declared.summary.Summary.{Summary}
 use Rattle.gufi_sums.specs.Total.{total}
 use Rattle.gufi_users.specs.Entries.{UserTables}
 use Rattle.gufi_find.specs.Expressions.{Find, find_holds}
+use Rattle.gufi_select.specs.Columns.{Select, select_holds, select_lines}
 use Rattle.gufi_list.specs.Texts.{stat_text, total_text}
 use Rattle.gufi_list.specs.Listings.{ls_text, ls_asks}
 use Rattle.gufi_stats.specs.declared.report.Report.{Report}
@@ -26,6 +27,7 @@ pub data Ask : Type 0 where
   stat_ask : Ask
   stats_ask : Report → Ask
   total_ask : List ℕ → Ask
+  query_ask : Select → Ask
 
 -- whether an ask admits a row at a depth below its start
 abbrev pub ask_holds : Ask → Row → ℕ → Bool
@@ -35,6 +37,7 @@ ask_holds (ls_ask tables long all) row depth = ls_asks all row depth
 ask_holds stat_ask row depth = true
 ask_holds (stats_ask report) row depth = true
 ask_holds (total_ask name) row depth = true
+ask_holds (query_ask select) row depth = select_holds select row depth
 
 -- The start's own row is among those of an answer.
 abbrev pub stat_lines : Components → List Row → List ℕ
@@ -52,6 +55,7 @@ ask_text (ls_ask tables long all) start rows = ls_text rows tables long all
 ask_text stat_ask start rows = stat_lines start rows
 ask_text (stats_ask report) start rows = stats_text rows start report
 ask_text (total_ask name) start rows = total_line name (total rows)
+ask_text (query_ask select) start rows = select_lines select start rows
 
 -- the refusal of the start, or what is written
 unfoldable pub ask_reply : List Directory → Principal → Components → Ask → Result (List ℕ) Refusal

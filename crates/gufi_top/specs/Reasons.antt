@@ -20,6 +20,9 @@ use Rattle.gufi_users.specs.Users.{read_passwd, read_group, user_kind_text}
 use Rattle.gufi_find.specs.declared.fault.FindError.{FindError}
 use Rattle.gufi_find.specs.declared.fault.FindError.TheVariants as find_errors
 use Rattle.gufi_find.specs.Faults.{find_kind_text}
+use Rattle.gufi_select.specs.declared.fault.SelectError.{SelectError}
+use Rattle.gufi_select.specs.declared.fault.SelectError.TheVariants as select_errors
+use Rattle.gufi_select.specs.Faults.{select_kind_text}
 use Rattle.gufi_words.specs.declared.word.WordError.{WordError}
 use Rattle.gufi_words.specs.declared.word.WordError.TheVariants as word_errors
 use Rattle.gufi_trace.specs.TraceText.{trace_means, TraceFailure, of_line, of_tree, failure_text}
@@ -99,6 +102,15 @@ word_fault k text = reason 2 (codes "word " ++ (decimal k ++ codes " " ++ text))
 abbrev pub find_reason : ℕ → FindError → Reason
 find_reason user_at (find_errors.Fault word kind) = word_fault (capped_number (user_at + 1 + word)) (find_kind_text kind)
 find_reason user_at find_errors.Memory = no_memory
+
+-- ---- the text of a query, which is the word after START, and an offset in it
+
+abbrev pub text_fault : ℕ → ℕ → List ℕ → Reason
+text_fault k offset text = reason 2 (codes "word " ++ (decimal k ++ (codes " at " ++ (decimal offset ++ (codes " " ++ text)))))
+
+abbrev pub select_reason : ℕ → SelectError → Reason
+select_reason user_at (select_errors.Fault offset kind) = text_fault (capped_number (user_at + 2)) offset (select_kind_text kind)
+select_reason user_at select_errors.Memory = no_memory
 
 -- ---- a start that can't be walked from
 

@@ -10,6 +10,8 @@ use Rattle.gufi_users.specs.Entries.{UserTables}
 use Rattle.gufi_users.specs.Users.{principal_of}
 use Rattle.gufi_find.specs.Expressions.{Find}
 use Rattle.gufi_find.specs.Reading.{read_find}
+use Rattle.gufi_select.specs.Columns.{Select}
+use Rattle.gufi_select.specs.Reading.{read_select}
 use Rattle.gufi_stats.specs.declared.report.Report.{Report}
 use Rattle.gufi_stats.specs.declared.report.Report.TheVariants as reports
 use Rattle.gufi_gen.specs.Generated.{gen_text}
@@ -21,8 +23,8 @@ use Rattle.gufi_words.specs.declared.command.ReportWord.TheVariants as report_wo
 use Rattle.gufi_words.specs.declared.command.Common.{Common}
 use Rattle.gufi_words.specs.declared.command.Command.{Command}
 use Rattle.gufi_words.specs.declared.command.Command.TheVariants as commands
-use Rattle.gufi_top.specs.Reasons.{Reason, word_refused, words_reason, find_reason, start_reason, tables_in, trace_in, tree_within}
-use Rattle.gufi_top.specs.Asks.{Ask, walk_ask, find_ask, ls_ask, stat_ask, stats_ask, total_ask, ask_reply}
+use Rattle.gufi_top.specs.Reasons.{Reason, word_refused, words_reason, find_reason, select_reason, start_reason, tables_in, trace_in, tree_within}
+use Rattle.gufi_top.specs.Asks.{Ask, walk_ask, find_ask, ls_ask, stat_ask, stats_ask, total_ask, query_ask, ask_reply}
 
 -- what goes to the output, and the note of status 0
 pub record Written : Type 0 where
@@ -94,6 +96,13 @@ report_of report_words.Leaves = reports.Leaves
 abbrev pub stats_asking : Report → Asking
 stats_asking report tables = Ok (stats_ask report)
 
+-- the text of a query, in which no users play a part
+abbrev pub select_in : ℕ → List ℕ → Result Select Reason
+select_in user_at text = result_map_err (select_reason user_at) (read_select text)
+
+abbrev pub query_asking : ℕ → List ℕ → Asking
+query_asking user_at text tables = select_in user_at text >>= λ select. Ok (query_ask select)
+
 -- ---- rollup: its report is a note
 
 abbrev pub rolled_up : ℕ → List Directory → Result Verdict Reason
@@ -139,7 +148,7 @@ unfoldable pub command_over : Command → Files → Result Verdict Reason
 command_over (commands.Walk trace uid gids delim) = walk_over trace (principal uid gids) delim
 command_over (commands.Trace2index trace delim) = not_open
 command_over (commands.Rollup index delim limit) = rollup_over index delim limit
-command_over (commands.Query common text) = not_open
+command_over (commands.Query common text) = ask_over common (query_asking common.user_at text)
 command_over (commands.Find common now words) = ask_over common (find_asking common.user_at now words)
 command_over (commands.Ls common long all) = ask_over common (ls_asking long all)
 command_over (commands.Stat common) = ask_over common stat_asking

@@ -5,7 +5,7 @@ ghost use Rattle.gufi_sums.specs.Total.{total};
 ghost use Rattle.gufi_tree.specs.Tree.{Directory, HasTreeShape, dir_row};
 ghost use Rattle.gufi_tree.specs.Resolve.{resolve};
 ghost use Rattle.gufi_walk.specs.Answer.{answer, refusal_of};
-ghost use Rattle.gufi_top.specs.Asks.{walk_ask, find_ask, ls_ask, stat_ask, stats_ask, total_ask, total_line, ask_reply};
+ghost use Rattle.gufi_top.specs.Asks.{walk_ask, find_ask, ls_ask, stat_ask, stats_ask, total_ask, query_ask, total_line, ask_reply};
 ghost use Rattle.gufi_top.specs.Calls.{Replies};
 ghost use Rattle.gufi_top.specs.Starts.{StartsWithRow};
 
@@ -13,6 +13,7 @@ use gufi_access::Principal;
 use gufi_base::{Always, Bytes, Memory, Path, PathList, Pred, Rec, Row, RowList};
 use gufi_find::FindExpr;
 use gufi_list::{OneBelow, ls_text, stat_text, total_text};
+use gufi_select::{Select, select_text};
 use gufi_snap::Snapshot;
 use gufi_stats::{Report, stats_text};
 use gufi_sums::{NoSkip, Summary};
@@ -239,6 +240,22 @@ pub(crate) fn record_text(
 {
     match start_row(alloc, snap, who, start) {
         Ok(row) => record_with(alloc, snap, who, start, &row),
+        Err(refusal) => Err(refusal),
+    }
+}
+
+/// What a SELECT prints of the rows that the principal lists from the start and for which it is true.
+pub(crate) fn query_text(
+    alloc: Global,
+    snap: &Snapshot,
+    who: &Principal,
+    start: &Path,
+    select: &Select,
+) -> Result<Vec<u8>, Refusal>
+    ensures { Replies result (ask_reply snap.now.tree who.now start.now (query_ask select.now)) }
+{
+    match rows_of(alloc, snap, who, start, select) {
+        Ok(rows) => Ok(select_text(alloc, select, &rows, start)?),
         Err(refusal) => Err(refusal),
     }
 }

@@ -10,7 +10,7 @@ use crate::generate::generate;
 use crate::halt::{Halt, Text, refused};
 use crate::note;
 use crate::query::ask;
-use crate::question::{Find, Ls, Stat, Stats};
+use crate::question::{Find, Ls, Query, Stat, Stats};
 use crate::rollup::rollup;
 use crate::walk::walk;
 use gufi_access::{Groups, Principal};
@@ -99,6 +99,15 @@ pub(crate) fn answer_command<F: Shelf>(
                 user_at: common.user_at,
                 moment: *now,
                 words: words.as_slice(),
+            },
+        ),
+        Command::Query { common, text } => ask(
+            alloc,
+            shelf,
+            common,
+            &Query {
+                user_at: common.user_at,
+                text: text.as_str().as_bytes(),
             },
         ),
         Command::Ls { common, long, all } => ask(

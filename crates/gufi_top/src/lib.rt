@@ -13,6 +13,8 @@ mod halt;
 mod laws;
 mod note;
 mod query;
+#[cfg(test)]
+mod query_tests;
 mod question;
 mod reading;
 #[cfg(test)]

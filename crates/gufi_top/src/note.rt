@@ -1,17 +1,19 @@
 //! The notes of refusals.
 ghost use Rattle.std.specs.Prelude.{◌≡◌, IfOk};
-ghost use Rattle.gufi_top.specs.Reasons.{word_refused, word_fault, not_found, past_limit, line_refused, denied, no_such, not_dir, class_text};
+ghost use Rattle.gufi_top.specs.Reasons.{word_refused, word_fault, text_fault, not_found, past_limit, line_refused, denied, no_such, not_dir, class_text};
 ghost use Rattle.gufi_top.specs.Ends.{read_fault_note, write_fault_note, memory_note};
 ghost use Rattle.gufi_trace.specs.TraceText.{fault_text, failure_text, of_tree};
 ghost use Rattle.std.specs.Prelude.{◌++◌, codes, decimal};
 ghost use Rattle.gufi_users.specs.Users.{user_kind_text};
 ghost use Rattle.gufi_roll.specs.CanRoll.{report_text};
 ghost use Rattle.gufi_find.specs.Faults.{find_kind_text};
+ghost use Rattle.gufi_select.specs.Faults.{select_kind_text};
 ghost use Rattle.gufi_base.specs.Words.{line};
 
 use gufi_access::Class;
 use gufi_find::FindKind;
 use gufi_roll::RollReport;
+use gufi_select::SelectKind;
 use gufi_trace::{TraceFault, put_tree_fault};
 use gufi_tree::TreeFault;
 use gufi_users::UserKind;
@@ -146,4 +148,16 @@ pub(crate) fn tree_line(alloc: Global, file: &str, fault: TreeFault) -> Result<V
     }
     note.push(b'\n')?;
     Ok(note)
+}
+
+/// An offset in the text of a query that is at fault.
+pub(crate) fn select_word(
+    alloc: Global,
+    word: u32,
+    offset: u32,
+    kind: SelectKind,
+) -> Result<Vec<u8>, AllocError>
+    ensures { IfOk result (λ note. note.items ≡ (text_fault word offset (select_kind_text kind)).note) }
+{
+    Ok(format!(in alloc; "gufi: word {word} at {offset} {kind}\n")?.into_bytes())
 }

@@ -3,14 +3,16 @@ ghost use Rattle.std.specs.Prelude.{◌≡◌, ◌≢◌, ℕ, ◌+◌, List, Re
 ghost use Rattle.gufi_base.specs.Words.{capped_number};
 ghost use Rattle.gufi_find.specs.Expressions.{Find as SeenFind};
 ghost use Rattle.gufi_find.specs.Faults.{find_kind_text};
+ghost use Rattle.gufi_select.specs.Columns.{Select as SeenSelect};
+ghost use Rattle.gufi_select.specs.Faults.{select_kind_text};
 ghost use Rattle.gufi_users.specs.Entries.{UserTables};
-ghost use Rattle.gufi_top.specs.Asks.{Ask, find_ask};
-ghost use Rattle.gufi_top.specs.Reasons.{Reason, word_fault};
+ghost use Rattle.gufi_top.specs.Asks.{Ask, find_ask, query_ask};
+ghost use Rattle.gufi_top.specs.Reasons.{Reason, word_fault, text_fault};
 ghost use Rattle.gufi_top.specs.Views.{text_view};
-ghost use Rattle.gufi_top.specs.Verdict.{asked, asked_if, expression_in, find_asking, ls_asking, stat_asking, stats_asking};
+ghost use Rattle.gufi_top.specs.Verdict.{asked, asked_if, expression_in, find_asking, ls_asking, stat_asking, stats_asking, select_in, query_asking};
 ghost use Rattle.gufi_top.specs.Calls.{Gives, IsOfBytes};
 
-use crate::ask::{find_text, listing_text, record_text, report_text};
+use crate::ask::{find_text, listing_text, query_text, record_text, report_text};
 use crate::halt::{Halt, Text as Written, refused};
 use crate::note;
 use crate::start::written;
@@ -18,6 +20,7 @@ use crate::walk::snapshot_of;
 use gufi_access::Principal;
 use gufi_base::{Path, Text};
 use gufi_find::{FindError, FindExpr, FindKind, read_find};
+use gufi_select::{Select, SelectError, SelectKind, read_select};
 use gufi_stats::Report;
 use gufi_tree::Tree;
 use gufi_users::Users;
@@ -192,5 +195,82 @@ impl Question for Stats {
         let snap = snapshot_of(alloc, tree, limit)?;
         let reply = report_text(alloc, &snap, who, start, self.report);
         written(alloc, snap, reply)
+    }
+}
+
+/// The columns of the rows for which a SELECT is true.
+#[derive(Clone, Copy)]
+pub(crate) struct Query<'a> {
+    /// The number of the word USER, behind which START and the text stand.
+    pub(crate) user_at: u32,
+    pub(crate) text: &'a [u8],
+}
+
+// The number of the word that is a query's text; the last that can be told stands for all above it.
+fn text_word(user_at: u32) -> u32
+    ensures { result ≡ capped_number (user_at + 2) }
+{
+    user_at.saturating_add(2)
+}
+
+// A query isn't read: its text is faulty at an offset.
+fn refuse_text<T>(alloc: Global, word: u32, offset: u32, kind: SelectKind) -> Result<T, Halt>
+    ensures reason { Gives (λ (x : T). x) result (Err (text_fault word offset (select_kind_text kind))) }
+    ensures of_bytes { IfErr result IsOfBytes }
+{
+    refused(2, note::select_word(alloc, word, offset, kind)?)
+}
+
+impl Query<'_> {
+    // The SELECT that the text is.
+    fn select(&self, alloc: Global) -> Result<Select, Halt>
+        ensures select { Gives (λ (s : SeenSelect). s) result (select_in self.now.user_at self.now.text.now) }
+        ensures of_bytes { IfErr result IsOfBytes }
+    {
+        match read_select(alloc, self.text) {
+            Ok(select) => Ok(select),
+            Err(SelectError::Fault { at, kind }) => {
+                refuse_text(alloc, text_word(self.user_at), at, kind)
+            }
+            Err(SelectError::Memory) => Err(Halt::Memory),
+        }
+    }
+}
+
+// What a SELECT writes of the rows for which it is true.
+#[tactic(auto, using(crate::proofs::AskLemmas::asking))]
+fn query_in(
+    alloc: Global,
+    select: &Select,
+    tree: Tree,
+    limit: u64,
+    who: &Principal,
+    start: &Path,
+) -> Result<Written, Halt>
+    ensures text { Gives text_view result (asked tree who.now start.now (query_ask select.now)) }
+    ensures of_bytes { IfErr result IsOfBytes }
+{
+    let snap = snapshot_of(alloc, tree, limit)?;
+    let reply = query_text(alloc, &snap, who, start, select);
+    written(alloc, snap, reply)
+}
+
+impl Question for Query<'_> {
+    ghost asks = { λ query. query_asking query.user_at query.text.now };
+
+    #[tactic(auto, using(crate::proofs::QueryLemmas::selects))]
+    fn answer(
+        &self,
+        alloc: Global,
+        _users: &Users,
+        tree: Tree,
+        limit: u64,
+        who: &Principal,
+        start: &Path,
+    ) -> Result<Written, Halt> {
+        match self.select(alloc) {
+            Ok(select) => query_in(alloc, &select, tree, limit, who, start),
+            Err(halt) => Err(halt),
+        }
     }
 }
