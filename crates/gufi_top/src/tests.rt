@@ -80,7 +80,7 @@ lab:x:500:ana,bob
 
 const WALK: &[&str] = &["walk", "t", "102", "-", "|"];
 
-fn shelf_of<R: AllocGlobal + Abort>(
+pub(crate) fn shelf_of<R: AllocGlobal + Abort>(
     rt: &R,
     name: &str,
     bytes: Vec<u8>,
@@ -96,12 +96,12 @@ fn shelf_of<R: AllocGlobal + Abort>(
     Ok(MemShelf::new(files, 65_536, Vec::new(alloc), bad_reads.to_vec(alloc)?))
 }
 
-fn sink_of(alloc: Global, bad_writes: &[u64]) -> Result<MemSink, AllocError> {
+pub(crate) fn sink_of(alloc: Global, bad_writes: &[u64]) -> Result<MemSink, AllocError> {
     let room = vec![in alloc; 0; 600]?;
     Ok(MemSink::new(room, 5, bad_writes.to_vec(alloc)?))
 }
 
-fn words_of(alloc: Global, words: &[&str]) -> Result<Vec<String>, AllocError> {
+pub(crate) fn words_of(alloc: Global, words: &[&str]) -> Result<Vec<String>, AllocError> {
     let mut all = Vec::with_capacity(alloc, words.len())?;
     for word in words {
         all.push(String::from_str(alloc, word)?)?;
@@ -325,26 +325,6 @@ fn listings_have_names_of_owners(rt: HostRuntime) -> Result<(), Fail> {
         b"drwx------ 2 ana ana 4096 1700000000 ana\ndrwxrws--- 2 root lab 4096 1700000000 proj\n",
         b"",
     )
-}
-
-#[test]
-fn roll_ups_are_reported(rt: HostRuntime) -> Result<(), Fail> {
-    for (bytes, limit, note) in [
-        (B, "--limit=100", b"rolled 1 of 2 tops 1 rows 2\n"),
-        (D, "--limit=100", b"rolled 3 of 3 tops 1 rows 3\n"),
-        (D, "--limit=2", b"rolled 2 of 3 tops 1 rows 2\n"),
-        (D, "--limit=0", b"rolled 0 of 3 tops 0 rows 0\n"),
-    ] {
-        check_run(
-            &rt,
-            bytes,
-            &["rollup", "--delim=|", limit, "t"],
-            0,
-            b"",
-            note,
-        )?;
-    }
-    Ok(())
 }
 
 #[test]
