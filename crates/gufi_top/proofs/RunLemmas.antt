@@ -13,7 +13,8 @@ use Rattle.gufi_words.specs.declared.word.WordError.TheVariants as word_errors
 use Rattle.gufi_tree.specs.Tree.{Directory}
 use Rattle.gufi_top.specs.Asks.{walk_ask}
 use Rattle.gufi_top.specs.Reasons.{Reason, word_refused, words_reason, trace_in}
-use Rattle.gufi_top.specs.Verdict.{Verdict, writes, asked, walk_over, rolled_up, rollup_over, command_over, command_in, verdict, may_refuse, may_refuse_words}
+use Rattle.gufi_image.specs.Image.{image_text}
+use Rattle.gufi_top.specs.Verdict.{Verdict, writes, writes_only, asked, walk_over, trace2index_over, rolled_up, rollup_over, command_over, command_in, verdict, may_refuse, may_refuse_words}
 use Rattle.gufi_top.specs.Calls.{Gives, GivesOver, OfWordsOnlyIf}
 use Rattle.gufi_top.specs.Views.{text_view}
 use Rattle.gufi_top.specs.Ends.{BreaksOff, MayEnd, MayBreakOff, MayBeCut, TakesNote, Ended, BrokenOff, TextEnds, WriteFaulted}
@@ -33,6 +34,16 @@ pub walk_err : (told : Option Files) (trace : List ℕ) (who : Principal) (delim
     → GivesOver {A = List Directory} told (λ t. t) (Err e) (trace_in delim trace) → GivesOver told text_view (Err e) (walk_over trace who delim)
 unfolding walk_over
 walk_err told trace who delim e read = over_err told (λ t. t) text_view e (trace_in delim trace) (λ t files. asked t who [] walk_ask) read
+
+pub trace2index_ok : (told : Option Files) (trace : List ℕ) (delim : ℕ) (tree : List Directory) (r : Result Text Halt)
+    → GivesOver {A = List Directory} told (λ t. t) (Ok tree) (trace_in delim trace) → Gives text_view r (writes_only (image_text tree 0)) → GivesOver told text_view r (trace2index_over trace delim)
+unfolding trace2index_over
+trace2index_ok told trace delim tree r read given = over_ok told (λ t. t) text_view tree r (trace_in delim trace) (λ t files. writes_only (image_text t 0)) read (given_over told text_view r _ given)
+
+pub trace2index_err : (told : Option Files) (trace : List ℕ) (delim : ℕ) (e : Halt)
+    → GivesOver {A = List Directory} told (λ t. t) (Err e) (trace_in delim trace) → GivesOver told text_view (Err e) (trace2index_over trace delim)
+unfolding trace2index_over
+trace2index_err told trace delim e read = over_err told (λ t. t) text_view e (trace_in delim trace) (λ t files. writes_only (image_text t 0)) read
 
 pub rollup_ok : (told : Option Files) (index : List ℕ) (delim limit : ℕ) (tree : List Directory) (r : Result Text Halt)
     → GivesOver {A = List Directory} told (λ t. t) (Ok tree) (trace_in delim index) → Gives text_view r (rolled_up limit tree) → GivesOver told text_view r (rollup_over index delim limit)
@@ -63,7 +74,7 @@ words_err words (halts.Refused status note) read = λ _. rw read refl
 words_err words halts.ReadFault read = tt
 words_err words halts.Memory read = tt
 
-pub ruleset chaining = (walk_ok, walk_err, rollup_ok, rollup_err, answer_ok, answer_err, words_ok, words_err)
+pub ruleset chaining = (walk_ok, walk_err, trace2index_ok, trace2index_err, rollup_ok, rollup_err, answer_ok, answer_err, words_ok, words_err)
 
 -- ---- the words
 

@@ -16,6 +16,7 @@ use Rattle.gufi_stats.specs.declared.report.Report.{Report}
 use Rattle.gufi_stats.specs.declared.report.Report.TheVariants as reports
 use Rattle.gufi_gen.specs.Generated.{gen_text}
 use Rattle.gufi_roll.specs.CanRoll.{roll_flags, roll_report, report_text}
+use Rattle.gufi_image.specs.Image.{image_text}
 use Rattle.gufi_walk.specs.declared.refusal.Refusal.{Refusal}
 use Rattle.gufi_words.specs.CommandWords.{read_words}
 use Rattle.gufi_words.specs.declared.command.ReportWord.{ReportWord}
@@ -103,10 +104,15 @@ select_in user_at text = result_map_err (select_reason user_at) (read_select tex
 abbrev pub query_asking : ℕ → List ℕ → Asking
 query_asking user_at text tables = select_in user_at text >>= λ select. Ok (query_ask select)
 
--- ---- rollup: its report is a note
+-- ---- trace2index: the image of a trace's tree, of which nothing is rolled up
+
+unfoldable pub trace2index_over : List ℕ → ℕ → Files → Result Verdict Reason
+trace2index_over trace delim files = trace_in delim trace files >>= λ tree. writes_only (image_text tree 0)
+
+-- ---- rollup: an image, and its report as a note
 
 abbrev pub rolled_up : ℕ → List Directory → Result Verdict Reason
-rolled_up limit tree = Ok (writes (record { out = []; notes = report_text (roll_report tree (roll_flags tree limit)) }))
+rolled_up limit tree = Ok (writes (record { out = image_text tree limit; notes = report_text (roll_report tree (roll_flags tree limit)) }))
 
 unfoldable pub rollup_over : List ℕ → ℕ → ℕ → Files → Result Verdict Reason
 rollup_over index delim limit files = trace_in delim index files >>= rolled_up limit
@@ -146,7 +152,7 @@ not_open files = Err (word_refused 1)
 
 unfoldable pub command_over : Command → Files → Result Verdict Reason
 command_over (commands.Walk trace uid gids delim) = walk_over trace (principal uid gids) delim
-command_over (commands.Trace2index trace delim) = not_open
+command_over (commands.Trace2index trace delim) = trace2index_over trace delim
 command_over (commands.Rollup index delim limit) = rollup_over index delim limit
 command_over (commands.Query common text) = ask_over common (query_asking common.user_at text)
 command_over (commands.Find common now words) = ask_over common (find_asking common.user_at now words)
@@ -168,7 +174,7 @@ verdict words files = command_in words >>= λ command. command_over command file
 -- The words may be refused: they are no command, or one that isn't open, or one that has a USER.
 abbrev pub may_refuse : Command → Bool
 may_refuse (commands.Walk trace uid gids delim) = false
-may_refuse (commands.Trace2index trace delim) = true
+may_refuse (commands.Trace2index trace delim) = false
 may_refuse (commands.Rollup index delim limit) = false
 may_refuse (commands.Query common text) = true
 may_refuse (commands.Find common now words) = true

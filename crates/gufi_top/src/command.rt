@@ -11,7 +11,7 @@ use crate::halt::{Halt, Text, refused};
 use crate::note;
 use crate::query::ask;
 use crate::question::{Find, Ls, Query, Stat, Stats};
-use crate::rollup::rollup;
+use crate::rollup::{rollup, trace2index};
 use crate::walk::walk;
 use gufi_access::{Groups, Principal};
 use gufi_base::Nums;
@@ -86,6 +86,9 @@ pub(crate) fn answer_command<F: Shelf>(
             gids,
             delim,
         } => walk_as(alloc, shelf, trace.as_str(), *uid, gids, *delim),
+        Command::Trace2index { trace, delim } => {
+            trace2index(alloc, shelf, trace.as_str(), *delim)
+        }
         Command::Rollup {
             index,
             delim,

@@ -10,6 +10,8 @@ mod command;
 mod find_tests;
 mod generate;
 mod halt;
+#[cfg(test)]
+mod image_tests;
 mod laws;
 mod note;
 mod query;

@@ -1,18 +1,33 @@
-//! `rollup`: what can be rolled up under a limit.
+//! `rollup`: the image of an index under a limit, and what of it is rolled up. `trace2index`: the image of a trace.
 ghost use Rattle.std.specs.Prelude.{◌≡◌, ◌≢◌, [], Ok, IfOk, IfErr};
 ghost use Rattle.gufi_roll.specs.CanRoll.{roll_report, roll_flags, report_text};
+ghost use Rattle.gufi_image.specs.Image.{image_text};
 ghost use Rattle.gufi_top.specs.Views.{text_view};
-ghost use Rattle.gufi_top.specs.Verdict.{rolled_up, rollup_over};
+ghost use Rattle.gufi_top.specs.Verdict.{writes_only, trace2index_over, rolled_up, rollup_over};
 ghost use Rattle.gufi_top.specs.Calls.{Gives, GivesOver, IsOfBytes, IsPastWords, HaltHasCause};
 
 use crate::halt::{Halt, Text};
 use crate::note;
 use crate::reading::read_trace_file;
+use crate::walk::snapshot_of;
 use gufi_base::Memory;
+use gufi_image::write_image;
 use gufi_io::Shelf;
 use gufi_roll::{RollReport, roll, roll_report};
 use gufi_tree::Tree;
 use std::alloc::Global;
+use std::mem::forget;
+
+/// The image of a tree whose roll-up has this limit.
+fn image_of(alloc: Global, tree: Tree, limit: u64) -> Result<Vec<u8>, Memory>
+    ensures { IfOk result (λ image. image.items ≡ image_text tree limit) }
+{
+    let snap = snapshot_of(alloc, tree, limit)?;
+    let image = write_image(alloc, &snap);
+    // The run ends soon, so the snapshot isn't given back part by part.
+    forget(snap);
+    image
+}
 
 /// What a tree's roll-up comes to.
 pub(crate) fn report_of(alloc: Global, tree: &Tree, limit: u64) -> Result<RollReport, Memory>
@@ -22,18 +37,16 @@ pub(crate) fn report_of(alloc: Global, tree: &Tree, limit: u64) -> Result<RollRe
     Ok(roll_report(tree, &flags))
 }
 
-// What `rollup` writes of a tree: a report, as a note.
-fn roll_tree(alloc: Global, tree: &Tree, limit: u64) -> Result<Text, Halt>
-    ensures text { Gives text_view result (rolled_up limit tree.now) }
+// What `rollup` writes of a tree: its image, and a report as a note.
+fn roll_tree(alloc: Global, tree: Tree, limit: u64) -> Result<Text, Halt>
+    ensures text { Gives text_view result (rolled_up limit tree) }
     ensures of_bytes { IfErr result IsOfBytes }
     ensures past_words { IfErr result IsPastWords }
 {
-    let report = report_of(alloc, tree, limit)?;
+    let report = report_of(alloc, &tree, limit)?;
     let notes = note::report(alloc, report)?;
-    Ok(Text {
-        out: Vec::new(alloc),
-        notes,
-    })
+    let out = image_of(alloc, tree, limit)?;
+    Ok(Text { out, notes })
 }
 
 /// What `rollup` writes of an index.
@@ -50,7 +63,38 @@ pub(crate) fn rollup<F: Shelf>(
     ensures cause { IfErr result (HaltHasCause (F.faults shelf.old) (F.faults shelf.new) (F.absents shelf.old) (F.absents shelf.new)) }
 {
     match read_trace_file(alloc, shelf, index, delim) {
-        Ok(tree) => roll_tree(alloc, &tree, limit),
+        Ok(tree) => roll_tree(alloc, tree, limit),
+        Err(halt) => Err(halt),
+    }
+}
+
+// What `trace2index` writes of a tree.
+fn image_text_of(alloc: Global, tree: Tree) -> Result<Text, Halt>
+    ensures text { Gives text_view result (writes_only (image_text tree 0)) }
+    ensures of_bytes { IfErr result IsOfBytes }
+    ensures past_words { IfErr result IsPastWords }
+{
+    let out = image_of(alloc, tree, 0)?;
+    Ok(Text {
+        out,
+        notes: Vec::new(alloc),
+    })
+}
+
+/// What `trace2index` writes of a trace.
+#[tactic(auto, using(crate::proofs::RunLemmas::chaining))]
+pub(crate) fn trace2index<F: Shelf>(
+    alloc: Global,
+    shelf: &mut F,
+    trace: &str,
+    delim: u8,
+) -> Result<Text, Halt>
+    ensures text { GivesOver (F.files shelf.old) text_view result (trace2index_over trace.now delim) }
+    ensures past_words { IfErr result IsPastWords }
+    ensures cause { IfErr result (HaltHasCause (F.faults shelf.old) (F.faults shelf.new) (F.absents shelf.old) (F.absents shelf.new)) }
+{
+    match read_trace_file(alloc, shelf, trace, delim) {
+        Ok(tree) => image_text_of(alloc, tree),
         Err(halt) => Err(halt),
     }
 }

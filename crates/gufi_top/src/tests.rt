@@ -328,26 +328,6 @@ fn listings_have_names_of_owners(rt: HostRuntime) -> Result<(), Fail> {
 }
 
 #[test]
-fn roll_ups_are_reported(rt: HostRuntime) -> Result<(), Fail> {
-    for (bytes, limit, note) in [
-        (B, "--limit=100", b"rolled 1 of 2 tops 1 rows 2\n"),
-        (D, "--limit=100", b"rolled 3 of 3 tops 1 rows 3\n"),
-        (D, "--limit=2", b"rolled 2 of 3 tops 1 rows 2\n"),
-        (D, "--limit=0", b"rolled 0 of 3 tops 0 rows 0\n"),
-    ] {
-        check_run(
-            &rt,
-            bytes,
-            &["rollup", "--delim=|", limit, "t"],
-            0,
-            b"",
-            note,
-        )?;
-    }
-    Ok(())
-}
-
-#[test]
 fn faults_have_causes(rt: HostRuntime) -> Result<(), Fail> {
     let read = Case {
         words: WALK,

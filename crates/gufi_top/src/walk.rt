@@ -18,7 +18,7 @@ use std::alloc::Global;
 
 /// The snapshot of a tree whose roll-up has this limit.
 pub(crate) fn snapshot_of(alloc: Global, tree: Tree, limit: u64) -> Result<Snapshot, Memory>
-    ensures { IfOk result (λ snap. snap.tree ≡ tree) }
+    ensures { IfOk result (λ snap. snap ≡ record { tree = tree; limit = limit }) }
 {
     Snapshot::build_uncounted(alloc, tree, limit)
 }
