@@ -13,11 +13,20 @@ use std::{env, io};
 
 const USAGE: &str = "usage: gufi COMMAND ..
 
-  walk TRACE UID GIDS [DELIM]   paths of all that the principal can list by walking from the root
-  --help                        this page
-  --version                     the program's version
+  walk TRACE UID GIDS [DELIM]         paths of all that the principal can list by walking from the root
+  find [..] INDEX USER START WORD..   paths of the rows for which the expression is true
+  query [..] INDEX USER START TEXT    columns of the rows that a SELECT chooses
+  ls [..] INDEX USER START            names one level below the start
+  stat [..] INDEX USER START          the start's record, and the sum of all that the user lists below it
+  stats [..] INDEX USER START REPORT  levels, uids, gids or leaves of all that the user lists
+  trace2index [..] TRACE              the image of a trace's index
+  rollup --limit=N [..] INDEX         the image under a limit, and what is rolled up
+  gen [..] N                          a generated trace of N directories
+  --help                              this page
+  --version                           the program's version
 
 GIDS is - for none, or numbers separated by commas. DELIM is the byte between a trace's fields.
+[..] are options; the guide, docs/guide.md, tells them.
 ";
 
 // The words after the program's name.
