@@ -1,5 +1,5 @@
 #!/usr/bin/env python3
-"""Processor time, peak memory and instructions of `gufi walk`, `stat` and `find` over a trace, beside another program's where one is named.
+"""Processor time, peak memory and instructions of commands over a trace, beside another program's where one is named.
 
   python3 walk.py TRACE [--program ../gufi] [--uid 2007] [--gids 5001,5002] [--runs 5] [--instructions] [--peer 'COMMAND ..']
 
@@ -15,8 +15,10 @@ import subprocess
 import sys
 
 
-# Large files of one kind.
+# Large files of one kind by an expression; large files, and files of one kind, by a SELECT.
 LARGE = ["-name", "*.h5", "-size", "+2048"]
+LARGER = "SELECT path, size FROM entries WHERE size > 1000000"
+NAMED = "SELECT path FROM entries WHERE name REGEXP '\\.h5$'"
 
 
 def once(command):
@@ -67,6 +69,9 @@ def main():
         "stat as root": [given.program, "stat", given.trace, "0", "/"],
         "find as %s" % given.uid: [given.program, "find", given.trace, "%s:%s" % (given.uid, given.gids), "/"] + LARGE,
         "find as root": [given.program, "find", given.trace, "0", "/"] + LARGE,
+        "SELECT by size": [given.program, "query", given.trace, "%s:%s" % (given.uid, given.gids), "/", LARGER],
+        "SELECT by REGEXP": [given.program, "query", given.trace, "%s:%s" % (given.uid, given.gids), "/", NAMED],
+        "trace2index": [given.program, "trace2index", given.trace],
     }
     if given.peer:
         commands["peer"] = shlex.split(given.peer)
