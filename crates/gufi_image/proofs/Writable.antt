@@ -160,8 +160,8 @@ not_first first bs d more up root =
     not_least first.path (ap (path_cmp first.path) (sym root) ∙ ap (λ (v : Directory). path_cmp first.path v.path) (sym (get_or-append_seam (first ∷ bs) d more first)) ∙ less)
 
 -- Its entries have other names than the directories in it.
-free_name : (tree : List Directory) (parent d : Directory) (name : List ℕ) → list_all (is_entry_of tree parent.path) parent.entries ≡ true → has_dir tree (parent.path ++ name ∷ []) ≡ true → has_entry_named name parent ≡ false
-free_name tree parent d name each there = false_from (has_entry_named name parent) (λ taken. by (Any-from_list_any (λ (e : Entry). bytes_eq name e.name) parent.entries taken)) where
+free_name : (tree : List Directory) (parent : Directory) (name : List ℕ) → list_all (is_entry_of tree parent.path) parent.entries ≡ true → has_dir tree (parent.path ++ name ∷ []) ≡ true → has_entry_named name parent ≡ false
+free_name tree parent name each there = false_from (has_entry_named name parent) (λ taken. by (Any-from_list_any (λ (e : Entry). bytes_eq name e.name) parent.entries taken)) where
   by : Any (λ (e : Entry). bytes_eq name e.name ≡ true) parent.entries → ⊥
   by w =
       let e = w.1 in
@@ -198,7 +198,7 @@ child first bs d more up each =
       parent = parent;
       number = place;
       there = there;
-      below = record { name = name; is = split; free = free_name all parent d name (each place parent whole).each found };
+      below = record { name = name; is = split; free = free_name all parent name (each place parent whole).each found };
       above = above_last dir_cmp first bs d more up;
     }
 
