@@ -9,8 +9,8 @@ ghost use Rattle.gufi_tree.specs.Places.{path_at};
 ghost use Rattle.gufi_store.specs.Scan.{is_met};
 ghost use Rattle.gufi_sums.specs.Total.{IsTotal};
 
-use crate::stores::stores_of;
-use crate::sums::{add_below, own_sums};
+use crate::stores::stores_and_sums;
+use crate::sums::add_below;
 use gufi_base::{Memory, Pred, Steps, Yield};
 use gufi_store::{DirStore, scan_fold};
 use gufi_sums::Summary;
@@ -54,8 +54,7 @@ impl Contents {
         ensures ticks { OnOk result (steps.new ≡ steps.old + length tree) }
         ensures at_most { steps.new ≤ steps.old + length tree }
     {
-        let stores = stores_of(alloc, &tree, steps)?;
-        let own_sums = own_sums(alloc, &tree)?;
+        let (stores, own_sums) = stores_and_sums(alloc, &tree, steps)?;
         let mut tree_sums = Vec::from_slice(alloc, &own_sums)?;
         add_below(&tree, &mut tree_sums);
         Ok(Contents {

@@ -1,6 +1,6 @@
 //! The sums of the rows of each directory, and of the rows at and below it.
 
-ghost use Rattle.std.specs.Prelude.{◌≡◌, ℕ, ◌+◌, ◌≤◌, ◌<◌, ◌^◌, List, ◌++◌, map, length, slice_index_or, IfOk};
+ghost use Rattle.std.specs.Prelude.{◌≡◌, ℕ, ◌+◌, ◌≤◌, ◌<◌, ◌^◌, List, ◌++◌, map, length, slice_index_or};
 ghost use Rattle.std.specs.List.{flat_map};
 ghost use Rattle.gufi_base.specs.declared.record.Row.{Row};
 ghost use Rattle.gufi_tree.specs.Tree.{Directory, own_rows, entry_row, HasTreeShape};
@@ -13,7 +13,6 @@ ghost use Rattle.gufi_snap.specs.SumsByPlace.{AreOwn, AreUnderFrom};
 use gufi_base::Rec;
 use gufi_sums::Summary;
 use gufi_tree::{DirId, Entry, Tree};
-use std::alloc::{AllocError, Global};
 
 /// Adds the records of entries to a sum.
 fn add_entries(sum: &mut Summary, entries: &[Entry])
@@ -37,24 +36,13 @@ fn own_sum(rec: &Rec, entries: &[Entry]) -> Summary
     sum
 }
 
-fn own_sum_at(tree: &Tree, id: DirId) -> Summary
+/// The sum of the rows of the directory at a place.
+pub(crate) fn own_sum_at(tree: &Tree, id: DirId) -> Summary
     requires id { id.0 < length tree.now }
     requires few { length (flat_map own_rows tree.now) < 2 ^ 32 }
     ensures { (d : Directory) → IsTotal result (own_rows (slice_index_or tree.now id.0 d)) }
 {
     own_sum(tree.rec(id), tree.entries(id))
-}
-
-/// The sum of the rows of each directory, in path order. One pass over all rows.
-pub(crate) fn own_sums(alloc: Global, tree: &Tree) -> Result<Vec<Summary>, AllocError>
-    requires { length (flat_map own_rows tree.now) < 2 ^ 32 }
-    ensures { IfOk result (λ sums. AreOwn tree.now sums.items) }
-{
-    let mut sums = Vec::with_capacity(alloc, tree.dirs() as usize)?;
-    for place in 0..tree.dirs() {
-        sums.push(own_sum_at(tree, DirId(place)))?;
-    }
-    Ok(sums)
 }
 
 /// The sum of the rows at and below a directory, from its own and those of the directories behind it.

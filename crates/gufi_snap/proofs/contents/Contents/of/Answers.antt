@@ -11,6 +11,6 @@ invariant_of-result g c =
       shape = shape;
       few = subst (λ t. length (flat_map own_rows t) < 2 ^ 32) c.tree.view_is c.tree.invariant.rows;
       same = c.in_ok-stores.ensures.stores;
-      own_sums = own_sums_home c.args.tree c.in_ok-own_sums.own_sums.items shape c.in_ok-own_sums.ensures;
+      own_sums = own_sums_home c.args.tree c.in_ok-stores.own_sums.items shape c.in_ok-stores.ensures.sums;
       tree_sums = tree_sums_under c.args.tree c.add_below.new.sums.items shape c.add_below.ensures.len c.add_below.ensures.under;
     }
