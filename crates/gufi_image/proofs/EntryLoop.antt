@@ -30,7 +30,7 @@ entry_stops path e before seen count i bytes whole same lt h so_far =
     stops (one_entry path) e count i before bytes whole lt here so_far
 
 -- one entry more
-entries_push : (before : List Entry) (entry : Entry) → AreEntries before → follows before entry.name ≡ true → is_dir entry.rec.meta.kind ≡ false → AreEntries (before ++ entry ∷ [])
+pub entries_push : (before : List Entry) (entry : Entry) → AreEntries before → follows before entry.name ≡ true → is_dir entry.rec.meta.kind ≡ false → AreEntries (before ++ entry ∷ [])
 entries_push before entry h above kind = record {
   order = up before h.order above;
   kinds = all_push (λ (e : Entry). not (is_dir e.rec.meta.kind)) before entry h.kinds (ap not kind);

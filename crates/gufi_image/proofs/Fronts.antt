@@ -15,7 +15,7 @@ use Rattle.gufi_tree.specs.Tree.{Directory, dir_cmp, has_dir, is_at}
 use Rattle.gufi_tree.proofs.Built.{path_cmp-total, dir_cmp-total}
 use Rattle.gufi_image.proofs.Searches.{in_order, some_same}
 
-cond_parts : (b c : Bool) → cond b c false ≡ true → (b ≡ true) × (c ≡ true)
+pub cond_parts : (b c : Bool) → cond b c false ≡ true → (b ≡ true) × (c ≡ true)
 cond_parts true c e = (refl, e)
 cond_parts false c e = absurd cc
 

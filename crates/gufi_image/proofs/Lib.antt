@@ -1,6 +1,15 @@
 mod PathSizes
 mod Written
 mod Repeats
+mod FieldsBack
+mod RecordsBack
+mod EntriesBack
+mod PathsBack
+mod DirectoriesBack
+mod FrontsBack
+mod HeadBack
+mod ImageBack
+mod Writable
 mod Searches
 mod EntryLoop
 mod Fronts

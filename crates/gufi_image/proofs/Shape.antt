@@ -29,7 +29,7 @@ placed_parent (d ∷ ds) dir placed =
     let same : parent_path dir.path ≡ p.path = ap parent_path placed.below.is ∙ parent_path-child p.path placed.below.name in
     has_more (d ∷ ds) dir (parent_path dir.path) (any_there (is_at (parent_path dir.path)) (d ∷ ds) placed.number p placed.there ((path_eq-Decides (parent_path dir.path) p.path).1 same))
 
-placed_order : (dirs : List Directory) (dir : Directory) → ascends dir_cmp dirs ≡ true → IsPlaced dirs dir.path → ascends dir_cmp (dirs ++ dir ∷ []) ≡ true
+pub placed_order : (dirs : List Directory) (dir : Directory) → ascends dir_cmp dirs ≡ true → IsPlaced dirs dir.path → ascends dir_cmp (dirs ++ dir ∷ []) ≡ true
 placed_order [] dir up placed = refl
 placed_order (d ∷ ds) dir up placed = push_up dir_cmp d ds dir up placed.above
 
@@ -92,7 +92,7 @@ placed_root : (dirs : List Directory) (dir : Directory) → (is_empty dirs || ha
 placed_root [] dir h placed = ap (λ b. b || false) ((path_eq-Decides [] dir.path).1 (sym placed))
 placed_root (d ∷ ds) dir h placed = has_more (d ∷ ds) dir [] h
 
-front_push : (total : ℕ) (dirs : List Directory) (dir : Directory) → IsFront dirs → IsNext total dirs dir → IsFront (dirs ++ dir ∷ [])
+pub front_push : (total : ℕ) (dirs : List Directory) (dir : Directory) → IsFront dirs → IsNext total dirs dir → IsFront (dirs ++ dir ∷ [])
 front_push total dirs dir h n = record {
   order = up;
   parents = all_push (λ (d : Directory). has_dir more (parent_path d.path)) dirs dir

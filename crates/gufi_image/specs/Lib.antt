@@ -12,3 +12,4 @@ pub mod Sorted
 pub mod Views
 pub mod Placed
 pub mod Parts
+pub mod Laws

@@ -8,12 +8,14 @@ mod directory;
 mod entry;
 mod fault;
 mod fields;
+mod laws;
 mod name;
 mod put;
 mod reader;
 mod writer;
 
 pub use fault::{ImageError, ImageKind};
+pub use laws::{images_have_one_spelling, written_images_read_back};
 pub use reader::read_image;
 pub use writer::write_image;
 
