@@ -1,10 +1,12 @@
 #!/usr/bin/env python3
-"""Processor time, peak memory and instructions of commands over a trace, beside another program's where one is named.
+"""Processor time, peak memory and instructions of commands over a trace and its image, beside other programs' where they are named.
 
-  python3 walk.py TRACE [--program ../gufi] [--uid 2007] [--gids 5001,5002] [--runs 5] [--instructions] [--peer 'COMMAND ..']
+  python3 walk.py TRACE [--image IMAGE] [--program ../gufi] [--uid 2007] [--gids 5001,5002] [--runs 5] [--instructions]
+                  [--only TEXT] [--peer 'NAME=COMMAND ..']..
 
-Runs are interleaved, output goes to /dev/null, files are warm, times are medians of user and system time. The peer is a
-command line that reads the same trace. Instructions are counted by valgrind's callgrind. Nothing here is a test.
+Runs are interleaved, output goes to /dev/null, files are warm, times are medians of user and system time. A peer is a
+command line that reads the same files. The image is what `trace2index` writes of the trace; with it the same questions are
+asked of both. Instructions are counted by valgrind's callgrind. Nothing here is a test.
 """
 import argparse
 import os
@@ -49,6 +51,35 @@ def instructions(command):
     return next(int(line.split(":")[1]) for line in run.stderr.splitlines() if "Collected" in line)
 
 
+def questions(program, index, user):
+    """Questions that an index answers, by their names."""
+    return {
+        "stat as user": [program, "stat", index, user, "/"],
+        "stat as root": [program, "stat", index, "0", "/"],
+        "find as user": [program, "find", index, user, "/"] + LARGE,
+        "find as root": [program, "find", index, "0", "/"] + LARGE,
+        "all as user": [program, "find", index, user, "/"],
+        "all as root": [program, "find", index, "0", "/"],
+        "SELECT by size": [program, "query", index, user, "/", LARGER],
+        "SELECT by REGEXP": [program, "query", index, user, "/", NAMED],
+    }
+
+
+def asked_of(given):
+    """The commands that are measured: over the trace, and over its image where one is given."""
+    user = "%s:%s" % (given.uid, given.gids)
+    commands = {
+        "walk as user": [given.program, "walk", given.trace, given.uid, given.gids],
+        "walk as root": [given.program, "walk", given.trace, "0", "-"],
+        "trace2index": [given.program, "trace2index", given.trace],
+    }
+    commands.update(questions(given.program, given.trace, user))
+    if given.image:
+        for name, command in questions(given.program, given.image, user).items():
+            commands["image: " + name] = command
+    return commands
+
+
 def main():
     here = os.path.dirname(os.path.abspath(__file__))
     parser = argparse.ArgumentParser()
@@ -58,26 +89,20 @@ def main():
     parser.add_argument("--gids", default="5001,5002")
     parser.add_argument("--runs", type=int, default=5)
     parser.add_argument("--instructions", action="store_true")
-    parser.add_argument("--peer")
+    parser.add_argument("--image")
+    parser.add_argument("--only")
+    parser.add_argument("--peer", action="append", default=[])
     given = parser.parse_args()
     with open(given.trace, "rb") as file:
         rows = sum(piece.count(b"\n") for piece in iter(lambda: file.read(1 << 20), b""))
-    commands = {
-        "walk as %s" % given.uid: [given.program, "walk", given.trace, given.uid, given.gids],
-        "walk as root": [given.program, "walk", given.trace, "0", "-"],
-        "stat as %s" % given.uid: [given.program, "stat", given.trace, "%s:%s" % (given.uid, given.gids), "/"],
-        "stat as root": [given.program, "stat", given.trace, "0", "/"],
-        "find as %s" % given.uid: [given.program, "find", given.trace, "%s:%s" % (given.uid, given.gids), "/"] + LARGE,
-        "find as root": [given.program, "find", given.trace, "0", "/"] + LARGE,
-        "SELECT by size": [given.program, "query", given.trace, "%s:%s" % (given.uid, given.gids), "/", LARGER],
-        "SELECT by REGEXP": [given.program, "query", given.trace, "%s:%s" % (given.uid, given.gids), "/", NAMED],
-        "trace2index": [given.program, "trace2index", given.trace],
-    }
-    if given.peer:
-        commands["peer"] = shlex.split(given.peer)
+    commands = asked_of(given)
+    if given.only:
+        commands = {name: command for name, command in commands.items() if given.only in name}
+    commands.update(peer.split("=", 1) for peer in given.peer)
+    commands = {name: command if isinstance(command, list) else shlex.split(command) for name, command in commands.items()}
     print("%d rows" % rows)
     for name, (time, peak) in interleaved(commands, given.runs).items():
-        text = "%-16s %8.3f s  %7.0f ns/row  %6.0f MB" % (name, time, 1e9 * time / rows, peak)
+        text = "%-24s %8.3f s  %7.0f ns/row  %6.0f MB" % (name, time, 1e9 * time / rows, peak)
         if given.instructions:
             text += "  %6.0f instructions/row" % (instructions(commands[name]) / rows)
         print(text)

@@ -9,8 +9,8 @@ ghost use Rattle.gufi_tree.specs.Places.{path_at};
 ghost use Rattle.gufi_store.specs.Scan.{is_met};
 ghost use Rattle.gufi_sums.specs.Total.{IsTotal};
 
-use crate::stores::stores_of;
-use crate::sums::{add_below, own_sums};
+use crate::stores::stores_and_sums;
+use crate::sums::{InnerSums, add_below, inner_sums};
 use gufi_base::{Memory, Pred, Steps, Yield};
 use gufi_store::{DirStore, scan_fold};
 use gufi_sums::Summary;
@@ -26,7 +26,7 @@ use std::sync::ledger::Ledger;
 pub(crate) struct Contents {
     tree: Tree,
     stores: Vec<DirStore>,
-    own_sums: Vec<Summary>,
+    own: InnerSums,
     tree_sums: Vec<Summary>,
 }
 
@@ -40,7 +40,7 @@ impl Model for Contents {
 
     ghost view = { λ c. c.tree };
 
-    ghost invariant = { λ c. IsContents c.tree c.stores.items c.own_sums.items c.tree_sums.items };
+    ghost invariant = { λ c. IsContents c.tree c.stores.items c.own.sums.items c.own.places.items c.tree_sums.items };
 }
 
 impl Contents {
@@ -54,14 +54,13 @@ impl Contents {
         ensures ticks { OnOk result (steps.new ≡ steps.old + length tree) }
         ensures at_most { steps.new ≤ steps.old + length tree }
     {
-        let stores = stores_of(alloc, &tree, steps)?;
-        let own_sums = own_sums(alloc, &tree)?;
-        let mut tree_sums = Vec::from_slice(alloc, &own_sums)?;
+        let (stores, mut tree_sums) = stores_and_sums(alloc, &tree, steps)?;
+        let own = inner_sums(alloc, &tree, &tree_sums)?;
         add_below(&tree, &mut tree_sums);
         Ok(Contents {
             tree,
             stores,
-            own_sums,
+            own,
             tree_sums,
         })
     }
@@ -78,7 +77,12 @@ impl Contents {
         requires { id.0 < length self.now }
         ensures { IsTotal result.now (home_rows self.now (path_at self.now id.0)) }
     {
-        &self.own_sums[id.0 as usize]
+        let place = self.own.places[id.0 as usize] as usize;
+        if place < self.own.sums.len() {
+            &self.own.sums[place]
+        } else {
+            &self.tree_sums[id.0 as usize]
+        }
     }
 
     pub(crate) fn tree_sum(&self, id: DirId) -> &Summary

@@ -1,6 +1,6 @@
 //! The sums of the rows of each directory, and of the rows at and below it.
 
-ghost use Rattle.std.specs.Prelude.{◌≡◌, ℕ, ◌+◌, ◌≤◌, ◌<◌, ◌^◌, List, ◌++◌, map, length, slice_index_or, IfOk};
+ghost use Rattle.std.specs.Prelude.{◌≡◌, ℕ, ◌+◌, ◌≤◌, ◌<◌, ◌^◌, List, ◌++◌, map, length, slice_index_or, IfOk, OnOk};
 ghost use Rattle.std.specs.List.{flat_map};
 ghost use Rattle.gufi_base.specs.declared.record.Row.{Row};
 ghost use Rattle.gufi_tree.specs.Tree.{Directory, own_rows, entry_row, HasTreeShape};
@@ -8,7 +8,7 @@ ghost use Rattle.gufi_tree.specs.Places.{path_at, child_ids};
 ghost use Rattle.gufi_sums.specs.declared.summary.Summary.{Summary as Sum};
 ghost use Rattle.gufi_sums.specs.Total.{rows_in, IsBounded, IsTotal};
 ghost use Rattle.gufi_tree.proofs.Kids.{rows_under};
-ghost use Rattle.gufi_snap.specs.SumsByPlace.{AreOwn, AreUnderFrom};
+ghost use Rattle.gufi_snap.specs.SumsByPlace.{AreOwn, AreUnderFrom, AreInner};
 
 use gufi_base::Rec;
 use gufi_sums::Summary;
@@ -37,24 +37,13 @@ fn own_sum(rec: &Rec, entries: &[Entry]) -> Summary
     sum
 }
 
-fn own_sum_at(tree: &Tree, id: DirId) -> Summary
+/// The sum of the rows of the directory at a place.
+pub(crate) fn own_sum_at(tree: &Tree, id: DirId) -> Summary
     requires id { id.0 < length tree.now }
     requires few { length (flat_map own_rows tree.now) < 2 ^ 32 }
     ensures { (d : Directory) → IsTotal result (own_rows (slice_index_or tree.now id.0 d)) }
 {
     own_sum(tree.rec(id), tree.entries(id))
-}
-
-/// The sum of the rows of each directory, in path order. One pass over all rows.
-pub(crate) fn own_sums(alloc: Global, tree: &Tree) -> Result<Vec<Summary>, AllocError>
-    requires { length (flat_map own_rows tree.now) < 2 ^ 32 }
-    ensures { IfOk result (λ sums. AreOwn tree.now sums.items) }
-{
-    let mut sums = Vec::with_capacity(alloc, tree.dirs() as usize)?;
-    for place in 0..tree.dirs() {
-        sums.push(own_sum_at(tree, DirId(place)))?;
-    }
-    Ok(sums)
 }
 
 /// The sum of the rows at and below a directory, from its own and those of the directories behind it.
@@ -88,4 +77,56 @@ pub(crate) fn add_below(tree: &Tree, sums: &mut Vec<Summary>)
         let sum = sum_under(tree, DirId(left), sums);
         sums[left as usize] = sum;
     }
+}
+
+/// The place of no sum.
+const NOWHERE: u32 = u32::MAX;
+
+/// The sums of the own rows of directories that have directories below them, and the place of each directory's.
+///
+/// Without one below it a directory has the same rows of its own as at and below it, and needs no second sum.
+#[derive(Drop)]
+pub(crate) struct InnerSums {
+    pub(crate) sums: Vec<Summary>,
+    pub(crate) places: Vec<u32>,
+}
+
+/// Keeps the own sum of the next directory, where it has directories below it.
+fn keep_inner(
+    tree: &Tree,
+    id: DirId,
+    own: &[Summary],
+    inner: &mut InnerSums,
+) -> Result<(), AllocError>
+    requires id { id.0 < length tree.now }
+    requires own { AreOwn tree.now own.now }
+    requires inner { AreInner tree.now inner.old.sums.items inner.old.places.items id.0 }
+    ensures { OnOk result (AreInner tree.now inner.new.sums.items inner.new.places.items (id.0 + 1)) }
+{
+    if tree.subdirs(id).is_empty() {
+        inner.places.push(NOWHERE)?;
+        return Ok(());
+    }
+    inner.places.push(inner.sums.len() as u32)?;
+    inner.sums.push(own[id.0 as usize])?;
+    Ok(())
+}
+
+/// The own sums that are kept beside those of the rows at and below each directory.
+pub(crate) fn inner_sums(
+    alloc: Global,
+    tree: &Tree,
+    own: &[Summary],
+) -> Result<InnerSums, AllocError>
+    requires { AreOwn tree.now own.now }
+    ensures { IfOk result (λ inner. AreInner tree.now inner.sums.items inner.places.items (length tree.now)) }
+{
+    let mut inner = InnerSums {
+        sums: Vec::new(alloc),
+        places: Vec::with_capacity(alloc, tree.dirs() as usize)?,
+    };
+    for place in 0..tree.dirs() {
+        keep_inner(tree, DirId(place), own, &mut inner)?;
+    }
+    Ok(inner)
 }

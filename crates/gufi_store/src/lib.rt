@@ -25,7 +25,6 @@ use std::sync::ledger::Ledger;
 #[derive(Drop)]
 pub struct DirStore {
     stored: Arc<Stored, Global>,
-    depth: usize,
 }
 
 impl Model for DirStore {
@@ -33,11 +32,10 @@ impl Model for DirStore {
 
     ghost Value = { Directory };
 
-    ghost use Rattle.gufi_store.specs.Kept.{directory_kept, IsDeep};
+    ghost use Rattle.gufi_tree.specs.Stored.{directory_of};
+    ghost use Rattle.std.specs.Arc.{arc_value};
 
-    ghost view = { directory_kept };
-
-    ghost invariant = { IsDeep };
+    ghost view = { λ s. directory_of (arc_value s.stored) };
 }
 
 /// The own row of a directory, in borrowed parts.
@@ -92,8 +90,7 @@ impl DirStore {
         ensures tick { steps.new ≡ steps.old + 1 }
     {
         steps.tick();
-        let depth = stored.path.depth();
-        DirStore { stored, depth }
+        DirStore { stored }
     }
 
     /// Adds the directory's own row and its entries' rows, each that meets the question, and counts one step.
@@ -132,7 +129,8 @@ impl DirStore {
             Y.stands_for out.new (rows ++ rows_met above (P.sat pred.now) self.now)) }
     {
         let dir: &Stored = &self.stored;
-        let depth = depth_between(self.depth, above)?;
+        let components = dir.path.depth();
+        let depth = depth_between(components, above)?;
         let stem = dir.path.text();
         offer(alloc, own_row(dir), depth, pred, out)?;
         for entry in &dir.entries {

@@ -1,4 +1,5 @@
 pub mod ReadingLemmas
+pub mod IndexLemmas
 pub mod RunLemmas
 pub mod StepLemmas
 pub mod QueryLemmas

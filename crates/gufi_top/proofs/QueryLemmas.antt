@@ -5,9 +5,10 @@ use Rattle.gufi_io.specs.Files.{Files}
 use Rattle.gufi_base.specs.Words.{◌>>=◌}
 use Rattle.gufi_access.specs.declared.class.Principal.{Principal}
 use Rattle.gufi_tree.specs.Tree.{Directory}
+use Rattle.gufi_snap.specs.Snap.{Snap}
 use Rattle.gufi_users.specs.Entries.{UserTables}
 use Rattle.gufi_words.specs.declared.command.Common.{Common}
-use Rattle.gufi_top.specs.Reasons.{Reason, tables_in, trace_in}
+use Rattle.gufi_top.specs.Reasons.{Reason, tables_in, index_in}
 use Rattle.gufi_top.specs.Verdict.{Asking, asked, asked_if, user_in, asked_by, index_over, ask_over}
 use Rattle.gufi_find.specs.Expressions.{Find}
 use Rattle.gufi_select.specs.Columns.{Select}
@@ -20,17 +21,17 @@ use Rattle.gufi_top.specs.declared.halt.Halt.{Halt}
 use Rattle.gufi_top.specs.declared.halt.Halt.TheVariants as halts
 use Rattle.gufi_top.proofs.StepLemmas.{over_ok, over_err, given_over}
 
--- ---- the principal, and then the tree
+-- ---- the principal, and then the snapshot
 
-pub by_ok : (common : Common) (asking : Asking) (tables : UserTables) (tree : List Directory) (who : Principal) (r : Result Text Halt)
-    → Gives {A = Principal} (λ w. w) (Ok who) (user_in common tables) → Gives text_view r (asked_if tree who common.start (asking tables)) → Gives text_view r (asked_by common asking tables tree)
-by_ok common asking tables tree who r read given = rw read given
+pub by_ok : (common : Common) (asking : Asking) (tables : UserTables) (snap : Snap) (who : Principal) (r : Result Text Halt)
+    → Gives {A = Principal} (λ w. w) (Ok who) (user_in common tables) → Gives text_view r (asked_if snap.tree who common.start (asking tables)) → Gives text_view r (asked_by common asking tables snap)
+by_ok common asking tables snap who r read given = rw read given
 
-pub by_err : (common : Common) (asking : Asking) (tables : UserTables) (tree : List Directory) (e : Halt)
-    → Gives {A = Principal} (λ w. w) (Err e) (user_in common tables) → Gives text_view (Err e) (asked_by common asking tables tree)
-by_err common asking tables tree (halts.Refused status note) read = rw read refl
-by_err common asking tables tree halts.ReadFault read = tt
-by_err common asking tables tree halts.Memory read = tt
+pub by_err : (common : Common) (asking : Asking) (tables : UserTables) (snap : Snap) (e : Halt)
+    → Gives {A = Principal} (λ w. w) (Err e) (user_in common tables) → Gives text_view (Err e) (asked_by common asking tables snap)
+by_err common asking tables snap (halts.Refused status note) read = rw read refl
+by_err common asking tables snap halts.ReadFault read = tt
+by_err common asking tables snap halts.Memory read = tt
 
 pub ruleset users = (by_ok, by_err)
 
@@ -66,16 +67,16 @@ pub ruleset selects = (select_ok, select_err)
 
 -- ---- the index's file, and then the principal
 
-pub index_ok : (told : Option Files) (common : Common) (asking : Asking) (tables : UserTables) (tree : List Directory) (r : Result Text Halt)
-    → GivesOver {A = List Directory} told (λ t. t) (Ok tree) (trace_in common.delim common.index) → Gives text_view r (asked_by common asking tables tree) → GivesOver told text_view r (index_over common asking tables)
+pub index_ok : (told : Option Files) (common : Common) (asking : Asking) (tables : UserTables) (snap : Snap) (r : Result Text Halt)
+    → GivesOver {A = Snap} told (λ s. s) (Ok snap) (index_in common.delim common.limit common.index) → Gives text_view r (asked_by common asking tables snap) → GivesOver told text_view r (index_over common asking tables)
 unfolding index_over
-index_ok told common asking tables tree r read given =
-    over_ok told (λ t. t) text_view tree r (trace_in common.delim common.index) (λ t files. asked_by common asking tables t) read (given_over told text_view r _ given)
+index_ok told common asking tables snap r read given =
+    over_ok told (λ s. s) text_view snap r (index_in common.delim common.limit common.index) (λ s files. asked_by common asking tables s) read (given_over told text_view r _ given)
 
 pub index_err : (told : Option Files) (common : Common) (asking : Asking) (tables : UserTables) (e : Halt)
-    → GivesOver {A = List Directory} told (λ t. t) (Err e) (trace_in common.delim common.index) → GivesOver told text_view (Err e) (index_over common asking tables)
+    → GivesOver {A = Snap} told (λ s. s) (Err e) (index_in common.delim common.limit common.index) → GivesOver told text_view (Err e) (index_over common asking tables)
 unfolding index_over
-index_err told common asking tables e read = over_err told (λ t. t) text_view e (trace_in common.delim common.index) (λ t files. asked_by common asking tables t) read
+index_err told common asking tables e read = over_err told (λ s. s) text_view e (index_in common.delim common.limit common.index) (λ s files. asked_by common asking tables s) read
 
 pub ruleset indexes = (index_ok, index_err)
 

@@ -1,5 +1,5 @@
 -- Lemmas on files that are read.
-use Rattle.std.proofs.Common.{◌≡◌, ℕ, ◌+◌, ◌<◌, ◌≤◌, List, [], ◌++◌, length, take, refl, sym, ap, ◌∙◌, append_assoc, append-nil, arith, true}
+use Rattle.std.proofs.Common.{◌≡◌, ℕ, ◌+◌, ◌<◌, ◌≤◌, List, ◌++◌, length, take, refl, sym, ap, ◌∙◌, append_assoc, append-nil, arith, true}
 use Rattle.std.specs.Prelude.{Option, Some, None, Result, Ok, Err, nat_lt, Vec}
 use Rattle.std.specs.declared.alloc.Global.{Global}
 use Rattle.std.specs.Io.KnownBytes.{Consumes, IsAtEnd}
@@ -19,7 +19,7 @@ use Rattle.gufi_trace.specs.declared.fault.TraceError.{TraceError}
 use Rattle.gufi_trace.specs.declared.fault.TraceError.TheVariants as errors
 use Rattle.gufi_top.specs.declared.halt.Halt.{Halt}
 use Rattle.gufi_top.specs.declared.halt.Halt.TheVariants as halts
-use Rattle.gufi_top.specs.Reasons.{Reason, not_found, past_limit, file_in, trace_in, tree_within, trace_reason}
+use Rattle.gufi_top.specs.Reasons.{Reason, held, not_found, past_limit, file_in, trace_in, tree_within, trace_reason}
 use Rattle.gufi_top.specs.Calls.{Gives, GivesOver}
 use Rattle.gufi_top.specs.Views.{bytes_view}
 use Rattle.gufi_top.specs.Fed.{lines_within, lines_in, HasReadFile, IsFedUpTo}
@@ -47,9 +47,17 @@ file_too_long (Some files) max name bytes note front long is = rw (front.1, long
 
 pub ruleset reading = (file_whole, file_absent, file_too_long)
 
+-- a file that can't be taken in hand
+pub unheld : (told : Option Files) (name : List ℕ) (note : Vec ℕ Global) → Lacks told name → note.items ≡ (not_found name).note
+    → GivesOver told bytes_view (Err (halts.Refused 8 note)) (λ files. held files name)
+unheld None name note lacks is = tt
+unheld (Some files) name note lacks is = rw (lacks, is) refl
+
+pub ruleset opening = unheld
+
 -- ---- a file that is fed as it comes
 
-upto_more : (told : Option Files) (name stream piece : List ℕ) (left left' : Option (List ℕ)) → IsReadUpTo told name stream left → Consumes left left' piece → IsReadUpTo told name (stream ++ piece) left'
+pub upto_more : (told : Option Files) (name stream piece : List ℕ) (left left' : Option (List ℕ)) → IsReadUpTo told name stream left → Consumes left left' piece → IsReadUpTo told name (stream ++ piece) left'
 upto_more None name stream piece left left' upto more = tt
 upto_more (Some files) name stream piece None left' upto more = absurd cc
 upto_more (Some files) name stream piece (Some xs) None upto more = absurd more
@@ -79,10 +87,10 @@ pub fed_too_long : (told : Option Files) (name : List ℕ) (left : Option (List 
 fed_too_long None name left reader size note fed long is = tt
 fed_too_long (Some files) name left reader size note fed long is = file_too_long (Some files) max_trace name fed.stream note (fed.upto.0, fed.upto.2) (omega (arith, fed.count)) is
 
-pub fed_from_start : (told : Option Files) (name : List ℕ) (left : Option (List ℕ)) (reader : Reading) → HasRead reader [] → IsReadUpTo told name [] left → IsFedUpTo told name left reader 0
-fed_from_start told name left reader read upto = record { stream = []; read = read; count = refl; upto = upto }
+pub ruleset feeding = (fed_more, fed_all, fed_too_long)
 
-pub ruleset feeding = (file_absent, fed_more, fed_all, fed_too_long, fed_from_start)
+pub fed_from_front : (told : Option Files) (name front : List ℕ) (left : Option (List ℕ)) (reader : Reading) → HasRead reader front → IsReadUpTo told name front left → IsFedUpTo told name left reader (length front)
+fed_from_front told name front left reader read upto = record { stream = front; read = read; count = refl; upto = upto }
 
 -- ---- lines, and the tree of them
 
@@ -121,7 +129,7 @@ lines_refused (Some files) delim name reader fault r file is read told =
     (lines_are files delim name file.0 file.1 file.2 ∙ ap (result_map_err (line_reason name)) (ap (λ (d : ℕ). trace_lines d file.0) (sym is) ∙ read file.0 file.3 (λ e. absurd cc)))
 
 -- a reason that stays the reason of what follows
-stays : {A B : Type 0} (e : Halt) (step : Result A Reason) (next : Result B Reason) → Gives {A = A} (λ x. x) (Err e) step → ((why : Reason) → step ≡ Err why → next ≡ Err why) → Gives {A = B} (λ x. x) (Err e) next
+pub stays : {A B : Type 0} (e : Halt) (step : Result A Reason) (next : Result B Reason) → Gives {A = A} (λ x. x) (Err e) step → ((why : Reason) → step ≡ Err why → next ≡ Err why) → Gives {A = B} (λ x. x) (Err e) next
 stays (halts.Refused status note) step next told goes_on = goes_on _ told
 stays halts.ReadFault step next told goes_on = tt
 stays halts.Memory step next told goes_on = tt
@@ -131,7 +139,7 @@ unfolding lines_in
 lines_err None delim name e file = tt
 lines_err (Some files) delim name e file = stays e (file_in max_trace name files) _ file (λ why is. rw is refl)
 
-pub ruleset lines = (lines_ok, lines_refused, lines_err)
+pub ruleset lines = (fed_from_front, lines_ok, lines_refused, lines_err)
 
 -- ---- the tree of a trace in a file
 
@@ -179,6 +187,12 @@ trace_err None delim name e read = tt
 trace_err (Some files) delim name e read = stays e (lines_in delim name files) _ read (λ why is. from_refusal delim name (file_in max_trace name files) why is)
 
 pub ruleset traces = (trace_ok, trace_err)
+
+pub trace_unopened : (told : Option Files) (delim : ℕ) (name : List ℕ) (e : Halt)
+    → GivesOver told bytes_view (Err e) (λ files. held files name) → GivesOver {A = List Directory} told (λ t. t) (Err e) (trace_in delim name)
+unfolding trace_in file_in
+trace_unopened None delim name e read = tt
+trace_unopened (Some files) delim name e read = stays e (held files name) _ read (λ why is. rw is refl)
 
 -- ---- the tree of a trace that comes whole
 

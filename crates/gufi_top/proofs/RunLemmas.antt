@@ -11,8 +11,9 @@ use Rattle.gufi_words.specs.declared.command.Command.{Command}
 use Rattle.gufi_words.specs.declared.word.WordError.{WordError}
 use Rattle.gufi_words.specs.declared.word.WordError.TheVariants as word_errors
 use Rattle.gufi_tree.specs.Tree.{Directory}
+use Rattle.gufi_snap.specs.Snap.{Snap}
 use Rattle.gufi_top.specs.Asks.{walk_ask}
-use Rattle.gufi_top.specs.Reasons.{Reason, word_refused, words_reason, trace_in}
+use Rattle.gufi_top.specs.Reasons.{Reason, word_refused, words_reason, trace_in, index_in}
 use Rattle.gufi_image.specs.Image.{image_text}
 use Rattle.gufi_top.specs.Verdict.{Verdict, writes, writes_only, asked, walk_over, trace2index_over, rolled_up, rollup_over, command_over, command_in, verdict, may_refuse, may_refuse_words}
 use Rattle.gufi_top.specs.Calls.{Gives, GivesOver, OfWordsOnlyIf}
@@ -45,15 +46,15 @@ pub trace2index_err : (told : Option Files) (trace : List ℕ) (delim : ℕ) (e 
 unfolding trace2index_over
 trace2index_err told trace delim e read = over_err told (λ t. t) text_view e (trace_in delim trace) (λ t files. writes_only (image_text t 0)) read
 
-pub rollup_ok : (told : Option Files) (index : List ℕ) (delim limit : ℕ) (tree : List Directory) (r : Result Text Halt)
-    → GivesOver {A = List Directory} told (λ t. t) (Ok tree) (trace_in delim index) → Gives text_view r (rolled_up limit tree) → GivesOver told text_view r (rollup_over index delim limit)
+pub rollup_ok : (told : Option Files) (index : List ℕ) (delim limit : ℕ) (snap : Snap) (r : Result Text Halt)
+    → GivesOver {A = Snap} told (λ s. s) (Ok snap) (index_in delim limit index) → Gives text_view r (rolled_up limit snap.tree) → GivesOver told text_view r (rollup_over index delim limit)
 unfolding rollup_over
-rollup_ok told index delim limit tree r read given = over_ok told (λ t. t) text_view tree r (trace_in delim index) (λ t files. rolled_up limit t) read (given_over told text_view r _ given)
+rollup_ok told index delim limit snap r read given = over_ok told (λ s. s) text_view snap r (index_in delim limit index) (λ s files. rolled_up limit s.tree) read (given_over told text_view r _ given)
 
 pub rollup_err : (told : Option Files) (index : List ℕ) (delim limit : ℕ) (e : Halt)
-    → GivesOver {A = List Directory} told (λ t. t) (Err e) (trace_in delim index) → GivesOver told text_view (Err e) (rollup_over index delim limit)
+    → GivesOver {A = Snap} told (λ s. s) (Err e) (index_in delim limit index) → GivesOver told text_view (Err e) (rollup_over index delim limit)
 unfolding rollup_over
-rollup_err told index delim limit e read = over_err told (λ t. t) text_view e (trace_in delim index) (λ t files. rolled_up limit t) read
+rollup_err told index delim limit e read = over_err told (λ s. s) text_view e (index_in delim limit index) (λ s files. rolled_up limit s.tree) read
 
 pub answer_ok : (told : Option Files) (words : List (List ℕ)) (command : Command) (r : Result Text Halt)
     → Gives {A = Command} (λ c. c) (Ok command) (command_in words) → GivesOver told text_view r (command_over command) → GivesOver told text_view r (verdict words)

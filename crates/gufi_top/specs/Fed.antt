@@ -1,12 +1,12 @@
--- A trace that is fed to its reader as it comes.
-use Rattle.std.specs.Prelude.{◌≡◌, ℕ, ◌≤◌, List, length, ⊤, Option, Some, None, Result}
+-- Files that are taken as they come.
+use Rattle.std.specs.Prelude.{◌≡◌, ℕ, ◌≤◌, Bool, List, length, ⊤, Option, Some, None, Result}
 use Rattle.gufi_base.specs.Limits.{max_trace}
 use Rattle.gufi_base.specs.Words.{◌>>=◌, result_map_err}
 use Rattle.gufi_base.specs.declared.record.Line.{Line}
 use Rattle.gufi_io.specs.Files.{Files, IsReadUpTo}
 use Rattle.gufi_trace.specs.TraceText.{trace_lines, of_line}
 use Rattle.gufi_trace.specs.Reader.{Reading, HasRead}
-use Rattle.gufi_top.specs.Reasons.{Reason, file_in, trace_reason}
+use Rattle.gufi_top.specs.Reasons.{Reason, file_in, trace_reason, is_image}
 
 -- the lines of the bytes of a trace, and those of the trace in a file
 unfoldable pub lines_within : ℕ → List ℕ → List ℕ → Result (List Line) Reason
@@ -26,3 +26,8 @@ pub record IsFedUpTo (told : Option Files) (name : List ℕ) (left : Option (Lis
   pub read : HasRead reader stream
   pub count : length stream ≡ size
   pub upto : IsReadUpTo told name stream left
+
+-- the file begins as an image does, or doesn't, where its bytes are told
+abbrev pub BeginsAs : Option Files → List ℕ → Bool → Type 0
+BeginsAs None name image = ⊤
+BeginsAs (Some files) name image = (bytes : List ℕ) × (files name ≡ Some bytes) × (is_image bytes ≡ image)

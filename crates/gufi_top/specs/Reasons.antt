@@ -1,11 +1,21 @@
 -- Why a command is refused, and what its files mean or are refused for.
-use Rattle.std.specs.Prelude.{ℕ, ◌+◌, nat_lt, List, [], ◌++◌, length, Option, Some, None, ok_or, unwrap_or, Result, Ok, codes, decimal}
+use Rattle.std.specs.Prelude.{ℕ, ◌+◌, nat_lt, Bool, true, false, List, [], ◌++◌, length, Option, Some, None, ok_or, unwrap_or, Result, Ok, codes, decimal}
+use Rattle.std.specs.Bool.{nat_eq}
+use Rattle.std.specs.List.{starts_with}
 use Rattle.gufi_io.specs.Files.{Files}
-use Rattle.gufi_base.specs.Limits.{max_trace, max_users}
+use Rattle.gufi_base.specs.Limits.{max_trace, max_image, max_users}
 use Rattle.gufi_base.specs.Words.{line, capped_number, ◌>>=◌, ◌>>◌, refuse, result_map_err}
 use Rattle.gufi_access.specs.declared.class.Class.{Class}
 use Rattle.gufi_access.specs.declared.class.Class.TheVariants.{Owner, Group, Other}
 use Rattle.gufi_tree.specs.Tree.{Directory}
+use Rattle.gufi_snap.specs.Snap.{Snap}
+use Rattle.gufi_image.specs.Bytes.{magic}
+use Rattle.gufi_image.specs.Reading.{image_means}
+use Rattle.gufi_image.specs.Kinds.{image_kind_text}
+use Rattle.gufi_image.specs.declared.fault.ImageKind.{ImageKind}
+use Rattle.gufi_image.specs.declared.fault.ImageKind.TheVariants as image_kinds
+use Rattle.gufi_image.specs.declared.fault.ImageError.{ImageError}
+use Rattle.gufi_image.specs.declared.fault.ImageError.TheVariants as image_errors
 use Rattle.gufi_walk.specs.declared.refusal.Refusal.{Refusal}
 use Rattle.gufi_walk.specs.declared.refusal.Refusal.TheVariants as refusals
 use Rattle.gufi_trace.specs.declared.fault.TraceKind.{TraceKind}
@@ -94,6 +104,26 @@ failure_limit (of_tree fault) = None
 unfoldable pub trace_reason : List ℕ → TraceFailure → Reason
 trace_reason file failure = limit_or file (line_refused file (failure_text failure)) (failure_limit failure)
 
+-- ---- an image's faults
+
+abbrev pub offset_refused : List ℕ → ℕ → List ℕ → Reason
+offset_refused file offset text = reason 5 (file ++ (codes " offset " ++ (decimal offset ++ (codes " " ++ text))))
+
+abbrev pub image_limit : ImageKind → Option ℕ
+image_limit image_kinds.Magic = None
+image_limit image_kinds.Cut = None
+image_limit image_kinds.Number = None
+image_limit image_kinds.Parent = None
+image_limit image_kinds.Name = None
+image_limit image_kinds.Order = None
+image_limit image_kinds.Trailing = None
+image_limit image_kinds.Roll = None
+image_limit (image_kinds.TooMany limit) = Some limit
+
+unfoldable pub image_reason : List ℕ → ImageError → Reason
+image_reason file (image_errors.Fault offset kind) = limit_or file (offset_refused file offset (image_kind_text kind)) (image_limit kind)
+image_reason file image_errors.Memory = no_memory
+
 -- ---- the words of an expression, which come after the word START
 
 abbrev pub word_fault : ℕ → List ℕ → Reason
@@ -179,3 +209,31 @@ tree_within delim file bytes = result_map_err (trace_reason file) (trace_means d
 
 unfoldable pub trace_in : ℕ → List ℕ → Files → Result (List Directory) Reason
 trace_in delim file files = file_in max_trace file files >>= tree_within delim file
+
+-- ---- an index's file, which is an image or a trace
+
+-- a trace's tree, rolled up under a limit
+abbrev pub rolled_under : ℕ → List Directory → Result Snap Reason
+rolled_under limit tree = Ok (record { tree = tree; limit = limit })
+
+unfoldable pub traced_in : ℕ → ℕ → List ℕ → Files → Result Snap Reason
+traced_in delim limit file files = trace_in delim file files >>= rolled_under limit
+
+-- an image's tree, and the limit that it holds
+unfoldable pub image_within : List ℕ → List ℕ → Result Snap Reason
+image_within file bytes = result_map_err (image_reason file) (image_means bytes)
+
+unfoldable pub image_in : List ℕ → Files → Result Snap Reason
+image_in file files = file_in max_image file files >>= image_within file
+
+-- the first bytes tell
+unfoldable pub is_image : List ℕ → Bool
+is_image bytes = starts_with nat_eq bytes magic
+
+abbrev pub index_by : Bool → ℕ → ℕ → List ℕ → Files → Result Snap Reason
+index_by true delim limit = image_in
+index_by false delim limit = traced_in delim limit
+
+-- the limit is that of a trace's roll-up; an image keeps its own
+unfoldable pub index_in : ℕ → ℕ → List ℕ → Files → Result Snap Reason
+index_in delim limit file files = held files file >>= λ bytes. index_by (is_image bytes) delim limit file files

@@ -6,6 +6,7 @@ use Rattle.gufi_base.specs.Paths.{Components}
 use Rattle.gufi_access.specs.declared.class.Principal.{Principal}
 use Rattle.gufi_access.specs.Access.{principal}
 use Rattle.gufi_tree.specs.Tree.{Directory}
+use Rattle.gufi_snap.specs.Snap.{Snap}
 use Rattle.gufi_users.specs.Entries.{UserTables}
 use Rattle.gufi_users.specs.Users.{principal_of}
 use Rattle.gufi_find.specs.Expressions.{Find}
@@ -24,7 +25,7 @@ use Rattle.gufi_words.specs.declared.command.ReportWord.TheVariants as report_wo
 use Rattle.gufi_words.specs.declared.command.Common.{Common}
 use Rattle.gufi_words.specs.declared.command.Command.{Command}
 use Rattle.gufi_words.specs.declared.command.Command.TheVariants as commands
-use Rattle.gufi_top.specs.Reasons.{Reason, word_refused, words_reason, find_reason, select_reason, start_reason, tables_in, trace_in, tree_within}
+use Rattle.gufi_top.specs.Reasons.{Reason, word_refused, words_reason, find_reason, select_reason, start_reason, tables_in, trace_in, tree_within, index_in}
 use Rattle.gufi_top.specs.Asks.{Ask, walk_ask, find_ask, ls_ask, stat_ask, stats_ask, total_ask, query_ask, ask_reply}
 
 -- what goes to the output, and the note of status 0
@@ -65,12 +66,12 @@ user_in common tables = ok_or (principal_of tables common.user) (word_refused co
 abbrev pub Asking : Type 0
 Asking = UserTables → Result Ask Reason
 
--- USER is judged behind the files, and the query words behind USER
-abbrev pub asked_by : Common → Asking → UserTables → List Directory → Result Verdict Reason
-asked_by common asking tables tree = user_in common tables >>= λ who. asked_if tree who common.start (asking tables)
+-- USER is judged behind the files, and the query words behind USER; the answer is that of the tree, whatever the limit
+abbrev pub asked_by : Common → Asking → UserTables → Snap → Result Verdict Reason
+asked_by common asking tables snap = user_in common tables >>= λ who. asked_if snap.tree who common.start (asking tables)
 
 unfoldable pub index_over : Common → Asking → UserTables → Files → Result Verdict Reason
-index_over common asking tables files = trace_in common.delim common.index files >>= asked_by common asking tables
+index_over common asking tables files = index_in common.delim common.limit common.index files >>= asked_by common asking tables
 
 unfoldable pub ask_over : Common → Asking → Files → Result Verdict Reason
 ask_over common asking files = tables_in common.passwd common.group files >>= λ tables. index_over common asking tables files
@@ -109,13 +110,13 @@ query_asking user_at text tables = select_in user_at text >>= λ select. Ok (que
 unfoldable pub trace2index_over : List ℕ → ℕ → Files → Result Verdict Reason
 trace2index_over trace delim files = trace_in delim trace files >>= λ tree. writes_only (image_text tree 0)
 
--- ---- rollup: an image, and its report as a note
+-- ---- rollup: the image of an index under a limit, and its report as a note
 
 abbrev pub rolled_up : ℕ → List Directory → Result Verdict Reason
 rolled_up limit tree = Ok (writes (record { out = image_text tree limit; notes = report_text (roll_report tree (roll_flags tree limit)) }))
 
 unfoldable pub rollup_over : List ℕ → ℕ → ℕ → Files → Result Verdict Reason
-rollup_over index delim limit files = trace_in delim index files >>= rolled_up limit
+rollup_over index delim limit files = index_in delim limit index files >>= λ snap. rolled_up limit snap.tree
 
 -- ---- gen: the trace of n directories, or what a run over it comes to
 

@@ -12,6 +12,7 @@ mod generate;
 mod halt;
 #[cfg(test)]
 mod image_tests;
+mod index;
 mod laws;
 mod note;
 mod query;

@@ -1,17 +1,19 @@
 //! The notes of refusals.
 ghost use Rattle.std.specs.Prelude.{◌≡◌, IfOk};
-ghost use Rattle.gufi_top.specs.Reasons.{word_refused, word_fault, text_fault, not_found, past_limit, line_refused, denied, no_such, not_dir, class_text};
+ghost use Rattle.gufi_top.specs.Reasons.{word_refused, word_fault, text_fault, not_found, past_limit, line_refused, offset_refused, denied, no_such, not_dir, class_text};
 ghost use Rattle.gufi_top.specs.Ends.{read_fault_note, write_fault_note, memory_note};
 ghost use Rattle.gufi_trace.specs.TraceText.{fault_text, failure_text, of_tree};
 ghost use Rattle.std.specs.Prelude.{◌++◌, codes, decimal};
 ghost use Rattle.gufi_users.specs.Users.{user_kind_text};
 ghost use Rattle.gufi_roll.specs.CanRoll.{report_text};
+ghost use Rattle.gufi_image.specs.Kinds.{image_kind_text};
 ghost use Rattle.gufi_find.specs.Faults.{find_kind_text};
 ghost use Rattle.gufi_select.specs.Faults.{select_kind_text};
 ghost use Rattle.gufi_base.specs.Words.{line};
 
 use gufi_access::Class;
 use gufi_find::FindKind;
+use gufi_image::ImageKind;
 use gufi_roll::RollReport;
 use gufi_select::SelectKind;
 use gufi_trace::{TraceFault, put_tree_fault};
@@ -160,4 +162,16 @@ pub(crate) fn select_word(
     ensures { IfOk result (λ note. note.items ≡ (text_fault word offset (select_kind_text kind)).note) }
 {
     Ok(format!(in alloc; "gufi: word {word} at {offset} {kind}\n")?.into_bytes())
+}
+
+/// The offset of a field of an image that is at fault, and its fault.
+pub(crate) fn image_field(
+    alloc: Global,
+    file: &str,
+    offset: u32,
+    kind: ImageKind,
+) -> Result<Vec<u8>, AllocError>
+    ensures { IfOk result (λ note. note.items ≡ (offset_refused file.now offset (image_kind_text kind)).note) }
+{
+    Ok(format!(in alloc; "gufi: {file} offset {offset} {kind}\n")?.into_bytes())
 }

@@ -7,13 +7,13 @@ ghost use Rattle.gufi_top.specs.Verdict.{user_in, asked_by, index_over, ask_over
 ghost use Rattle.gufi_top.specs.Calls.{Gives, GivesOver, IsOfBytes, HaltHasCause};
 
 use crate::halt::{Halt, Text, refused};
+use crate::index::read_index;
 use crate::note;
 use crate::question::Question;
-use crate::reading::read_trace_file;
 use crate::users::read_users;
 use gufi_access::Principal;
 use gufi_io::Shelf;
-use gufi_tree::Tree;
+use gufi_snap::Snapshot;
 use gufi_users::Users;
 use gufi_words::Common;
 use std::alloc::Global;
@@ -31,20 +31,20 @@ fn principal_of(alloc: Global, common: &Common, users: &Users) -> Result<Princip
     }
 }
 
-// What is written of a tree for the word USER.
+// What is written of a snapshot for the word USER.
 #[tactic(auto, using(crate::proofs::QueryLemmas::users))]
 fn ask_by<Q: Question>(
     alloc: Global,
     common: &Common,
     question: &Q,
     users: &Users,
-    tree: Tree,
+    snap: Snapshot,
 ) -> Result<Text, Halt>
-    ensures text { Gives text_view result (asked_by common.now (Q.asks question.now) users.now tree) }
+    ensures text { Gives text_view result (asked_by common.now (Q.asks question.now) users.now snap) }
     ensures of_bytes { IfErr result IsOfBytes }
 {
     match principal_of(alloc, common, users) {
-        Ok(who) => question.answer(alloc, users, tree, common.limit, &who, &common.start),
+        Ok(who) => question.answer(alloc, users, snap, &who, &common.start),
         Err(halt) => Err(halt),
     }
 }
@@ -61,8 +61,9 @@ fn ask_index<F: Shelf, Q: Question>(
     ensures text { GivesOver (F.files shelf.old) text_view result (index_over common.now (Q.asks question.now) users.now) }
     ensures cause { IfErr result (HaltHasCause (F.faults shelf.old) (F.faults shelf.new) (F.absents shelf.old) (F.absents shelf.new)) }
 {
-    match read_trace_file(alloc, shelf, common.index.as_str(), common.delim) {
-        Ok(tree) => ask_by(alloc, common, question, users, tree),
+    let index = common.index.as_str();
+    match read_index(alloc, shelf, index, common.delim, common.limit) {
+        Ok(snap) => ask_by(alloc, common, question, users, snap),
         Err(halt) => Err(halt),
     }
 }

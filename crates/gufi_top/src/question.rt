@@ -16,13 +16,12 @@ use crate::ask::{find_text, listing_text, query_text, record_text, report_text};
 use crate::halt::{Halt, Text as Written, refused};
 use crate::note;
 use crate::start::written;
-use crate::walk::snapshot_of;
 use gufi_access::Principal;
 use gufi_base::{Path, Text};
 use gufi_find::{FindError, FindExpr, FindKind, read_find};
 use gufi_select::{Select, SelectError, SelectKind, read_select};
+use gufi_snap::Snapshot;
 use gufi_stats::Report;
-use gufi_tree::Tree;
 use gufi_users::Users;
 use std::alloc::Global;
 
@@ -31,17 +30,16 @@ pub(crate) trait Question {
     /// What it asks where these are the users, or for which reason its query words are refused.
     ghost asks: { Self → UserTables → Result Ask Reason };
 
-    /// What it writes of a tree whose roll-up has this limit. The query words are judged before the start.
+    /// What it writes of a snapshot. The query words are judged before the start.
     fn answer(
         &self,
         alloc: Global,
         users: &Users,
-        tree: Tree,
-        limit: u64,
+        snap: Snapshot,
         who: &Principal,
         start: &Path,
     ) -> Result<Written, Halt>
-        ensures text { Gives text_view result (asked_if tree who.now start.now (asks self.now users.now)) }
+        ensures text { Gives text_view result (asked_if snap.tree who.now start.now (asks self.now users.now)) }
         ensures of_bytes { IfErr result IsOfBytes };
 }
 
@@ -57,12 +55,10 @@ impl Question for Stat {
         &self,
         alloc: Global,
         _users: &Users,
-        tree: Tree,
-        limit: u64,
+        snap: Snapshot,
         who: &Principal,
         start: &Path,
     ) -> Result<Written, Halt> {
-        let snap = snapshot_of(alloc, tree, limit)?;
         let reply = record_text(alloc, &snap, who, start);
         written(alloc, snap, reply)
     }
@@ -114,15 +110,13 @@ impl Find<'_> {
 fn find_in(
     alloc: Global,
     expression: &FindExpr,
-    tree: Tree,
-    limit: u64,
+    snap: Snapshot,
     who: &Principal,
     start: &Path,
 ) -> Result<Written, Halt>
-    ensures text { Gives text_view result (asked tree who.now start.now (find_ask expression.now)) }
+    ensures text { Gives text_view result (asked snap.tree who.now start.now (find_ask expression.now)) }
     ensures of_bytes { IfErr result IsOfBytes }
 {
-    let snap = snapshot_of(alloc, tree, limit)?;
     let reply = find_text(alloc, &snap, who, start, expression);
     written(alloc, snap, reply)
 }
@@ -135,13 +129,12 @@ impl Question for Find<'_> {
         &self,
         alloc: Global,
         users: &Users,
-        tree: Tree,
-        limit: u64,
+        snap: Snapshot,
         who: &Principal,
         start: &Path,
     ) -> Result<Written, Halt> {
         match self.expression(alloc, users) {
-            Ok(expression) => find_in(alloc, &expression, tree, limit, who, start),
+            Ok(expression) => find_in(alloc, &expression, snap, who, start),
             Err(halt) => Err(halt),
         }
     }
@@ -162,12 +155,10 @@ impl Question for Ls {
         &self,
         alloc: Global,
         users: &Users,
-        tree: Tree,
-        limit: u64,
+        snap: Snapshot,
         who: &Principal,
         start: &Path,
     ) -> Result<Written, Halt> {
-        let snap = snapshot_of(alloc, tree, limit)?;
         let reply = listing_text(alloc, &snap, who, start, users, self.long, self.all);
         written(alloc, snap, reply)
     }
@@ -187,12 +178,10 @@ impl Question for Stats {
         &self,
         alloc: Global,
         _users: &Users,
-        tree: Tree,
-        limit: u64,
+        snap: Snapshot,
         who: &Principal,
         start: &Path,
     ) -> Result<Written, Halt> {
-        let snap = snapshot_of(alloc, tree, limit)?;
         let reply = report_text(alloc, &snap, who, start, self.report);
         written(alloc, snap, reply)
     }
@@ -242,15 +231,13 @@ impl Query<'_> {
 fn query_in(
     alloc: Global,
     select: &Select,
-    tree: Tree,
-    limit: u64,
+    snap: Snapshot,
     who: &Principal,
     start: &Path,
 ) -> Result<Written, Halt>
-    ensures text { Gives text_view result (asked tree who.now start.now (query_ask select.now)) }
+    ensures text { Gives text_view result (asked snap.tree who.now start.now (query_ask select.now)) }
     ensures of_bytes { IfErr result IsOfBytes }
 {
-    let snap = snapshot_of(alloc, tree, limit)?;
     let reply = query_text(alloc, &snap, who, start, select);
     written(alloc, snap, reply)
 }
@@ -263,13 +250,12 @@ impl Question for Query<'_> {
         &self,
         alloc: Global,
         _users: &Users,
-        tree: Tree,
-        limit: u64,
+        snap: Snapshot,
         who: &Principal,
         start: &Path,
     ) -> Result<Written, Halt> {
         match self.select(alloc) {
-            Ok(select) => query_in(alloc, &select, tree, limit, who, start),
+            Ok(select) => query_in(alloc, &select, snap, who, start),
             Err(halt) => Err(halt),
         }
     }

@@ -1,19 +1,20 @@
 //! The files that the words name.
-ghost use Rattle.std.specs.Prelude.{◌≡◌, ◌≢◌, ◌≤◌, ◌<◌, ◌+◌, [], length, vec_len, IfErr, IfOk, Err};
+ghost use Rattle.std.specs.Prelude.{◌≡◌, ◌≢◌, ◌≤◌, ◌<◌, ◌+◌, [], true, length, vec_len, IfErr, IfOk, OnOk, IsTrue, Err};
 ghost use Rattle.gufi_base.specs.Words.{result_map_err};
 ghost use Rattle.gufi_base.specs.Limits.{max_dirs, max_entries, max_trace};
 ghost use Rattle.gufi_tree.specs.Build.{tree_of};
 ghost use Rattle.gufi_io.specs.Causes.{Rose};
-ghost use Rattle.gufi_io.specs.Files.{Holds};
+ghost use Rattle.gufi_io.specs.Files.{Holds, IsReadUpTo};
 ghost use Rattle.gufi_trace.specs.Reader.{HasRead};
 ghost use Rattle.gufi_trace.specs.TraceText.{of_line, of_tree};
 ghost use Rattle.gufi_top.specs.Views.{bytes_view};
-ghost use Rattle.gufi_top.specs.Reasons.{file_in, trace_in, tree_within, trace_reason};
+ghost use Rattle.gufi_top.specs.Reasons.{held, file_in, trace_in, tree_within, trace_reason};
 ghost use Rattle.gufi_top.specs.Calls.{Gives, GivesOver, IsOfBytes, IsPastWords, HaltHasCause};
-ghost use Rattle.gufi_top.specs.Fed.{lines_in, HasReadFile};
+ghost use Rattle.gufi_top.specs.Fed.{lines_in, HasReadFile, IsFedUpTo};
 
 use crate::halt::{Halt, refused};
 use crate::note;
+use gufi_base::Memory;
 use gufi_io::{OpenFault, ReadError, Shelf, read_all};
 use gufi_trace::{TraceError, TraceFault, TraceKind, TraceReader, read_trace};
 use gufi_tree::{Stanzas, Tree, TreeFault, build_stanzas};
@@ -63,37 +64,63 @@ fn refuse_line<T>(alloc: Global, name: &str, fault: TraceFault) -> Result<T, Hal
 }
 
 // A buffer for the pieces of a file: few system calls, and a piece that stays in the processor's caches.
-fn piece_buffer(alloc: Global) -> Result<Vec<u8>, AllocError>
+pub(crate) fn piece_buffer(alloc: Global) -> Result<Vec<u8>, AllocError>
     ensures { IfOk result (λ buffer. 0 < vec_len buffer) }
 {
     vec![in alloc; 0; PIECE]
 }
 
-// Feeds a file to a reader, to its end or until it is longer than a trace may be.
+// Takes the file of that name in hand.
+#[tactic(auto, using(crate::proofs::ReadingLemmas::opening))]
+pub(crate) fn open_named<F: Shelf>(alloc: Global, shelf: &mut F, name: &str) -> Result<(), Halt>
+    ensures hand { OnOk result (F.in_hand shelf.new ≡ true) }
+    ensures opened { OnOk result (IsReadUpTo (F.files shelf.old) name.now [] (F.left shelf.new)) }
+    ensures refused { IfErr result (λ e. GivesOver (F.files shelf.old) bytes_view (Err e) (λ files. held files name.now)) }
+    ensures past_words { IfErr result IsPastWords }
+    ensures cause { IfErr result (HaltHasCause (F.faults shelf.old) (F.faults shelf.new) (F.absents shelf.old) (F.absents shelf.new)) }
+    ensures same { F.files shelf.new ≡ F.files shelf.old }
+    ensures faults { F.faults shelf.old ≤ F.faults shelf.new }
+    ensures absents { F.absents shelf.old ≤ F.absents shelf.new }
+{
+    match shelf.open_file(name) {
+        Ok(()) => Ok(()),
+        Err(OpenFault::NoFile) => refused(8, note::not_found(alloc, name)?),
+        Err(OpenFault::Failed) => Err(Halt::ReadFault),
+    }
+}
+
+// A reader of a trace that begins so. A faulty line waits in it.
+fn reader_of(alloc: Global, delim: u8, front: &[u8]) -> Result<TraceReader, Memory>
+    ensures delim { IfOk result (λ reader. reader.delim ≡ delim) }
+    ensures read { IfOk result (λ reader. HasRead reader front.now) }
+{
+    let mut reader = TraceReader::new(alloc, delim)?;
+    let _ = reader.feed(alloc, front);
+    Ok(reader)
+}
+
+// Feeds the rest of the file in hand to a reader that has read so many bytes of it, to its end or until it is longer than
+// a trace may be.
 //
 // A faulty line waits in the reader, since that the file is too long comes before it.
 #[tactic(auto, using(crate::proofs::ReadingLemmas::feeding), unfolding(crate::specs::Reasons::file_in))]
-fn feed_file<F: Shelf>(
+fn feed_rest<F: Shelf>(
     alloc: Global,
     shelf: &mut F,
     name: &str,
+    room: &mut [u8],
     mut reader: TraceReader,
+    mut size: usize,
 ) -> Result<TraceReader, Halt>
-    requires { HasRead reader [] }
+    requires in_hand { IsTrue (F.in_hand shelf.old) }
+    requires room { 0 < length room.old }
+    requires fed { IsFedUpTo (F.files shelf.old) name.now (F.left shelf.old) reader size }
     ensures fed { IfOk result (HasReadFile (F.files shelf.old) name.now) }
     ensures delim { IfOk result (λ fed. fed.delim ≡ reader.delim) }
     ensures refused { IfErr result (λ e. GivesOver (F.files shelf.old) bytes_view (Err e) (file_in max_trace name.now)) }
     ensures past_words { IfErr result IsPastWords }
     ensures cause { IfErr result (HaltHasCause (F.faults shelf.old) (F.faults shelf.new) (F.absents shelf.old) (F.absents shelf.new)) }
 {
-    match shelf.open_file(name) {
-        Ok(()) => {}
-        Err(OpenFault::NoFile) => return refused(8, note::not_found(alloc, name)?),
-        Err(OpenFault::Failed) => return Err(Halt::ReadFault),
-    }
-    let mut buffer = piece_buffer(alloc)?;
-    let room = buffer.as_mut_slice();
-    let mut size: usize = 0;
     'pieces: while size <= MAX_TRACE as usize {
         let Ok(count) = shelf.read(room) else {
             return Err(Halt::ReadFault);
@@ -108,21 +135,26 @@ fn feed_file<F: Shelf>(
     refused(6, note::past_limit(alloc, name, MAX_TRACE)?)
 }
 
-// The lines of the trace in a file by their stanzas. The file's bytes are never all in memory.
+// The lines of the trace in hand by their stanzas, of which this front was read. Its bytes are never all in memory.
 #[tactic(auto, using(crate::proofs::ReadingLemmas::lines))]
-fn read_lines<F: Shelf>(
+fn rest_of_lines<F: Shelf>(
     alloc: Global,
     shelf: &mut F,
     name: &str,
     delim: u8,
+    room: &mut [u8],
+    front: &[u8],
 ) -> Result<Stanzas, Halt>
+    requires in_hand { IsTrue (F.in_hand shelf.old) }
+    requires room { 0 < length room.old }
+    requires upto { IsReadUpTo (F.files shelf.old) name.now front.now (F.left shelf.old) }
     ensures lines { GivesOver (F.files shelf.old) (λ lines. lines) result (lines_in delim name.now) }
     ensures past_words { IfErr result IsPastWords }
     ensures cause { IfErr result (HaltHasCause (F.faults shelf.old) (F.faults shelf.new) (F.absents shelf.old) (F.absents shelf.new)) }
     ensures few { IfOk result (λ lines. length lines ≤ max_dirs + max_entries) }
 {
-    let reader = TraceReader::new(alloc, delim)?;
-    let reader = feed_file(alloc, shelf, name, reader)?;
+    let reader = reader_of(alloc, delim, front)?;
+    let reader = feed_rest(alloc, shelf, name, room, reader, front.len())?;
     match reader.finish_stanzas() {
         Ok(lines) => Ok(lines),
         Err(TraceError::Fault(fault)) => refuse_line(alloc, name, fault),
@@ -145,8 +177,31 @@ fn build_tree(alloc: Global, name: &str, lines: Stanzas) -> Result<Tree, Halt>
     }
 }
 
-/// The tree of the trace in a file.
+/// The tree of the trace in hand, of which this front was read.
 #[tactic(auto, using(crate::proofs::ReadingLemmas::traces))]
+pub(crate) fn rest_of_trace<F: Shelf>(
+    alloc: Global,
+    shelf: &mut F,
+    name: &str,
+    delim: u8,
+    room: &mut [u8],
+    front: &[u8],
+) -> Result<Tree, Halt>
+    requires in_hand { IsTrue (F.in_hand shelf.old) }
+    requires room { 0 < length room.old }
+    requires upto { IsReadUpTo (F.files shelf.old) name.now front.now (F.left shelf.old) }
+    ensures tree { GivesOver (F.files shelf.old) (λ tree. tree) result (trace_in delim name.now) }
+    ensures past_words { IfErr result IsPastWords }
+    ensures cause { IfErr result (HaltHasCause (F.faults shelf.old) (F.faults shelf.new) (F.absents shelf.old) (F.absents shelf.new)) }
+{
+    match rest_of_lines(alloc, shelf, name, delim, room, front) {
+        Ok(lines) => build_tree(alloc, name, lines),
+        Err(halt) => Err(halt),
+    }
+}
+
+/// The tree of the trace in a file.
+#[tactic(auto, using(crate::proofs::ReadingLemmas::trace_unopened, crate::proofs::StepLemmas::cause_later))]
 pub(crate) fn read_trace_file<F: Shelf>(
     alloc: Global,
     shelf: &mut F,
@@ -157,10 +212,9 @@ pub(crate) fn read_trace_file<F: Shelf>(
     ensures past_words { IfErr result IsPastWords }
     ensures cause { IfErr result (HaltHasCause (F.faults shelf.old) (F.faults shelf.new) (F.absents shelf.old) (F.absents shelf.new)) }
 {
-    match read_lines(alloc, shelf, name, delim) {
-        Ok(lines) => build_tree(alloc, name, lines),
-        Err(halt) => Err(halt),
-    }
+    open_named(alloc, shelf, name)?;
+    let mut buffer = piece_buffer(alloc)?;
+    rest_of_trace(alloc, shelf, name, delim, buffer.as_mut_slice(), &[])
 }
 
 /// The tree of a trace that comes whole, as of a file of this name.

@@ -7,6 +7,7 @@ ghost use Rattle.gufi_top.specs.Verdict.{writes_only, trace2index_over, rolled_u
 ghost use Rattle.gufi_top.specs.Calls.{Gives, GivesOver, IsOfBytes, IsPastWords, HaltHasCause};
 
 use crate::halt::{Halt, Text};
+use crate::index::read_index;
 use crate::note;
 use crate::reading::read_trace_file;
 use crate::walk::snapshot_of;
@@ -14,19 +15,31 @@ use gufi_base::Memory;
 use gufi_image::write_image;
 use gufi_io::Shelf;
 use gufi_roll::{RollReport, roll, roll_report};
+use gufi_snap::Snapshot;
 use gufi_tree::Tree;
 use std::alloc::Global;
 use std::mem::forget;
 
-/// The image of a tree whose roll-up has this limit.
-fn image_of(alloc: Global, tree: Tree, limit: u64) -> Result<Vec<u8>, Memory>
-    ensures { IfOk result (λ image. image.items ≡ image_text tree limit) }
+/// The image of a snapshot.
+fn image_of(alloc: Global, snap: Snapshot) -> Result<Vec<u8>, Memory>
+    ensures { IfOk result (λ image. image.items ≡ image_text snap.tree snap.limit) }
 {
-    let snap = snapshot_of(alloc, tree, limit)?;
     let image = write_image(alloc, &snap);
     // The run ends soon, so the snapshot isn't given back part by part.
     forget(snap);
     image
+}
+
+/// The image of a snapshot's tree under a limit.
+fn image_under(alloc: Global, snap: Snapshot, limit: u64) -> Result<Vec<u8>, Memory>
+    ensures { IfOk result (λ image. image.items ≡ image_text snap.tree limit) }
+{
+    if snap.limit() == limit {
+        return image_of(alloc, snap);
+    }
+    let other = snap.with_limit(alloc, limit)?;
+    forget(snap);
+    image_of(alloc, other)
 }
 
 /// What a tree's roll-up comes to.
@@ -37,15 +50,15 @@ pub(crate) fn report_of(alloc: Global, tree: &Tree, limit: u64) -> Result<RollRe
     Ok(roll_report(tree, &flags))
 }
 
-// What `rollup` writes of a tree: its image, and a report as a note.
-fn roll_tree(alloc: Global, tree: Tree, limit: u64) -> Result<Text, Halt>
-    ensures text { Gives text_view result (rolled_up limit tree) }
+// What `rollup` writes of a snapshot: the image of its tree under the limit, and a report as a note.
+fn roll_snapshot(alloc: Global, snap: Snapshot, limit: u64) -> Result<Text, Halt>
+    ensures text { Gives text_view result (rolled_up limit snap.tree) }
     ensures of_bytes { IfErr result IsOfBytes }
     ensures past_words { IfErr result IsPastWords }
 {
-    let report = report_of(alloc, &tree, limit)?;
+    let report = report_of(alloc, snap.tree(), limit)?;
     let notes = note::report(alloc, report)?;
-    let out = image_of(alloc, tree, limit)?;
+    let out = image_under(alloc, snap, limit)?;
     Ok(Text { out, notes })
 }
 
@@ -62,8 +75,8 @@ pub(crate) fn rollup<F: Shelf>(
     ensures past_words { IfErr result IsPastWords }
     ensures cause { IfErr result (HaltHasCause (F.faults shelf.old) (F.faults shelf.new) (F.absents shelf.old) (F.absents shelf.new)) }
 {
-    match read_trace_file(alloc, shelf, index, delim) {
-        Ok(tree) => roll_tree(alloc, tree, limit),
+    match read_index(alloc, shelf, index, delim, limit) {
+        Ok(snap) => roll_snapshot(alloc, snap, limit),
         Err(halt) => Err(halt),
     }
 }
@@ -74,7 +87,7 @@ fn image_text_of(alloc: Global, tree: Tree) -> Result<Text, Halt>
     ensures of_bytes { IfErr result IsOfBytes }
     ensures past_words { IfErr result IsPastWords }
 {
-    let out = image_of(alloc, tree, 0)?;
+    let out = image_of(alloc, snapshot_of(alloc, tree, 0)?)?;
     Ok(Text {
         out,
         notes: Vec::new(alloc),

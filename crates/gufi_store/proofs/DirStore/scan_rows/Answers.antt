@@ -46,6 +46,6 @@ loop-entry-preserved g c = λ rows stands.
     (c.text-stem.ensures.text ∙ ap (λ d. kept_text d.path) same)
     c.as_slice.ensures.value refl c.as_slice-in-loop-entry.ensures in
     let deep : c.in_ok-depth.depth + 1 ≡ length (d.path ++ x.name ∷ []) - c.args.above =
-    omega (arith, length-append d.path (x.name ∷ []), c.in_ok-depth.ensures.0, c.self.invariant, ap (λ d. length d.path) c.self.view_is, c.requires.above) in
+    omega (arith, length-append d.path (x.name ∷ []), c.in_ok-depth.ensures.0, c.depth-components.ensures, ap (λ (d : Directory). length d.path) same, c.requires.above) in
     let more = filter-own_rows (is_met c.args.above sat) d c.loop-entry.entry-index x inside is in
     rw (more, ← append_assoc, ← deep) (c.in_ok-offer-2.ensures (entry_row d.path x) _ stands_here (c.loop-entry.invariant rows stands))

@@ -1,7 +1,7 @@
 use Rattle.std.proofs.Common.{◌≡◌, ◌≤◌, ◌+◌, ◌-◌, true}
 use Rattle.gufi_top.specs.Fed.{IsFedUpTo}
 use Rattle.gufi_base.specs.Limits.{max_trace}
-use Rattle.gufi_top.proofs.reading.feed_file.Given as goal
+use Rattle.gufi_top.proofs.reading.feed_rest.Given as goal
 
 abbrev pub invariant-pieces : goal.invariant-pieces
 invariant-pieces g l = record {

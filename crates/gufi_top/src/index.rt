@@ -1,0 +1,226 @@
+//! The file that a word INDEX names: an image, or a trace.
+ghost use Rattle.std.specs.Prelude.{◌≡◌, ◌≢◌, ◌≤◌, ◌<◌, [], true, length, IfErr, IfOk, OnOk, IsTrue, Err};
+ghost use Rattle.gufi_base.specs.Limits.{max_image};
+ghost use Rattle.gufi_io.specs.Files.{IsReadUpTo};
+ghost use Rattle.gufi_snap.specs.Snap.{Snap};
+ghost use Rattle.gufi_top.specs.Views.{bytes_view};
+ghost use Rattle.gufi_top.specs.Reasons.{held, file_in, image_reason, image_within, image_in, rolled_under, traced_in, is_image, index_by, index_in};
+ghost use Rattle.gufi_top.specs.Calls.{Gives, GivesOver, IsOfBytes, IsPastWords, HaltHasCause};
+ghost use Rattle.gufi_top.specs.Fed.{BeginsAs};
+
+use crate::halt::{Halt, refused};
+use crate::note;
+use crate::reading::{open_named, piece_buffer, rest_of_trace};
+use crate::walk::snapshot_of;
+use gufi_image::{ImageError, ImageKind, read_image};
+use gufi_io::Shelf;
+use gufi_snap::Snapshot;
+use gufi_tree::Tree;
+use std::alloc::Global;
+
+/// How many bytes an image may have.
+const MAX_IMAGE: u32 = 1_073_741_824;
+
+/// How many bytes tell an image from a trace.
+const MARK: usize = 6;
+
+#[tactic(auto, unfolding(crate::specs::Reasons::is_image))]
+fn is_image(front: &[u8]) -> bool
+    ensures { result ≡ is_image front.now }
+{
+    front.starts_with(b"GUFIX\0")
+}
+
+// Takes a file in hand, and reads on until what it has begun with tells an image from a trace.
+#[tactic(auto, using(crate::proofs::IndexLemmas::fronts))]
+fn read_front<F: Shelf>(
+    alloc: Global,
+    shelf: &mut F,
+    name: &str,
+    room: &mut [u8],
+) -> Result<Vec<u8>, Halt>
+    requires { 0 < length room.old }
+    ensures hand { OnOk result (F.in_hand shelf.new ≡ true) }
+    ensures upto { IfOk result (λ front. IsReadUpTo (F.files shelf.old) name.now front.items (F.left shelf.new)) }
+    ensures begins { IfOk result (λ front. BeginsAs (F.files shelf.old) name.now (is_image front.items)) }
+    ensures refused { IfErr result (λ e. GivesOver (F.files shelf.old) bytes_view (Err e) (λ files. held files name.now)) }
+    ensures past_words { IfErr result IsPastWords }
+    ensures cause { IfErr result (HaltHasCause (F.faults shelf.old) (F.faults shelf.new) (F.absents shelf.old) (F.absents shelf.new)) }
+    ensures same { F.files shelf.new ≡ F.files shelf.old }
+    ensures faults { F.faults shelf.old ≤ F.faults shelf.new }
+    ensures absents { F.absents shelf.old ≤ F.absents shelf.new }
+{
+    open_named(alloc, shelf, name)?;
+    let mut front = Vec::new(alloc);
+    'pieces: while front.len() < MARK {
+        let Ok(count) = shelf.read(room) else {
+            return Err(Halt::ReadFault);
+        };
+        if count == 0 {
+            return Ok(front);
+        }
+        let (piece, _) = room.split_at(count);
+        front.extend_from_slice(piece)?;
+    }
+    Ok(front)
+}
+
+// The bytes of the image in hand, of which these were read. Each byte is copied once, into memory that grows by doubling.
+#[tactic(auto, using(crate::proofs::IndexLemmas::gathering))]
+fn gather_rest<F: Shelf>(
+    alloc: Global,
+    shelf: &mut F,
+    name: &str,
+    room: &mut [u8],
+    mut bytes: Vec<u8>,
+) -> Result<Vec<u8>, Halt>
+    requires in_hand { IsTrue (F.in_hand shelf.old) }
+    requires room { 0 < length room.old }
+    requires upto { IsReadUpTo (F.files shelf.old) name.now bytes.items (F.left shelf.old) }
+    ensures bytes { GivesOver (F.files shelf.old) bytes_view result (file_in max_image name.now) }
+    ensures few { IfOk result (λ bytes. length bytes.items ≤ max_image) }
+    ensures past_words { IfErr result IsPastWords }
+    ensures cause { IfErr result (HaltHasCause (F.faults shelf.old) (F.faults shelf.new) (F.absents shelf.old) (F.absents shelf.new)) }
+{
+    'pieces: while bytes.len() <= MAX_IMAGE as usize {
+        let Ok(count) = shelf.read(room) else {
+            return Err(Halt::ReadFault);
+        };
+        if count == 0 {
+            return Ok(bytes);
+        }
+        let (piece, _) = room.split_at(count);
+        bytes.extend_from_slice(piece)?;
+    }
+    refused(6, note::past_limit(alloc, name, MAX_IMAGE)?)
+}
+
+// An image isn't read: a field is faulty, or a limit is passed.
+#[tactic(auto, unfolding(crate::specs::Reasons::image_reason))]
+fn refuse_field<T>(alloc: Global, name: &str, offset: u32, kind: ImageKind) -> Result<T, Halt>
+    ensures reason { Gives (λ (x : T). x) result (Err (image_reason name.now (ImageError.Fault offset kind))) }
+    ensures of_bytes { IfErr result IsOfBytes }
+    ensures past_words { IfErr result IsPastWords }
+{
+    if let ImageKind::TooMany { limit } = kind {
+        return refused(6, note::past_limit(alloc, name, limit)?);
+    }
+    refused(5, note::image_field(alloc, name, offset, kind)?)
+}
+
+// The snapshot whose image the bytes are.
+#[tactic(auto, using(crate::proofs::IndexLemmas::images))]
+fn snapshot_in(alloc: Global, name: &str, bytes: &[u8]) -> Result<Snapshot, Halt>
+    requires { length bytes.now ≤ max_image }
+    ensures snap { Gives (λ (snap : Snap). snap) result (image_within name.now bytes.now) }
+    ensures of_bytes { IfErr result IsOfBytes }
+    ensures past_words { IfErr result IsPastWords }
+{
+    match read_image(alloc, bytes) {
+        Ok(snap) => Ok(snap),
+        Err(ImageError::Fault { offset, kind }) => refuse_field(alloc, name, offset, kind),
+        Err(ImageError::Memory) => Err(Halt::Memory),
+    }
+}
+
+// The snapshot of the image in hand, of which this front was read. Its bytes are given back before the answer is made.
+#[tactic(auto, using(crate::proofs::IndexLemmas::image_files))]
+fn rest_of_image<F: Shelf>(
+    alloc: Global,
+    shelf: &mut F,
+    name: &str,
+    room: &mut [u8],
+    front: Vec<u8>,
+) -> Result<Snapshot, Halt>
+    requires in_hand { IsTrue (F.in_hand shelf.old) }
+    requires room { 0 < length room.old }
+    requires upto { IsReadUpTo (F.files shelf.old) name.now front.items (F.left shelf.old) }
+    ensures snap { GivesOver (F.files shelf.old) (λ (snap : Snap). snap) result (image_in name.now) }
+    ensures past_words { IfErr result IsPastWords }
+    ensures cause { IfErr result (HaltHasCause (F.faults shelf.old) (F.faults shelf.new) (F.absents shelf.old) (F.absents shelf.new)) }
+{
+    match gather_rest(alloc, shelf, name, room, front) {
+        Ok(bytes) => snapshot_in(alloc, name, &bytes),
+        Err(halt) => Err(halt),
+    }
+}
+
+// The snapshot of a trace's tree under a limit.
+fn roll_under(alloc: Global, tree: Tree, limit: u64) -> Result<Snapshot, Halt>
+    ensures snap { Gives (λ (snap : Snap). snap) result (rolled_under limit tree) }
+    ensures of_bytes { IfErr result IsOfBytes }
+    ensures past_words { IfErr result IsPastWords }
+{
+    Ok(snapshot_of(alloc, tree, limit)?)
+}
+
+// The snapshot of the trace in hand under a limit, of which this front was read.
+#[tactic(auto, using(crate::proofs::IndexLemmas::trace_files))]
+fn rest_of_traced<F: Shelf>(
+    alloc: Global,
+    shelf: &mut F,
+    name: &str,
+    delim: u8,
+    limit: u64,
+    room: &mut [u8],
+    front: &[u8],
+) -> Result<Snapshot, Halt>
+    requires in_hand { IsTrue (F.in_hand shelf.old) }
+    requires room { 0 < length room.old }
+    requires upto { IsReadUpTo (F.files shelf.old) name.now front.now (F.left shelf.old) }
+    ensures snap { GivesOver (F.files shelf.old) (λ (snap : Snap). snap) result (traced_in delim limit name.now) }
+    ensures past_words { IfErr result IsPastWords }
+    ensures cause { IfErr result (HaltHasCause (F.faults shelf.old) (F.faults shelf.new) (F.absents shelf.old) (F.absents shelf.new)) }
+{
+    match rest_of_trace(alloc, shelf, name, delim, room, front) {
+        Ok(tree) => roll_under(alloc, tree, limit),
+        Err(halt) => Err(halt),
+    }
+}
+
+// The snapshot of the index in hand, of which this front was read.
+#[tactic(auto, using(crate::proofs::IndexLemmas::index_files))]
+fn rest_of_index<F: Shelf>(
+    alloc: Global,
+    shelf: &mut F,
+    name: &str,
+    delim: u8,
+    limit: u64,
+    room: &mut [u8],
+    front: Vec<u8>,
+) -> Result<Snapshot, Halt>
+    requires in_hand { IsTrue (F.in_hand shelf.old) }
+    requires room { 0 < length room.old }
+    requires upto { IsReadUpTo (F.files shelf.old) name.now front.items (F.left shelf.old) }
+    requires begins { BeginsAs (F.files shelf.old) name.now (is_image front.items) }
+    ensures snap { GivesOver (F.files shelf.old) (λ (snap : Snap). snap) result (index_in delim limit name.now) }
+    ensures past_words { IfErr result IsPastWords }
+    ensures cause { IfErr result (HaltHasCause (F.faults shelf.old) (F.faults shelf.new) (F.absents shelf.old) (F.absents shelf.new)) }
+{
+    if is_image(&front) {
+        rest_of_image(alloc, shelf, name, room, front)
+    } else {
+        rest_of_traced(alloc, shelf, name, delim, limit, room, &front)
+    }
+}
+
+/// The snapshot of the index in a file: of an image under the limit that it holds, or of a trace under this one.
+///
+/// A trace is never whole in memory. An image is, until its snapshot is made.
+#[tactic(auto, using(crate::proofs::IndexLemmas::unread, crate::proofs::StepLemmas::cause_later))]
+pub(crate) fn read_index<F: Shelf>(
+    alloc: Global,
+    shelf: &mut F,
+    name: &str,
+    delim: u8,
+    limit: u64,
+) -> Result<Snapshot, Halt>
+    ensures snap { GivesOver (F.files shelf.old) (λ (snap : Snap). snap) result (index_in delim limit name.now) }
+    ensures past_words { IfErr result IsPastWords }
+    ensures cause { IfErr result (HaltHasCause (F.faults shelf.old) (F.faults shelf.new) (F.absents shelf.old) (F.absents shelf.new)) }
+{
+    let mut buffer = piece_buffer(alloc)?;
+    let room = buffer.as_mut_slice();
+    let front = read_front(alloc, shelf, name, room)?;
+    rest_of_index(alloc, shelf, name, delim, limit, room, front)
+}
