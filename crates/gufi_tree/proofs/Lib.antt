@@ -11,8 +11,6 @@ pub mod Arranged
 pub mod Linked
 pub mod Resolving
 pub mod Apart
-pub mod SoundStanzas
-pub mod Marks
 pub mod Filters
 pub mod Rests
 pub mod Descent
@@ -22,4 +20,9 @@ pub mod RowHomes
 pub mod FoundStart
 pub mod Below
 pub mod Kids
-pub mod LinesOf
+pub mod Entries
+pub mod Shaped
+pub mod Numbered
+pub mod Ended
+pub mod Steps
+pub mod Kept

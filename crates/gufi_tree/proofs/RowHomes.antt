@@ -197,6 +197,9 @@ module _ (tree : List Directory) (shape : HasTreeShape tree) where
       let w = Has-flat_map own_rows dirs y k in
       differ d w.0 x y (within d (inl refl)) (within w.0 (inr w.1)) (All-Has (λ (c : Directory). d.path ≢ c.path) dirs w.0 apart.0 w.1) (own_path d x j) (own_path w.0 y w.2))
 
+  pub rows_once : Once row_cmp (flat_map own_rows tree)
+  rows_once = Once-from_unlike (flat_map own_rows tree) (all_unlike tree (λ d k. k) (distinct tree shape.order))
+
   -- all rows ascend, so no two have one path
   pub all_rows-ascends : ascends row_cmp (all_rows tree) ≡ true
-  all_rows-ascends = ascends-sort_by row_cmp rows_total (flat_map own_rows tree) (Once-from_unlike (flat_map own_rows tree) (all_unlike tree (λ d k. k) (distinct tree shape.order)))
+  all_rows-ascends = ascends-sort_by row_cmp rows_total (flat_map own_rows tree) rows_once

@@ -1,5 +1,6 @@
 pub mod Tree
 pub mod Stored
+pub mod Shape
 pub mod StanzaLines
 pub mod Build
 pub mod Places
@@ -9,4 +10,3 @@ pub mod Texts
 pub mod Resolve
 pub mod Reached
 pub mod Listed
-pub mod Sound

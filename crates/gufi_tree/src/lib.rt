@@ -4,17 +4,19 @@
 //! It stands on `gufi_base` and `gufi_access`; the trace reader and all queries stand on it.
 #![tactic(auto)]
 
+mod closed;
 mod fault;
 mod gather;
 mod likely;
 mod lines;
 mod link;
+mod names;
 mod ordered;
 mod place;
 mod resolve;
+mod shape;
 mod shared;
 mod sort;
-mod sound;
 mod stanzas;
 mod tree;
 

@@ -1,21 +1,21 @@
 //! A tree from the lines of a trace.
 
-ghost use Rattle.std.specs.Prelude.{◌≡◌, ◌≢◌, ◌<◌, ◌^◌, length, None, Some, IfOk, IsTrue, MatchResult};
+ghost use Rattle.std.specs.Prelude.{◌≡◌, ◌≢◌, ◌<◌, ◌^◌, length, None, Some, IfOk, IfSome, IsTrue, MatchResult};
 ghost use Rattle.gufi_base.specs.Words.{GivesUnless};
 ghost use Rattle.gufi_tree.specs.Build.{tree_fault, tree_of};
 ghost use Rattle.gufi_tree.specs.Stored.{directories_of, values_of};
 ghost use Rattle.gufi_tree.specs.Gathered.{IsArranged};
-ghost use Rattle.gufi_tree.specs.StanzaLines.{lines_from};
+ghost use Rattle.gufi_tree.specs.Shape.{are_distinct, IsOrdered};
 ghost use Rattle.gufi_tree.specs.Tree.{is_kinded};
 ghost use Rattle.std.specs.List.{list_all};
 
+use crate::closed::Closed;
 use crate::fault::{TreeFault, find_fault};
 use crate::gather::gather;
-use crate::likely::order_likely;
 use crate::place::place;
-use crate::shared::{share_all, sort_shared};
+use crate::shape::order_tree;
+use crate::shared::{share_again, share_all};
 use crate::sort::{sort_directories, sort_entries};
-use crate::sound::sound_places;
 use crate::stanzas::Stanzas;
 use crate::tree::{Stored, Tree};
 use gufi_base::Line;
@@ -31,27 +31,8 @@ fn arrange(alloc: Global, lines: Vec<Line>) -> Result<Vec<Arc<Stored, Global>>, 
     let mut stored = gathered.stored;
     sort_directories(&mut stored);
     place(&mut stored, gathered.loose)?;
-    sort_entries(alloc, &mut stored, &[]);
+    sort_entries(&mut stored);
     share_all(alloc, stored)
-}
-
-/// Directories whose lines have no fault, in order; the places tell where their entries are likely to go.
-///
-/// Linear but for the sorts, of siblings and of the entries of each directory.
-fn arrange_stored(
-    alloc: Global,
-    mut stored: Vec<Stored>,
-    places: &[u32],
-) -> Result<Vec<Arc<Stored, Global>>, AllocError>
-    requires sound { tree_fault (lines_from 1 stored.items) ≡ None }
-    requires kinds { IsTrue (list_all is_kinded (directories_of stored.items)) }
-    ensures { IfOk result (λ shared. IsArranged (lines_from 1 stored.items) (values_of shared.items)) }
-{
-    sort_entries(alloc, &mut stored, places);
-    let mut shared = share_all(alloc, stored)?;
-    order_likely(alloc, &mut shared)?;
-    sort_shared(&mut shared);
-    Ok(shared)
 }
 
 /// The directories of the lines, in order, or their least fault.
@@ -77,27 +58,41 @@ pub fn build(alloc: Global, lines: Vec<Line>) -> Result<Tree, TreeFault>
     Ok(tree)
 }
 
-/// The tree of lines without a fault.
-#[tactic(auto, unfolding(crate::specs::Build::tree_of))]
-fn build_sound(alloc: Global, stanzas: Stanzas, places: &[u32]) -> Result<Tree, TreeFault>
-    requires few { length stanzas < 2 ^ 32 }
-    requires sound { tree_fault stanzas ≡ None }
-    ensures { GivesUnless TreeFault.Memory result (tree_of stanzas) }
+/// Directories in path order, and where their parents stand.
+#[derive(Drop)]
+struct Ordered {
+    shared: Vec<Arc<Stored, Global>>,
+    parents: Vec<u32>,
+}
+
+/// The directories of stanzas in path order, where they are seen to be a tree.
+fn order_closed(alloc: Global, closed: &Closed) -> Result<Option<Ordered>, AllocError>
+    requires few { length closed.now.stored.items < 2 ^ 32 }
+    requires kinds { IsTrue (list_all is_kinded (directories_of (values_of closed.now.stored.items))) }
+    requires distinct { IsTrue closed.now.distinct → IsTrue (are_distinct (directories_of (values_of closed.now.stored.items))) }
+    ensures { IfOk result (λ found. IfSome found (λ ordered. IsOrdered (values_of closed.now.stored.items) (values_of ordered.shared.items) ordered.parents.items)) }
 {
-    let shared = arrange_stored(alloc, stanzas.into_stored(), places)?;
-    let tree = Tree::of(alloc, shared)?;
-    Ok(tree)
+    if !closed.distinct {
+        return Ok(None);
+    }
+    let mut shared = share_again(alloc, closed.stored.as_slice())?;
+    match order_tree(alloc, &mut shared)? {
+        None => Ok(None),
+        Some(parents) => Ok(Some(Ordered { shared, parents })),
+    }
 }
 
 /// The tree of the lines of stanzas, or `NoRoot`, or else their least faulty line.
 ///
-/// Only where a quick test doesn't see that they are sound, the lines are made and searched for the fault.
+/// Only where the directories in path order aren't seen to be a tree, the lines are made and searched for the fault.
+#[tactic(auto, unfolding(crate::specs::Build::tree_of))]
 pub fn build_stanzas(alloc: Global, stanzas: Stanzas) -> Result<Tree, TreeFault>
     requires { length stanzas < 2 ^ 32 }
     ensures { GivesUnless TreeFault.Memory result (tree_of stanzas) }
 {
-    match sound_places(alloc, stanzas.stored())? {
-        Some(places) => build_sound(alloc, stanzas, places.as_slice()),
-        None => build(alloc, stanzas.into_lines(alloc)?),
+    let closed = stanzas.into_closed(alloc)?;
+    match order_closed(alloc, &closed)? {
+        Some(found) => Ok(Tree::with_parents(alloc, found.shared, found.parents)?),
+        None => build(alloc, closed.lines(alloc)?),
     }
 }

@@ -28,6 +28,20 @@ pub(crate) fn share_all(
     Ok(shared)
 }
 
+/// The same directories, shared once more.
+pub(crate) fn share_again(
+    alloc: Global,
+    shared: &[Arc<Stored, Global>],
+) -> Result<Vec<Arc<Stored, Global>>, AllocError>
+    ensures { IfOk result (λ again. values_of again.items ≡ values_of shared.now) }
+{
+    let mut again = Vec::with_capacity(alloc, shared.len())?;
+    for dir in shared {
+        again.push(Arc::try_clone(dir)?)?;
+    }
+    Ok(again)
+}
+
 /// Puts directories in path order; linear where they are.
 pub(crate) fn sort_shared(shared: &mut Vec<Arc<Stored, Global>>)
     ensures permutation { IsPermutation shared.old.items shared.new.items }

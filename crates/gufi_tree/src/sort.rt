@@ -10,10 +10,8 @@ ghost use Rattle.gufi_tree.specs.Tree.{entry_cmp, place_of, is_kinded};
 ghost use Rattle.gufi_tree.specs.Stored.{directories_of, AreInOrder};
 ghost use Rattle.gufi_tree.specs.Gathered.{rows_of, paths_of};
 
-use crate::likely::move_to;
 use crate::tree::{Entry, Stored};
 use gufi_base::{name_cmp, path_cmp, text_cmp};
-use std::alloc::{AllocError, Global};
 use std::cmp::Ordering;
 
 /// Puts directories in path order; linear where they are.
@@ -31,52 +29,24 @@ pub(crate) fn sort_names(entries: &mut Vec<Entry>)
     entries.sort_unstable_by(|a, b| name_cmp(&a.name, &b.name));
 }
 
-/// So many of the places from one on, or none where there are fewer.
-fn places_at(
-    alloc: Global,
-    places: &[u32],
-    at: usize,
-    count: usize,
-) -> Result<Vec<u32>, AllocError> {
-    let end = at.saturating_add(count);
-    if end > places.len() {
-        return Ok(Vec::new(alloc));
-    }
-    Vec::from_slice(alloc, &places[at..end])
-}
-
-/// Moves entries to where they are likely to go in name order, as the places tell from one on.
-fn move_entries(alloc: Global, entries: &mut Vec<Entry>, places: &[u32], at: usize)
-    ensures { IsPermutation entries.old.items entries.new.items }
-{
-    match places_at(alloc, places, at, entries.len()) {
-        Ok(own) => move_to(entries, own),
-        Err(_) => {}
-    }
-}
-
-fn sort_own_entries(alloc: Global, dir: &mut Stored, places: &[u32], at: usize)
+fn sort_own_entries(dir: &mut Stored)
     ensures path { dir.new.path ≡ dir.old.path }
     ensures rec { dir.new.rec ≡ dir.old.rec }
     ensures permutation { IsPermutation dir.old.entries.items dir.new.entries.items }
     ensures order { IsSortedBy (λ x y. is_lt (entry_cmp x y)) dir.new.entries.items }
 {
-    move_entries(alloc, &mut dir.entries, places, at);
     sort_names(&mut dir.entries);
 }
 
-/// Puts the entries of each directory in name order; linear where the places of all entries tell where they go.
-pub(crate) fn sort_entries(alloc: Global, stored: &mut Vec<Stored>, places: &[u32])
+/// Puts the entries of each directory in name order; linear where they are.
+pub(crate) fn sort_entries(stored: &mut Vec<Stored>)
     ensures rows { IsPermutation (rows_of stored.old.items) (rows_of stored.new.items) }
     ensures kinds { list_all is_kinded (directories_of stored.new.items) ≡ list_all is_kinded (directories_of stored.old.items) }
     ensures paths { paths_of stored.new.items ≡ paths_of stored.old.items }
     ensures order { (k : ℕ) (d : Stored) → k < length stored.new.items → IsSortedBy (λ x y. is_lt (entry_cmp x y)) (slice_index_or stored.new.items k d).entries.items }
 {
-    let mut at: usize = 0;
     for dir in stored.iter_mut() {
-        let count = dir.entries.len();
-        sort_own_entries(alloc, dir, places, at);
-        at = at.saturating_add(count);
+        sort_own_entries(dir);
     }
 }
 

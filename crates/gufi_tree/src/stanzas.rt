@@ -1,28 +1,36 @@
 //! Lines by their stanzas: a directory, and its entries behind it.
 
-ghost use Rattle.std.specs.Prelude.{◌≡◌, ◌<◌, ◌+◌, ◌^◌, ◌++◌, ◌∷◌, [], not, true, false, List, length, reverse, count_by, MatchOption, IfOk, OnOk, OnErr, IsTrue};
+ghost use Rattle.std.specs.Prelude.{List, ◌≡◌, ◌<◌, ◌≤◌, ◌+◌, ◌^◌, ◌++◌, ◌∷◌, [], not, true, false, length, drop, nat_lt, reverse, count_by, MatchOption, IfOk, OnOk, IsTrue};
 ghost use Rattle.std.specs.List.{list_all};
+ghost use Rattle.std.specs.List.Sorted.{IsPermutation, IsSortedBy};
+ghost use Rattle.std.specs.Ordering.{is_lt};
+ghost use Rattle.gufi_base.specs.declared.record.Line.{Line};
 ghost use Rattle.gufi_base.specs.Kinds.{is_dir};
-ghost use Rattle.gufi_base.specs.Names.{is_name};
 ghost use Rattle.gufi_base.specs.Paths.{Components, is_child_of, base_name};
 ghost use Rattle.gufi_tree.specs.Build.{is_dir_line};
-ghost use Rattle.gufi_tree.specs.Tree.{is_kinded};
-ghost use Rattle.gufi_tree.specs.Texts.{are_named};
-ghost use Rattle.gufi_tree.specs.Stored.{directory_of, directories_of};
-ghost use Rattle.gufi_tree.specs.StanzaLines.{stanza_holds, entry_lines, lines_from, AreKept, HasOneMore, HasLastMore};
+ghost use Rattle.gufi_tree.specs.Tree.{own_rows};
+ghost use Rattle.gufi_tree.specs.Gathered.{rows_of};
+ghost use Rattle.gufi_tree.specs.Stored.{directory_of, values_of};
+ghost use Rattle.gufi_tree.specs.StanzaLines.{stanza_holds, line_cmp, zip_lines, are_few, IsWhole};
 
+use crate::closed::{Begun, Closed, Placed};
 use crate::tree::{Entry, Stored};
-use gufi_base::{Line, Name, Path, Rec};
+use gufi_base::{Bytes, Line, Name, Path, Rec};
 use std::alloc::{AllocError, Global};
 use std::marker::Model;
+use std::sync::Arc;
 
 /// Lines of which each entry's stands behind its directory's, or behind that of another entry of it.
 ///
-/// The path of an entry isn't kept: it is its directory's and its name. Contracts see the lines, numbered from 1.
+/// The path of an entry isn't kept: it is its directory's and its name. When the next stanza begins, the entries of the one before
+/// are put in name order, in as much memory as they take. Contracts see the lines, numbered from 1.
 #[derive(Drop)]
 pub struct Stanzas {
-    stored: Vec<Stored>,
+    closed: Closed,
+    begun: Option<Begun>,
+    entries: Vec<Placed>,
     count: usize,
+    dirs: usize,
 }
 
 impl Model for Stanzas {
@@ -31,30 +39,28 @@ impl Model for Stanzas {
 
     ghost Value = { List Line };
 
-    ghost use Rattle.gufi_tree.specs.StanzaLines.{lines_from, AreKept};
+    ghost use Rattle.gufi_tree.specs.Stored.{values_of};
+    ghost use Rattle.gufi_tree.specs.StanzaLines.{lines_in, AreKept};
 
-    ghost view = { λ s. lines_from 1 s.stored.items };
+    ghost view = { λ s. lines_in (values_of s.closed.stored.items) s.closed.places.items s.begun s.entries.items };
 
-    ghost invariant = { λ s. AreKept s.stored.items s.count };
+    ghost invariant = { λ s. AreKept (values_of s.closed.stored.items) s.closed.places.items s.closed.distinct s.begun s.entries.items s.count s.dirs };
 }
 
-/// Adds an entry to a directory.
-fn push_entry(dir: &mut Stored, name: Name, rec: Rec) -> Result<(), AllocError>
-    ensures ok { OnOk result (HasOneMore dir.old dir.new (record { name = name; rec = rec })) }
-    ensures err { OnErr result (directory_of dir.new ≡ directory_of dir.old) }
+/// The number of the line behind so many others.
+fn number_of(place: u32) -> u32
+    requires { place + 1 < 2 ^ 32 }
+    ensures { result ≡ place + 1 }
 {
-    dir.entries.push(Entry { name, rec })?;
-    Ok(())
+    place + 1
 }
 
-/// Adds an entry to the last directory.
-fn push_last(stored: &mut Vec<Stored>, name: Name, rec: Rec) -> Result<(), AllocError>
-    requires { 0 < length stored.old.items }
-    ensures ok { OnOk result (HasLastMore stored.old.items stored.new.items (record { name = name; rec = rec })) }
-    ensures err { OnErr result (directories_of stored.new.items ≡ directories_of stored.old.items) }
+fn copy_rec(alloc: Global, rec: &Rec) -> Result<Rec, AllocError>
+    ensures { IfOk result (λ copy. copy ≡ rec.now) }
 {
-    let last = stored.len() - 1;
-    push_entry(&mut stored[last], name, rec)
+    let link = Bytes::from_slice(alloc, rec.link.as_slice())?;
+    let meta = rec.meta;
+    Ok(Rec { meta, link })
 }
 
 /// Adds the line of an entry of the directory with a path.
@@ -62,48 +68,109 @@ fn push_entry_line(
     alloc: Global,
     lines: &mut Vec<Line>,
     path: &Path,
-    entry: Entry,
+    entry: &Entry,
+    place: u32,
 ) -> Result<(), AllocError>
-    requires { length lines.old.items + 1 < 2 ^ 32 }
-    ensures { OnOk result (lines.new.items ≡ lines.old.items ++ entry_lines (length lines.old.items + 1) path.now (entry ∷ [])) }
+    requires { place + 1 < 2 ^ 32 }
+    ensures { OnOk result (lines.new.items ≡ lines.old.items ++ record { number = place + 1; path = path.now ++ entry.now.name ∷ []; rec = entry.now.rec } ∷ []) }
 {
-    let number = lines.len() as u32 + 1;
     let path = path.child(alloc, entry.name.as_slice())?;
-    let rec = entry.rec;
+    let rec = copy_rec(alloc, &entry.rec)?;
+    let number = number_of(place);
     lines.push(Line { number, path, rec })?;
     Ok(())
 }
 
-/// Adds the lines of a directory and of its entries.
-fn push_lines(alloc: Global, lines: &mut Vec<Line>, stored: Stored) -> Result<(), AllocError>
-    requires { length lines.old.items + 1 + length stored.entries.items < 2 ^ 32 }
-    ensures { OnOk result (lines.new.items ≡ lines.old.items ++ lines_from (length lines.old.items + 1) (stored ∷ [])) }
+/// Adds the line of a directory.
+fn push_dir_line(
+    alloc: Global,
+    lines: &mut Vec<Line>,
+    dir: &Stored,
+    place: u32,
+) -> Result<(), AllocError>
+    requires { place + 1 < 2 ^ 32 }
+    ensures { OnOk result (lines.new.items ≡ lines.old.items ++ record { number = place + 1; path = dir.now.path; rec = dir.now.rec } ∷ []) }
 {
-    let number = lines.len() as u32 + 1;
-    let path = stored.path;
-    let rec = stored.rec;
-    let own = path.copy(alloc)?;
-    lines.push(Line {
-        number,
-        path: own,
-        rec,
-    })?;
-    for entry in stored.entries {
-        push_entry_line(alloc, lines, &path, entry)?;
+    let path = dir.path.copy(alloc)?;
+    let rec = copy_rec(alloc, &dir.rec)?;
+    let number = number_of(place);
+    lines.push(Line { number, path, rec })?;
+    Ok(())
+}
+
+/// Adds the lines of a directory and of its entries, whose places begin at one among all.
+fn push_lines(
+    alloc: Global,
+    lines: &mut Vec<Line>,
+    dir: &Stored,
+    places: &[u32],
+    at: usize,
+) -> Result<(), AllocError>
+    requires within { at + length (own_rows (directory_of dir.now)) ≤ length places.now }
+    requires few { IsTrue (are_few places.now) }
+    ensures { OnOk result (lines.new.items ≡ lines.old.items ++ zip_lines (drop at places.now) (own_rows (directory_of dir.now))) }
+{
+    push_dir_line(alloc, lines, dir, places[at])?;
+    let mut next = at + 1;
+    for entry in &dir.entries {
+        push_entry_line(alloc, lines, &dir.path, entry, places[next])?;
+        next += 1;
     }
     Ok(())
 }
 
-/// The lines of directories, so many.
-fn lines_of(alloc: Global, stored: Vec<Stored>, count: usize) -> Result<Vec<Line>, AllocError>
-    requires { length (lines_from 1 stored.items) < 2 ^ 32 }
-    ensures { IfOk result (λ lines. lines.items ≡ lines_from 1 stored.items) }
+/// Puts lines in the order of their numbers.
+fn sort_lines(lines: &mut Vec<Line>)
+    ensures permutation { IsPermutation lines.old.items lines.new.items }
+    ensures order { IsSortedBy (λ x y. is_lt (line_cmp x y)) lines.new.items }
 {
+    lines.sort_unstable_by(|a, b| a.number.cmp(&b.number));
+}
+
+fn rows_in(dir: &Stored) -> usize
+    requires { length dir.now.entries.items + 1 < 2 ^ 64 }
+    ensures { result ≡ length (own_rows (directory_of dir.now)) }
+{
+    dir.entries.len() + 1
+}
+
+fn count_of(places: &[u32]) -> usize
+    ensures { result ≡ length places.now }
+{
+    places.len()
+}
+
+/// The lines of directories and of their entries, as these are kept.
+fn kept_lines(
+    alloc: Global,
+    stored: &[Arc<Stored, Global>],
+    places: &[u32],
+) -> Result<Vec<Line>, AllocError>
+    requires whole { length places.now ≡ length (rows_of (values_of stored.now)) }
+    requires few { IsTrue (are_few places.now) }
+    ensures { IfOk result (λ lines. lines.items ≡ zip_lines places.now (rows_of (values_of stored.now))) }
+{
+    let count = count_of(places);
     let mut lines = Vec::with_capacity(alloc, count)?;
+    let mut at = 0;
     for dir in stored {
-        push_lines(alloc, &mut lines, dir)?;
+        push_lines(alloc, &mut lines, dir, places, at)?;
+        at += rows_in(dir);
     }
     Ok(lines)
+}
+
+impl Closed {
+    /// The lines, each with its path, in the order of their numbers. Directories and entries are copied.
+    pub(crate) fn lines(&self, alloc: Global) -> Result<Vec<Line>, AllocError>
+        requires whole { length self.now.places.items ≡ length (rows_of (values_of self.now.stored.items)) }
+        requires few { IsTrue (are_few self.now.places.items) }
+        ensures { IfOk result (λ lines. (known : List Line) → IsWhole known (values_of self.now.stored.items) self.now.places.items self.now.distinct → lines.items ≡ known) }
+    {
+        let mut lines = kept_lines(alloc, self.stored.as_slice(), self.places.as_slice())?;
+        sort_lines(&mut lines);
+        Ok(lines)
+    }
 }
 
 impl Stanzas {
@@ -111,8 +178,11 @@ impl Stanzas {
         ensures { result ≡ [] }
     {
         Stanzas {
-            stored: Vec::new(alloc),
+            closed: Closed::new(alloc),
+            begun: None,
+            entries: Vec::new(alloc),
             count: 0,
+            dirs: 0,
         }
     }
 
@@ -128,32 +198,38 @@ impl Stanzas {
         ensures dirs { result ≡ count_by is_dir_line self.now }
         ensures entries { result + count_by (λ line. not (is_dir_line line)) self.now ≡ length self.now }
     {
-        self.stored.len()
+        self.dirs
     }
 
     /// The directory of the last stanza.
     pub fn stanza(&self) -> Option<&Path>
         ensures { MatchOption result (self.now ≡ []) (λ path. (child : Components) → stanza_holds (reverse self.now) child ≡ is_child_of path.now child) }
     {
-        let count = self.stored.len();
-        if count == 0 {
-            return None;
+        match &self.begun {
+            None => None,
+            Some(begun) => Some(&begun.path),
         }
-        Some(&self.stored[count - 1].path)
     }
 
-    /// Adds the line of a directory, which begins a stanza.
+    /// Adds the line of a directory, which begins a stanza. Where there is no memory, all lines are given up.
     pub fn push_dir(&mut self, alloc: Global, path: Path, rec: Rec) -> Result<(), AllocError>
         requires kind { is_dir rec.meta.kind ≡ true }
         requires few { length self.old < 2 ^ 32 }
         ensures { OnOk result (self.new ≡ self.old ++ record { number = length self.old + 1; path = path; rec = rec } ∷ []) }
     {
-        // A path's own text tells that its names are names.
-        let _text = path.text();
-        let entries = Vec::new(alloc);
-        self.stored.push(Stored { path, rec, entries })?;
-        self.count += 1;
-        Ok(())
+        let place = self.count as u32;
+        let before = self.begun.replace(Begun { path, rec, place });
+        match self.closed.end(alloc, before, &mut self.entries) {
+            Ok(()) => {
+                self.count += 1;
+                self.dirs += 1;
+                Ok(())
+            }
+            Err(error) => {
+                *self = Stanzas::new(alloc);
+                Err(error)
+            }
+        }
     }
 
     /// Adds the line of an entry of the last directory.
@@ -163,10 +239,25 @@ impl Stanzas {
         requires few { length self.old < 2 ^ 32 }
         ensures { OnOk result ((path : Components) → stanza_holds (reverse self.old) path ≡ true → base_name path ≡ name → self.new ≡ self.old ++ record { number = length self.old + 1; path = path; rec = rec } ∷ []) }
     {
-        let _bytes = name.as_slice();
-        push_last(&mut self.stored, name, rec)?;
+        let place = self.count as u32;
+        let entry = Entry { name, rec };
+        self.entries.push(Placed { entry, place })?;
         self.count += 1;
         Ok(())
+    }
+
+    /// The directories, the last stanza ended too.
+    pub(crate) fn into_closed(self, alloc: Global) -> Result<Closed, AllocError>
+        ensures { IfOk result (λ closed. IsWhole self (values_of closed.stored.items) closed.places.items closed.distinct) }
+    {
+        let Stanzas {
+            mut closed,
+            begun,
+            mut entries,
+            ..
+        } = self;
+        closed.end(alloc, begun, &mut entries)?;
+        Ok(closed)
     }
 
     /// The lines, each with its path.
@@ -174,23 +265,7 @@ impl Stanzas {
         requires { length self < 2 ^ 32 }
         ensures { IfOk result (λ lines. lines.items ≡ self) }
     {
-        lines_of(alloc, self.stored, self.count)
-    }
-
-    /// The directories, in order of coming, each with its entries.
-    pub(crate) fn stored(&self) -> &[Stored]
-        ensures lines { lines_from 1 result.now ≡ self.now }
-        ensures kinds { IsTrue (list_all is_kinded (directories_of result.now)) }
-        ensures named { IsTrue (are_named self.now) }
-    {
-        self.stored.as_slice()
-    }
-
-    /// The same, given away.
-    pub(crate) fn into_stored(self) -> Vec<Stored>
-        ensures lines { lines_from 1 result.items ≡ self }
-        ensures kinds { IsTrue (list_all is_kinded (directories_of result.items)) }
-    {
-        self.stored
+        let closed = self.into_closed(alloc)?;
+        closed.lines(alloc)
     }
 }

@@ -5,6 +5,7 @@ ghost use Rattle.std.specs.List.{flat_map};
 ghost use Rattle.gufi_base.specs.Words.{ascends};
 ghost use Rattle.gufi_access.specs.Access.{rights};
 ghost use Rattle.gufi_tree.specs.Tree.{Directory, own_rows, rights_of, entry_cmp, place_of, HasTreeShape};
+ghost use Rattle.gufi_tree.specs.Kept.{HasParents};
 ghost use Rattle.gufi_tree.specs.Places.{dir_id, path_at, parent_id, child_ids};
 ghost use Rattle.std.specs.Arc.{arc_value};
 ghost use Rattle.gufi_tree.specs.Stored.{directory_of, directories_of, values_of};
@@ -67,6 +68,21 @@ impl Tree {
         ensures { IfOk result (λ tree. tree ≡ directories_of (values_of stored.items)) }
     {
         let parents = parents_of(alloc, stored.as_slice())?;
+        Tree::with_parents(alloc, stored, parents)
+    }
+
+    /// The tree of directories in order, whose parents stand at these places.
+    pub(crate) fn with_parents(
+        alloc: Global,
+        stored: Vec<Arc<Stored, Global>>,
+        parents: Vec<u32>,
+    ) -> Result<Tree, AllocError>
+        requires few { length stored.items < 2 ^ 32 }
+        requires rows { length (flat_map own_rows (directories_of (values_of stored.items))) < 2 ^ 32 }
+        requires shape { HasTreeShape (directories_of (values_of stored.items)) }
+        requires parents { HasParents (directories_of (values_of stored.items)) parents.items }
+        ensures { IfOk result (λ tree. tree ≡ directories_of (values_of stored.items)) }
+    {
         let subdirs = subdirs_of(alloc, parents.as_slice())?;
         Ok(Tree {
             stored,

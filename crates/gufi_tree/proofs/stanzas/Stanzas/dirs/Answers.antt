@@ -1,16 +1,13 @@
-use Rattle.std.proofs.Common.{◌≡◌, sym, ap, ◌∙◌, arith, List}
+use Rattle.std.proofs.Common.{◌≡◌, ◌+◌, List, length, subst, arith}
 use Rattle.std.specs.Prelude.{count_by}
 use Rattle.gufi_base.specs.declared.record.Line.{Line}
-use Rattle.gufi_tree.specs.Build.{is_dir_line}
-use Rattle.gufi_tree.proofs.LinesOf.{dirs_counted, both_counted}
+use Rattle.gufi_tree.specs.Stored.{values_of}
+use Rattle.gufi_tree.specs.StanzaLines.{lines_in}
+use Rattle.gufi_tree.proofs.Numbered.{is_entry, both_counted}
 use Rattle.gufi_tree.proofs.stanzas.Stanzas.dirs.Goals as goal
-
-pub returns-clause-dirs : goal.returns-clause-dirs
-returns-clause-dirs c =
-    c.len.ensures ∙ c.self.inside.stored.ok.0 ∙ sym (dirs_counted 1 c.self.inside.stored.items c.self.invariant.kinds) ∙ ap (λ (ls : List Line). count_by is_dir_line ls) c.self.view_is
 
 pub returns-clause-entries : goal.returns-clause-entries
 returns-clause-entries c =
-    let both = both_counted c.args.self.now in
-    let dirs : c.len.result ≡ count_by is_dir_line c.args.self.now = c.len.ensures ∙ c.self.inside.stored.ok.0 ∙ sym (dirs_counted 1 c.self.inside.stored.items c.self.invariant.kinds) ∙ ap (λ (ls : List Line). count_by is_dir_line ls) c.self.view_is in
-    omega (arith, both, dirs)
+    let i = c.self.inside in
+    let lines = lines_in (values_of i.closed.stored.items) i.closed.places.items i.begun i.entries.items in
+    subst (λ (ls : List Line). i.dirs + count_by is_entry ls ≡ length ls) c.self.view_is (let both = both_counted lines in let dirs = c.self.invariant.dir_lines in omega arith)

@@ -1,17 +1,30 @@
-use Rattle.std.proofs.Common.{◌≡◌, length, sym, ap, ◌∙◌, arith, List, subst, ◌∷◌, [], ◌++◌, ◌+◌}
+use Rattle.std.proofs.Common.{◌≡◌, ◌+◌, List, [], ◌∷◌, ◌++◌, length, refl, sym, ap, ◌∙◌}
 use Rattle.gufi_base.specs.declared.record.Line.{Line}
-use Rattle.gufi_tree.specs.declared.tree.Stored.{Stored}
-use Rattle.gufi_tree.specs.StanzaLines.{lines_from, AreKept}
-use Rattle.gufi_tree.proofs.LinesOf.{dir_pushed, kept_dir}
+use Rattle.gufi_tree.specs.declared.closed.Begun.{Begun}
+use Rattle.gufi_tree.specs.Stored.{values_of}
+use Rattle.gufi_tree.specs.StanzaLines.{IsWhole, lines_in}
+use Rattle.gufi_tree.proofs.Ended.{ended_whole, begun_kept, begun_is}
 use Rattle.gufi_tree.proofs.stanzas.Stanzas.push_dir.Goals as goal
 
-pub invariant_of-self-2 : goal.invariant_of-self-2
-invariant_of-self-2 c =
-    subst (λ (ss : List Stored). AreKept ss (c.self.inside.count + 1)) (sym c.in_ok-push.ensures.items)
-    (kept_dir c.self.inside.stored.items c.self.inside.count _ c.self.invariant c.new-entries.ensures.items c.requires.kind c.text-text.ensures.names)
+pub invariant_of-self : goal.invariant_of-self
+invariant_of-self c =
+    let i = c.self.inside in
+    let e = c.end.new.self in
+    let b : Begun = record { path = c.args.path; rec = c.args.rec; place = i.count } in
+    let lines = lines_in (values_of i.closed.stored.items) i.closed.places.items i.begun i.entries.items in
+    let whole : IsWhole lines (values_of e.stored.items) e.places.items e.distinct = ended_whole (values_of i.closed.stored.items) (values_of e.stored.items) i.closed.places.items e.places.items i.closed.distinct e.distinct i.begun i.entries.items i.count i.dirs c.self.invariant (rw (sym c.replace-before.ensures.value) c.in-Ok.ensures.ended) in
+    rw (c.replace-before.ensures.after, c.in-Ok.ensures.none)
+    (begun_kept lines (values_of e.stored.items) e.places.items e.distinct b i.count i.dirs whole c.self.invariant.counted c.self.invariant.dir_lines c.requires.kind refl)
 
-pub returns : goal.returns
-returns c =
-    let m : length c.args.self.now + 1 ≡ 1 + length (lines_from 1 c.self.inside.stored.items) = (let e = ap length c.self.view_is in omega (arith, e)) in
-    ap (lines_from 1) c.in_ok-push.ensures.items ∙ dir_pushed 1 c.self.inside.stored.items _ (length c.args.self.now + 1) m c.new-entries.ensures.items
-    ∙ ap (λ (ls : List Line). ls ++ record { number = length c.args.self.now + 1; path = c.args.path; rec = c.args.rec } ∷ []) c.self.view_is
+pub returns-in-Ok : goal.returns-in-Ok
+returns-in-Ok c =
+    let i = c.self.inside in
+    let e = c.end.new.self in
+    let b : Begun = record { path = c.args.path; rec = c.args.rec; place = i.count } in
+    let lines = lines_in (values_of i.closed.stored.items) i.closed.places.items i.begun i.entries.items in
+    let whole : IsWhole lines (values_of e.stored.items) e.places.items e.distinct = ended_whole (values_of i.closed.stored.items) (values_of e.stored.items) i.closed.places.items e.places.items i.closed.distinct e.distinct i.begun i.entries.items i.count i.dirs c.self.invariant (rw (sym c.replace-before.ensures.value) c.in-Ok.ensures.ended) in
+    let count : i.count ≡ length c.args.self.now = sym c.self.invariant.counted ∙ ap (λ (ls : List Line). length ls) c.self.view_is in
+    rw (c.replace-before.ensures.after, c.in-Ok.ensures.none)
+    (begun_is lines (values_of e.stored.items) e.places.items e.distinct b i.count i.dirs whole c.self.invariant.counted c.self.invariant.dir_lines c.requires.kind refl
+    ∙ ap (λ (ls : List Line). ls ++ record { number = i.count + 1; path = c.args.path; rec = c.args.rec } ∷ []) c.self.view_is
+    ∙ ap (λ n. c.args.self.now ++ record { number = n + 1; path = c.args.path; rec = c.args.rec } ∷ []) count)

@@ -1,11 +1,11 @@
-use Rattle.std.proofs.Common.{◌-◌, sym, ap, ◌∙◌, arith, List}
-use Rattle.std.specs.Prelude.{reverse}
+use Rattle.std.proofs.Common.{List, reverse, sym, ap, ◌∙◌}
 use Rattle.gufi_base.specs.declared.record.Line.{Line}
+use Rattle.gufi_tree.specs.Stored.{values_of}
 use Rattle.gufi_tree.specs.StanzaLines.{stanza_holds}
-use Rattle.gufi_tree.proofs.LinesOf.{holds_last}
+use Rattle.gufi_tree.proofs.Ended.{holds_of}
 use Rattle.gufi_tree.proofs.stanzas.Stanzas.stanza.Goals as goal
 
-pub returns : goal.returns
-returns c = λ child.
-    ap (λ (ls : List Line). stanza_holds (reverse ls) child) (sym c.self.view_is)
-    ∙ holds_last 1 c.self.inside.stored.items (c.len-count.result - 1) c.index.result.now child (omega (arith, c.len-count.ensures, c.self.inside.stored.ok.0, c.if-count-eq0.false)) c.index.ensures c.self.invariant.kinds
+pub returns-in-Some : goal.returns-in-Some
+returns-in-Some c = λ child.
+    let i = c.self.inside in
+    ap (λ (ls : List Line). stanza_holds (reverse ls) child) (sym c.self.view_is) ∙ holds_of (values_of i.closed.stored.items) i.closed.places.items i.begun c.in-Some.begun i.entries.items child c.in-Some.is c.self.invariant.kinds
