@@ -1,31 +1,21 @@
 -- The directories of an image, read as they are written and in no other spelling.
-use Rattle.std.proofs.Common.{◌≡◌, ℕ, zero, suc, ◌+◌, ◌<◌, ◌≤◌, ◌^◌, Bool, true, false, not, eqb, ltb, List, [], ◌∷◌, ◌++◌, length, map, Option, Some, None, Result, Ok, refl, sym, ap, subst, ◌∙◌, arith, append_assoc}
-use Rattle.std.specs.Prelude.{slice_get}
-use Rattle.std.specs.List.{list_all, flat_map}
-use Rattle.std.specs.Int.{w8, w32}
-use Rattle.std.proofs.lemmas.Bool.{and_parts, and_from, ltb-false}
-use Rattle.std.proofs.lemmas.List.{append-nil, length-append}
+use Rattle.std.proofs.Common.{◌≡◌, ℕ, zero, suc, ◌+◌, ◌<◌, ◌≤◌, ◌^◌, Bool, true, false, eqb, ltb, List, [], ◌++◌, length, Ok, refl, sym, ap, subst, ◌∙◌, arith, append_assoc}
+use Rattle.std.proofs.lemmas.Bool.{ltb-false}
 use Rattle.gufi_base.specs.declared.record.Kind.TheVariants.{Dir}
 use Rattle.gufi_base.specs.declared.record.Rec.{Rec}
-use Rattle.gufi_base.specs.Words.{last_of, ascends, ◌>>=◌, ◌>>◌}
+use Rattle.gufi_base.specs.Words.{last_of}
 use Rattle.gufi_base.specs.Paths.{Components}
 use Rattle.gufi_base.specs.Rows.{are_bytes}
 use Rattle.gufi_tree.specs.declared.tree.Entry.{Entry}
-use Rattle.gufi_tree.specs.Tree.{Directory, dir_cmp, entry_count}
-use Rattle.gufi_image.specs.declared.fault.Flaw.{Flaw}
+use Rattle.gufi_tree.specs.Tree.{Directory, entry_count}
 use Rattle.gufi_image.specs.declared.directory.Flag.{Flag}
 use Rattle.gufi_image.specs.Bytes.{u8_bytes, u32_bytes, name_image, record_image}
 use Rattle.gufi_image.specs.Image.{parent_number, flag_byte, entries_image, parts_image}
-use Rattle.gufi_image.specs.Fields.{number_at, record_at}
-use Rattle.gufi_image.specs.Entries.{entries_at}
-use Rattle.gufi_image.specs.Directories.{path_at, flag_at, Flagged, Front, with_one, directory_at, one_directory}
-use Rattle.gufi_image.specs.Repeated.{repeated}
-use Rattle.gufi_image.proofs.Repeats.{bind_ok}
-use Rattle.gufi_image.proofs.Shape.{placed_order}
-use Rattle.gufi_image.proofs.FieldsBack.{refused_ok, ok_same, step, step_by, Reads, reads_from, IsReader, u8_reader, u32_reader}
+use Rattle.gufi_image.specs.Directories.{flag_at, Flagged, directory_at}
+use Rattle.gufi_image.proofs.FieldsBack.{refused_ok, ok_same, step, step_by, Reads, reads_from, u8_reader, u32_reader}
 use Rattle.gufi_image.proofs.RecordsBack.{IsRecord, record_reader}
 use Rattle.gufi_image.proofs.EntriesBack.{AreNextEntries, all_entries_reader}
-use Rattle.gufi_image.proofs.PathsBack.{IsSound, AreSound, IsNextPath, path_image, path_reader, next_placed, next_sound, number_more}
+use Rattle.gufi_image.proofs.PathsBack.{AreSound, IsNextPath, path_image, path_reader}
 
 -- flags
 abbrev flag_image : Flag → List ℕ

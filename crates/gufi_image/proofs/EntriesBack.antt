@@ -1,14 +1,12 @@
 -- The names and entries of an image, read as they are written and in no other spelling.
-use Rattle.std.proofs.Common.{◌≡◌, ℕ, zero, suc, ◌+◌, ◌<◌, ◌≤◌, ◌^◌, Bool, true, false, not, ◌&&◌, ◌||◌, cond, eqb, ltb, leb, List, [], ◌∷◌, ◌++◌, length, Option, Some, None, Result, Ok, refl, sym, ap, subst, ◌∙◌, arith, append_assoc}
+use Rattle.std.proofs.Common.{◌≡◌, ℕ, zero, suc, ◌<◌, ◌≤◌, ◌^◌, Bool, true, false, not, ◌&&◌, ◌||◌, cond, eqb, leb, List, [], ◌∷◌, ◌++◌, length, Option, Some, None, Result, Ok, refl, sym, ap, subst, ◌∙◌, arith, append_assoc}
 use Rattle.std.specs.Prelude.{ok_or, bytes_eq}
 use Rattle.std.specs.List.{list_all}
-use Rattle.std.specs.Int.{w8}
 use Rattle.std.proofs.lemmas.Bool.{and_parts, or_parts, leb-true, eqb-true, eq-eqb, false≢true}
 use Rattle.std.proofs.lemmas.List.{append-nil}
 use Rattle.gufi_base.specs.declared.record.Kind.{Kind}
 use Rattle.gufi_base.specs.declared.record.Kind.TheVariants.{Block, Char, Dir, Link, Fifo, File, Socket}
-use Rattle.gufi_base.specs.declared.record.Rec.{Rec}
-use Rattle.gufi_base.specs.Words.{is_empty, ◌>>=◌, ◌>>◌}
+use Rattle.gufi_base.specs.Words.{is_empty, ◌>>=◌}
 use Rattle.gufi_base.specs.Limits.{max_name}
 use Rattle.gufi_base.specs.Names.{is_name, is_name_byte, dot, dot_dot}
 use Rattle.gufi_base.specs.Kinds.{kind_letter, kind_of_letter, is_dir}
@@ -18,7 +16,6 @@ use Rattle.gufi_tree.specs.declared.tree.Entry.{Entry}
 use Rattle.gufi_image.specs.declared.fault.Flaw.{Flaw}
 use Rattle.gufi_image.specs.Bytes.{u8_bytes, name_image, record_image}
 use Rattle.gufi_image.specs.Image.{entry_image, entries_image}
-use Rattle.gufi_image.specs.Fields.{bytes_at, number_at, record_at}
 use Rattle.gufi_image.specs.Names.{name_at}
 use Rattle.gufi_image.specs.Entries.{entry_kind, follows, entry_at, one_entry, entries_at}
 use Rattle.gufi_image.specs.Repeated.{repeated}

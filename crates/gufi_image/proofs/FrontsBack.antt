@@ -1,15 +1,14 @@
 -- Directories one after the other, read as they are written and in no other spelling.
-use Rattle.std.proofs.Common.{◌≡◌, ℕ, zero, suc, ◌+◌, ◌<◌, ◌≤◌, ◌^◌, Bool, true, false, not, List, [], ◌∷◌, ◌++◌, length, map, Some, Result, Ok, refl, sym, ap, subst, ◌∙◌, arith, append_assoc, inl, inr, ◌⊎◌}
+use Rattle.std.proofs.Common.{◌≡◌, ℕ, zero, suc, ◌+◌, ◌<◌, ◌^◌, Bool, true, List, [], ◌∷◌, ◌++◌, length, map, Some, Ok, refl, sym, ap, subst, ◌∙◌, arith, append_assoc, inl, inr, ◌⊎◌}
 use Rattle.std.specs.Prelude.{slice_get}
-use Rattle.std.specs.List.{list_all, flat_map}
+use Rattle.std.specs.List.{flat_map}
 use Rattle.std.proofs.lemmas.List.{append-nil, length-append}
-use Rattle.gufi_base.specs.Words.{ascends, ◌>>=◌}
+use Rattle.gufi_base.specs.Words.{ascends}
 use Rattle.gufi_base.specs.Rows.{are_bytes}
 use Rattle.gufi_tree.specs.Tree.{Directory, dir_cmp}
-use Rattle.gufi_image.specs.declared.fault.Flaw.{Flaw}
 use Rattle.gufi_image.specs.declared.directory.Flag.{Flag}
 use Rattle.gufi_image.specs.Image.{parent_number, parts_image}
-use Rattle.gufi_image.specs.Directories.{Flagged, Front, with_one, directory_at, one_directory}
+use Rattle.gufi_image.specs.Directories.{Flagged, Front, with_one, one_directory}
 use Rattle.gufi_image.specs.Repeated.{repeated}
 use Rattle.gufi_image.proofs.Repeats.{bind_ok}
 use Rattle.gufi_image.proofs.Searches.{some_same}

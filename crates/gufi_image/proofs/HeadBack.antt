@@ -1,20 +1,15 @@
 -- The head and the flags of an image, read as they are written and in no other spelling.
-use Rattle.std.proofs.Common.{◌≡◌, ℕ, ◌+◌, ◌<◌, ◌≤◌, ◌^◌, Bool, true, false, not, eqb, ltb, List, [], ◌∷◌, ◌++◌, length, map, take, drop, Result, Ok, refl, sym, ap, subst, ◌∙◌, arith, append_assoc}
-use Rattle.std.specs.Prelude.{bytes_eq}
+use Rattle.std.proofs.Common.{◌≡◌, ℕ, ◌<◌, ◌≤◌, ◌^◌, Bool, true, false, not, eqb, ltb, List, [], ◌∷◌, ◌++◌, length, map, take, drop, Ok, refl, sym, ap, subst, ◌∙◌, arith, append_assoc}
 use Rattle.std.specs.List.{starts_with}
 use Rattle.std.specs.Bool.{nat_eq}
-use Rattle.std.specs.Int.{w16, w32, w64}
 use Rattle.std.proofs.lemmas.Bool.{ltb-false, eqb-true, ne_eqb}
 use Rattle.std.proofs.lemmas.List.{take-append-drop}
 use Rattle.std.proofs.lemmas.Slice.Eq.{bytes_eq-Decides}
 use Rattle.gufi_base.specs.Limits.{max_dirs, max_entries}
-use Rattle.gufi_base.specs.Words.{◌>>=◌, ◌>>◌}
 use Rattle.gufi_base.specs.Rows.{are_bytes}
-use Rattle.gufi_image.specs.declared.fault.Flaw.{Flaw}
 use Rattle.gufi_image.specs.declared.fault.ImageKind.TheVariants as kinds
 use Rattle.gufi_image.specs.declared.directory.Flag.{Flag}
 use Rattle.gufi_image.specs.Bytes.{magic, u16_bytes, u32_bytes, u64_bytes}
-use Rattle.gufi_image.specs.Fields.{number_at}
 use Rattle.gufi_image.specs.Reading.{Counts, counts_at, version_at, head_at, differs, wrong_flag}
 use Rattle.gufi_image.proofs.FieldsBack.{refused_ok, goes_on, ok_same, not_false, bytes_rest, step, step_by, Reads, reads_from, u16_reader, u32_reader, u64_reader}
 

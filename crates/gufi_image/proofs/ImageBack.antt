@@ -1,26 +1,24 @@
 -- Images, read as they are written and in no other spelling.
-use Rattle.std.proofs.Common.{◌≡◌, ℕ, ◌+◌, ◌<◌, ◌≤◌, ◌^◌, Bool, true, false, not, eqb, List, [], ◌∷◌, ◌++◌, length, map, Some, Result, Ok, Err, refl, sym, ap, subst, ◌∙◌, arith, append_assoc}
-use Rattle.std.specs.Prelude.{slice_get}
+use Rattle.std.proofs.Common.{◌≡◌, ℕ, ◌<◌, ◌≤◌, ◌^◌, Bool, true, false, not, eqb, List, [], ◌∷◌, ◌++◌, length, map, Result, Ok, Err, refl, sym, ap, subst, ◌∙◌, arith}
 use Rattle.std.specs.List.{flat_map}
-use Rattle.std.proofs.lemmas.Bool.{eqb-true, eq-eqb, not_from_true}
+use Rattle.std.proofs.lemmas.Bool.{eqb-true, eq-eqb}
 use Rattle.std.proofs.lemmas.List.{append-nil, length-map}
 use Rattle.gufi_base.specs.Limits.{max_dirs, max_entries}
-use Rattle.gufi_base.specs.Words.{is_empty, ascends, ◌>>=◌, ◌>>◌, refuse, result_map_err}
+use Rattle.gufi_base.specs.Words.{is_empty, ascends, ◌>>◌, result_map_err}
 use Rattle.gufi_base.specs.Rows.{are_bytes}
 use Rattle.gufi_tree.specs.Tree.{Directory, dir_cmp, entry_count}
 use Rattle.gufi_roll.specs.CanRoll.{can_roll, roll_flags}
 use Rattle.gufi_snap.specs.Snap.{Snap}
 use Rattle.gufi_image.specs.declared.fault.Flaw.{Flaw}
-use Rattle.gufi_image.specs.declared.fault.ImageError.{ImageError}
 use Rattle.gufi_image.specs.declared.directory.Flag.{Flag}
 use Rattle.gufi_image.specs.Image.{parent_number, parts_image, directories_image, head_image, image_text}
 use Rattle.gufi_image.specs.Directories.{Flagged, Front, no_front, directories_at}
 use Rattle.gufi_image.specs.Reading.{Counts, Flags, head_at, all_at, wrong_flag, snapshot_at, fault_in, image_means}
 use Rattle.gufi_image.proofs.Repeats.{bind_ok}
-use Rattle.gufi_image.proofs.FieldsBack.{refused_ok, then_ok, ok_same, not_false, step_by, Reads}
+use Rattle.gufi_image.proofs.FieldsBack.{refused_ok, ok_same, not_false, step_by}
 use Rattle.gufi_image.proofs.PathsBack.{AreSound}
 use Rattle.gufi_image.proofs.DirectoriesBack.{flagged_image}
-use Rattle.gufi_image.proofs.FrontsBack.{AreNextDirectories, rolled_image, AreReadBack, directories_back, AreReadOnce, directories_once}
+use Rattle.gufi_image.proofs.FrontsBack.{AreNextDirectories, rolled_image, directories_back, AreReadOnce, directories_once}
 use Rattle.gufi_image.proofs.HeadBack.{AreCounts, head_of, head_back, head_once, flags_back, flags_once}
 
 none_sound : AreSound []

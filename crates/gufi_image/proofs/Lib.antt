@@ -10,6 +10,7 @@ mod FrontsBack
 mod HeadBack
 mod ImageBack
 mod Writable
+mod ReadSound
 mod Searches
 mod EntryLoop
 mod Fronts

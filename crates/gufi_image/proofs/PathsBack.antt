@@ -1,12 +1,11 @@
 -- The paths of the directories of an image, read as they are written and in no other spelling.
-use Rattle.std.proofs.Common.{◌≡◌, ℕ, zero, suc, ◌+◌, ◌-◌, ◌<◌, ◌≤◌, ◌^◌, Bool, true, false, not, ◌&&◌, cond, eqb, ltb, List, [], ◌∷◌, ◌++◌, length, get_or, Option, Some, None, Result, Ok, refl, sym, ap, subst, ◌∙◌, arith, append_assoc}
+use Rattle.std.proofs.Common.{◌≡◌, ℕ, zero, suc, ◌-◌, ◌<◌, ◌^◌, true, false, not, cond, eqb, List, [], ◌∷◌, ◌++◌, length, Option, Some, Ok, refl, sym, ap, subst, ◌∙◌, arith, append_assoc}
 use Rattle.std.specs.Prelude.{slice_get, unwrap_or}
 use Rattle.std.specs.List.{list_all}
-use Rattle.std.specs.Int.{w8, w32}
 use Rattle.std.proofs.lemmas.Bool.{and_parts, and_from, eqb-true}
 use Rattle.std.proofs.lemmas.List.Folds.{list_all-append}
 use Rattle.std.proofs.lemmas.Option.{slice_get_within, get_or_from_slice_get}
-use Rattle.gufi_base.specs.Words.{is_empty, last_of, ascends, ◌>>=◌, ◌>>◌}
+use Rattle.gufi_base.specs.Words.{is_empty, last_of, ascends}
 use Rattle.gufi_base.specs.Names.{is_name}
 use Rattle.gufi_base.specs.Paths.{Components, parent_path, is_too_long}
 use Rattle.gufi_base.specs.Rows.{are_bytes}
@@ -14,16 +13,12 @@ use Rattle.gufi_base.proofs.Parts.{last_of_push}
 use Rattle.gufi_tree.specs.Tree.{Directory, dir_cmp, place_of, has_entry_named}
 use Rattle.gufi_tree.proofs.Built.{parent_path-child}
 use Rattle.gufi_tree.proofs.Searched.{place_of-at}
-use Rattle.gufi_image.specs.declared.fault.Flaw.{Flaw}
-use Rattle.gufi_image.specs.Bytes.{u8_bytes, u32_bytes, name_image}
+use Rattle.gufi_image.specs.Bytes.{u32_bytes, name_image}
 use Rattle.gufi_image.specs.Image.{parent_number}
-use Rattle.gufi_image.specs.Fields.{number_at}
-use Rattle.gufi_image.specs.Names.{name_at}
 use Rattle.gufi_image.specs.Directories.{follows, root_at, below_at, first_at, other_at, path_at}
-use Rattle.gufi_image.specs.Placed as placed
 use Rattle.gufi_image.specs.Placed.{IsChild, IsPlaced}
 use Rattle.gufi_image.proofs.Repeats.{bind_ok}
-use Rattle.gufi_image.proofs.FieldsBack.{refused_ok, ok_same, not_false, bytes_rest, step, Reads, reads_from, IsReader, u8_reader, u32_reader}
+use Rattle.gufi_image.proofs.FieldsBack.{refused_ok, ok_same, not_false, step, Reads, reads_from, IsReader, u8_reader, u32_reader}
 use Rattle.gufi_image.proofs.EntriesBack.{IsBelow, name_reader, some_ok}
 
 -- a path that an image may hold

@@ -1,15 +1,14 @@
 -- What can be written is read: each directory of such a tree behind those before it.
-use Rattle.std.proofs.Common.{◌≡◌, ℕ, zero, suc, ◌+◌, ◌<◌, ◌≤◌, ◌^◌, Bool, true, false, not, ◌&&◌, ◌||◌, ltb, List, [], ◌∷◌, ◌++◌, length, map, get_or, Some, refl, sym, ap, subst, ◌∙◌, arith, append_assoc, inl, inr, ◌⊎◌, ⊎_elim}
+use Rattle.std.proofs.Common.{◌≡◌, ℕ, zero, suc, ◌+◌, ◌<◌, ◌≤◌, Bool, true, false, not, ◌&&◌, ltb, List, [], ◌∷◌, ◌++◌, length, map, get_or, Some, refl, sym, ap, subst, ◌∙◌, arith, append_assoc, inl, inr, ◌⊎◌, ⊎_elim}
 use Rattle.std.specs.Prelude.{bytes_eq, slice_get}
-use Rattle.std.specs.Ordering.{is_lt, nat_cmp}
+use Rattle.std.specs.Ordering.{is_lt}
 use Rattle.std.specs.declared.cmp.Ordering.{Ordering}
 use Rattle.std.specs.declared.cmp.Ordering.TheVariants.{Less, Equal, Greater}
-use Rattle.std.specs.Cmp.Lexicographic.{slice_cmp}
-use Rattle.std.specs.List.{Any, list_all, list_any, flat_map}
-use Rattle.std.proofs.lemmas.Bool.{and_parts, and_from, or_parts, ltb-false, false≢true, cases_lt, cases_order}
+use Rattle.std.specs.List.{Any, list_all, flat_map}
+use Rattle.std.proofs.lemmas.Bool.{and_parts, or_parts, ltb-false, false≢true, cases_lt, cases_order}
 use Rattle.std.proofs.lemmas.Cmp.{tied_itself}
 use Rattle.std.proofs.lemmas.List.{length-append, get_or_append_left}
-use Rattle.std.proofs.lemmas.List.Folds.{list_all-append, list_all-map, Any-from_list_any}
+use Rattle.std.proofs.lemmas.List.Folds.{list_all-append, Any-from_list_any}
 use Rattle.std.proofs.lemmas.List.Sums.{sum_by-append, sum_by-cons}
 use Rattle.std.proofs.lemmas.Option.{slice_get-get_or}
 use Rattle.std.proofs.lemmas.Slice.Eq.{bytes_eq-Decides}
@@ -17,11 +16,11 @@ use Rattle.std.proofs.Math.Seq.{get_or-append_seam}
 use Rattle.gufi_base.specs.declared.record.Kind.{Kind}
 use Rattle.gufi_base.specs.declared.record.Kind.TheVariants.{Block, Char, Dir, Link, Fifo, File, Socket}
 use Rattle.gufi_base.specs.declared.record.Row.{Row}
-use Rattle.gufi_base.specs.Words.{is_empty, last_of, ascends}
+use Rattle.gufi_base.specs.Words.{last_of, ascends}
 use Rattle.gufi_base.specs.Limits.{max_dirs, max_entries}
 use Rattle.gufi_base.specs.Names.{is_name}
 use Rattle.gufi_base.specs.Kinds.{is_dir}
-use Rattle.gufi_base.specs.Paths.{Components, path_cmp, path_eq, parent_path, is_too_long}
+use Rattle.gufi_base.specs.Paths.{Components, path_cmp, parent_path, is_too_long}
 use Rattle.gufi_base.specs.Rows.{are_bytes, fits_types, row_fits_types, is_well_formed}
 use Rattle.gufi_base.proofs.Cuts.{all_but_last_and_last}
 use Rattle.gufi_tree.specs.declared.tree.Entry.{Entry}
@@ -29,15 +28,13 @@ use Rattle.gufi_tree.specs.Tree.{Directory, dir_cmp, entry_cmp, entry_count, has
 use Rattle.gufi_tree.proofs.Built.{path_eq-Decides, path_cmp-total, dir_cmp-total}
 use Rattle.gufi_tree.proofs.Linked.{root_first}
 use Rattle.gufi_image.specs.Entries as entries
-use Rattle.gufi_image.specs.Directories as directories
 use Rattle.gufi_image.specs.Placed.{IsChild}
 use Rattle.gufi_image.specs.Laws.{IsWritable}
 use Rattle.gufi_image.proofs.Fronts.{cond_parts, path_more, any_there, not_true}
 use Rattle.gufi_image.proofs.Searches.{in_order, all_there, false_from, some_same}
 use Rattle.gufi_image.proofs.RecordsBack.{IsRecord, record_parts}
-use Rattle.gufi_image.proofs.EntriesBack.{IsBelow, IsNextEntry, AreNextEntries}
+use Rattle.gufi_image.proofs.EntriesBack.{IsNextEntry, AreNextEntries}
 use Rattle.gufi_image.proofs.PathsBack.{IsSound, IsNextPath}
-use Rattle.gufi_image.proofs.DirectoriesBack.{IsNextDirectory}
 use Rattle.gufi_image.proofs.FrontsBack.{AreNextDirectories}
 use Rattle.gufi_image.proofs.ImageBack.{AreAll}
 
@@ -47,7 +44,7 @@ above_last cmp first [] x ys up = (cond_parts (is_lt (cmp first x)) (ascends cmp
 above_last cmp first (y ∷ xs) x ys up = above_last cmp y xs x ys (cond_parts (is_lt (cmp first y)) (ascends cmp (y ∷ (xs ++ x ∷ ys))) up).1
 
 -- a path whose text is no longer than a path's may be
-abbrev is_short : Row → Bool
+abbrev pub is_short : Row → Bool
 is_short row = not (is_too_long row.path)
 
 -- the entries of a directory of the tree
@@ -163,8 +160,8 @@ not_first first bs d more up root =
     not_least first.path (ap (path_cmp first.path) (sym root) ∙ ap (λ (v : Directory). path_cmp first.path v.path) (sym (get_or-append_seam (first ∷ bs) d more first)) ∙ less)
 
 -- Its entries have other names than the directories in it.
-free_name : (tree : List Directory) (parent d : Directory) (name : List ℕ) → list_all (is_entry_of tree parent.path) parent.entries ≡ true → has_dir tree (parent.path ++ name ∷ []) ≡ true → has_entry_named name parent ≡ false
-free_name tree parent d name each there = false_from (has_entry_named name parent) (λ taken. by (Any-from_list_any (λ (e : Entry). bytes_eq name e.name) parent.entries taken)) where
+free_name : (tree : List Directory) (parent : Directory) (name : List ℕ) → list_all (is_entry_of tree parent.path) parent.entries ≡ true → has_dir tree (parent.path ++ name ∷ []) ≡ true → has_entry_named name parent ≡ false
+free_name tree parent name each there = false_from (has_entry_named name parent) (λ taken. by (Any-from_list_any (λ (e : Entry). bytes_eq name e.name) parent.entries taken)) where
   by : Any (λ (e : Entry). bytes_eq name e.name ≡ true) parent.entries → ⊥
   by w =
       let e = w.1 in
@@ -201,7 +198,7 @@ child first bs d more up each =
       parent = parent;
       number = place;
       there = there;
-      below = record { name = name; is = split; free = free_name all parent d name (each place parent whole).each found };
+      below = record { name = name; is = split; free = free_name all parent name (each place parent whole).each found };
       above = above_last dir_cmp first bs d more up;
     }
 

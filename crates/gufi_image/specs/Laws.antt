@@ -22,3 +22,7 @@ ImagesReadBack = (tree : List Directory) (limit : ℕ) → IsWritable tree limit
 -- Bytes mean a snapshot only where they are its image.
 abbrev pub ImagesHaveOneSpelling : Type 0
 ImagesHaveOneSpelling = (bytes : List ℕ) (snap : Snap) → IsTrue (are_bytes bytes) → image_means bytes ≡ Ok snap → bytes ≡ image_text snap.tree snap.limit
+
+-- What bytes mean can be written.
+abbrev pub ReadImagesAreWritable : Type 0
+ReadImagesAreWritable = (bytes : List ℕ) (snap : Snap) → IsTrue (are_bytes bytes) → image_means bytes ≡ Ok snap → IsWritable snap.tree snap.limit

@@ -1,7 +1,8 @@
-//! Worked runs of `trace2index` and `rollup`.
+//! Worked runs that write an image or take one.
 use crate::gufi_run;
-use crate::tests::{A, B, D, check_run, shelf_of, sink_of, words_of};
+use crate::tests::{A, ALL_OF_B, B, D, check_run, shelf_of, sink_of, words_of};
 use gufi_io::NoGate;
+use std::alloc::Global;
 use std::process::Abort;
 use std::sync::Wait;
 use std::test::Fail;
@@ -72,4 +73,80 @@ fn roll_ups_are_reported(rt: HostRuntime) -> Result<(), Fail> {
         check_report(&rt, limit, note)?;
     }
     Ok(())
+}
+
+// An image with one byte made another.
+fn with_byte(alloc: Global, image: &[u8], place: usize, byte: u8) -> Result<Vec<u8>, Fail> {
+    let mut bytes = image.to_vec(alloc)?;
+    if place < bytes.len() {
+        bytes[place] = byte;
+    }
+    Ok(bytes)
+}
+
+// The answers are those of the trace, whatever the limit.
+#[test]
+fn an_image_is_an_index(rt: HostRuntime) -> Result<(), Fail> {
+    for limit in ["--limit=0", "--limit=1", "--limit=100"] {
+        let find = ["find", limit, "t", "103", "/"];
+        check_run(&rt, IMAGE_OF_B, &find, 0, b"/\n/c\n/c/x\n", b"")?;
+    }
+    let stat = ["stat", "t", "103", "/"];
+    check_run(&rt, IMAGE_OF_B, &stat, 0, ALL_OF_B, b"")?;
+    let query = ["query", "t", "102", "/", "SELECT path FROM rows"];
+    check_run(&rt, IMAGE_OF_B, &query, 0, b"/\n", b"")
+}
+
+#[test]
+fn an_image_is_rolled_up_again(rt: HostRuntime) -> Result<(), Fail> {
+    let alloc = rt.alloc();
+    let same = b"rolled 1 of 2 tops 1 rows 2\n";
+    let words = ["rollup", "--limit=100", "t"];
+    check_run(&rt, IMAGE_OF_B, &words, 0, IMAGE_OF_B, same)?;
+    // Neither the limit nor the flag of `/c` is left.
+    let unrolled = with_byte(alloc, &with_byte(alloc, IMAGE_OF_B, 8, 0)?, 116, 0)?;
+    let none = b"rolled 0 of 2 tops 0 rows 0\n";
+    let words = ["rollup", "--limit=0", "t"];
+    check_run(&rt, IMAGE_OF_B, &words, 0, &unrolled, none)
+}
+
+#[test]
+fn damage_is_told_by_its_offset(rt: HostRuntime) -> Result<(), Fail> {
+    let alloc = rt.alloc();
+    for (place, byte, status, note) in [
+        (6, 0, 5, b"gufi: t offset 6 Magic\n".as_slice()),
+        (16, 0, 5, b"gufi: t offset 16 Number\n".as_slice()),
+        (18, 4, 6, b"gufi: t limit 262144\n".as_slice()),
+        (23, 1, 6, b"gufi: t limit 1048576\n".as_slice()),
+        (24, 0, 5, b"gufi: t offset 24 Parent\n".as_slice()),
+        (29, 1, 5, b"gufi: t offset 29 Roll\n".as_slice()),
+        (5, 1, 5, b"gufi: t line 1 Short\n".as_slice()),
+    ] {
+        let image = with_byte(alloc, IMAGE_OF_A, place, byte)?;
+        check_run(
+            &rt,
+            &image,
+            &["find", "t", "nobody", "/"],
+            status,
+            b"",
+            note,
+        )?;
+    }
+    for (length, note) in [
+        (109, b"gufi: t offset 106 Cut\n".as_slice()),
+        (6, b"gufi: t offset 6 Cut\n".as_slice()),
+        (5, b"gufi: t line 1 CutLine\n".as_slice()),
+    ] {
+        let front = &IMAGE_OF_A[..IMAGE_OF_A.len().min(length)];
+        check_run(&rt, front, &["rollup", "--limit=0", "t"], 5, b"", note)?;
+    }
+    let nobody = b"gufi: word 3 refused\n";
+    check_run(
+        &rt,
+        IMAGE_OF_A,
+        &["find", "t", "nobody", "/"],
+        2,
+        b"",
+        nobody,
+    )
 }

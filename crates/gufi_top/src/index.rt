@@ -1,10 +1,10 @@
 //! The file that a word INDEX names: an image, or a trace.
-ghost use Rattle.std.specs.Prelude.{◌≡◌, ◌≢◌, ◌≤◌, ◌<◌, [], true, length, IfErr, IfOk, OnOk, IsTrue, Err};
+ghost use Rattle.std.specs.Prelude.{◌≡◌, ◌≤◌, ◌<◌, true, length, IfErr, IfOk, OnOk, IsTrue, Err};
 ghost use Rattle.gufi_base.specs.Limits.{max_image};
 ghost use Rattle.gufi_io.specs.Files.{IsReadUpTo};
 ghost use Rattle.gufi_snap.specs.Snap.{Snap};
 ghost use Rattle.gufi_top.specs.Views.{bytes_view};
-ghost use Rattle.gufi_top.specs.Reasons.{held, file_in, image_reason, image_within, image_in, rolled_under, traced_in, is_image, index_by, index_in};
+ghost use Rattle.gufi_top.specs.Reasons.{held, file_in, image_reason, image_within, image_in, rolled_under, traced_in, is_image, index_in};
 ghost use Rattle.gufi_top.specs.Calls.{Gives, GivesOver, IsOfBytes, IsPastWords, HaltHasCause};
 ghost use Rattle.gufi_top.specs.Fed.{BeginsAs};
 
@@ -21,7 +21,7 @@ use std::alloc::Global;
 /// How many bytes an image may have.
 const MAX_IMAGE: u32 = 1_073_741_824;
 
-/// How many bytes tell an image from a trace.
+/// How many bytes tell an image from a trace. A read may give fewer.
 const MARK: usize = 6;
 
 #[tactic(auto, unfolding(crate::specs::Reasons::is_image))]
@@ -31,7 +31,7 @@ fn is_image(front: &[u8]) -> bool
     front.starts_with(b"GUFIX\0")
 }
 
-// Takes a file in hand, and reads on until what it has begun with tells an image from a trace.
+// Opens a file and reads of it until its front tells an image from a trace.
 #[tactic(auto, using(crate::proofs::IndexLemmas::fronts))]
 fn read_front<F: Shelf>(
     alloc: Global,

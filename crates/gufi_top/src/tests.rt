@@ -247,7 +247,7 @@ pub(crate) const C: &[u8] = b"/r|d|1|493|3|101|100|4096|4096|8|10|20|30|
 /r/p/q/y|f|4|420|1|101|100|5|4096|8|10|20|30|
 ";
 
-const ALL_OF_B: &[u8] = b"path /
+pub(crate) const ALL_OF_B: &[u8] = b"path /
 type d mode 0755 links 3 uid 101 gid 100
 size 4096 blksize 4096 blocks 8 inode 1
 atime 10 mtime 20 ctime 30

@@ -14,3 +14,4 @@ pub mod Writes
 pub mod Checks
 pub mod SoundLines
 mod Worked
+pub mod Pairs

@@ -8,8 +8,9 @@ ghost use Rattle.gufi_trace.specs.Fields.{texts, fields_of, fields_in};
 ghost use Rattle.gufi_trace.specs.Taken.{KindBefore, Takes, TakesNumber};
 ghost use Rattle.gufi_base.specs.Kinds.{read_kind};
 
+use crate::digits::DigitPairs;
 use crate::fault::{Refused, TraceKind};
-use gufi_base::{Kind, number_before, read_kind};
+use gufi_base::{Kind, read_kind};
 use memchr::memchr;
 use std::marker::Model;
 
@@ -118,14 +119,14 @@ impl<'a> Parts<'a> {
     ///
     /// For speed alone: where it gives nothing, nothing is known.
     #[inline(always)]
-    pub(crate) fn next_number(&mut self) -> Option<u64>
+    pub(crate) fn next_number(&mut self, pairs: &DigitPairs) -> Option<u64>
         ensures { IfSome result (TakesNumber self.old self.new) }
     {
         if self.is_done {
             return None;
         }
         let rest = self.rest;
-        let (number, at) = number_before(rest, self.delim)?;
+        let (number, at) = pairs.number_before(rest, self.delim)?;
         self.rest = behind(rest, at);
         Some(number)
     }

@@ -5,6 +5,7 @@
 #![tactic(auto)]
 
 mod content;
+mod digits;
 mod fault;
 mod fields;
 mod lines;

@@ -13,6 +13,7 @@ ghost use Rattle.gufi_trace.specs.Reading.{Gives};
 ghost use Rattle.gufi_trace.specs.Progress.{root_behind, lines_from, Stops};
 
 use crate::content::{read_meta, read_path};
+use crate::digits::DigitPairs;
 use crate::fault::{Refused, TraceError, TraceFault, TraceKind};
 use crate::fields::{Parts, read_fields};
 use crate::quick::add_sound;
@@ -260,11 +261,17 @@ impl Progress {
     }
 
     /// Takes a whole line.
-    pub(crate) fn add(&mut self, alloc: Global, delim: u8, text: &[u8]) -> Result<(), TraceError>
+    pub(crate) fn add(
+        &mut self,
+        alloc: Global,
+        delim: u8,
+        pairs: &DigitPairs,
+        text: &[u8],
+    ) -> Result<(), TraceError>
         ensures ok { OnOk result ((more : List (List ℕ)) → lines_from delim self.old (text.now ∷ more) ≡ lines_from delim self.new more) }
         ensures err { IfErr result (λ e. (more : List (List ℕ)) → Stops e (lines_from delim self.old (text.now ∷ more))) }
     {
-        let taken = add_sound(alloc, delim, &self.root, &mut self.lines, text)?;
+        let taken = add_sound(alloc, delim, pairs, &self.root, &mut self.lines, text)?;
         if taken {
             return Ok(());
         }

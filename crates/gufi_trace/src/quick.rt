@@ -6,23 +6,24 @@ ghost use Rattle.gufi_base.specs.Numbers.{read_u32, read_u64, read_i64};
 ghost use Rattle.gufi_trace.specs.Taken.{Takes, TakesOwner, TakesSizes, TakesMeta, TakesContent, Adds, AddsNext};
 
 use crate::content::{MAX_LINK, MODES, has_zero};
+use crate::digits::DigitPairs;
 use crate::fields::Parts;
 use crate::lines::Lines;
 use gufi_base::{Bytes, Kind, Meta, Name, Path, Rec};
 use std::alloc::{AllocError, Global};
 
 #[inline(always)]
-fn next_u64(parts: &mut Parts<'_>) -> Option<u64>
+fn next_u64(parts: &mut Parts<'_>, pairs: &DigitPairs) -> Option<u64>
     ensures { IfSome result (λ n. Takes ℕ read_u64 parts.old parts.new n) }
 {
-    parts.next_number()
+    parts.next_number(pairs)
 }
 
 #[inline(always)]
-fn next_u32(parts: &mut Parts<'_>) -> Option<u32>
+fn next_u32(parts: &mut Parts<'_>, pairs: &DigitPairs) -> Option<u32>
     ensures { IfSome result (λ n. Takes ℕ read_u32 parts.old parts.new n) }
 {
-    match parts.next_number()? {
+    match parts.next_number(pairs)? {
         number if number <= 4294967295 => Some(number as u32),
         _ => None,
     }
@@ -30,10 +31,10 @@ fn next_u32(parts: &mut Parts<'_>) -> Option<u32>
 
 /// A time since the epoch: one before it has a sign, and is left to the exact reader.
 #[inline(always)]
-fn next_time(parts: &mut Parts<'_>) -> Option<i64>
+fn next_time(parts: &mut Parts<'_>, pairs: &DigitPairs) -> Option<i64>
     ensures { IfSome result (λ z. Takes ℤ read_i64 parts.old parts.new z) }
 {
-    let number = parts.next_number()?;
+    let number = parts.next_number(pairs)?;
     Some(number as i64)
 }
 
@@ -57,15 +58,15 @@ pub(crate) struct Sizes {
 }
 
 #[inline(always)]
-fn next_owner(parts: &mut Parts<'_>) -> Option<Owner>
+fn next_owner(parts: &mut Parts<'_>, pairs: &DigitPairs) -> Option<Owner>
     ensures { IfSome result (TakesOwner parts.old parts.new) }
 {
     let kind = parts.next_kind()?;
-    let inode = next_u64(parts)?;
-    let mode = next_u32(parts)?;
-    let nlink = next_u64(parts)?;
-    let uid = next_u32(parts)?;
-    let gid = next_u32(parts)?;
+    let inode = next_u64(parts, pairs)?;
+    let mode = next_u32(parts, pairs)?;
+    let nlink = next_u64(parts, pairs)?;
+    let uid = next_u32(parts, pairs)?;
+    let gid = next_u32(parts, pairs)?;
     Some(Owner {
         kind,
         inode,
@@ -77,12 +78,12 @@ fn next_owner(parts: &mut Parts<'_>) -> Option<Owner>
 }
 
 #[inline(always)]
-fn next_sizes(parts: &mut Parts<'_>) -> Option<Sizes>
+fn next_sizes(parts: &mut Parts<'_>, pairs: &DigitPairs) -> Option<Sizes>
     ensures { IfSome result (TakesSizes parts.old parts.new) }
 {
-    let size = next_u64(parts)?;
-    let blksize = next_u64(parts)?;
-    let blocks = next_u64(parts)?;
+    let size = next_u64(parts, pairs)?;
+    let blksize = next_u64(parts, pairs)?;
+    let blocks = next_u64(parts, pairs)?;
     Some(Sizes {
         size,
         blksize,
@@ -92,14 +93,14 @@ fn next_sizes(parts: &mut Parts<'_>) -> Option<Sizes>
 
 /// The record of fields 2 to 13.
 #[inline(always)]
-fn next_meta(parts: &mut Parts<'_>) -> Option<Meta>
+fn next_meta(parts: &mut Parts<'_>, pairs: &DigitPairs) -> Option<Meta>
     ensures { IfSome result (TakesMeta parts.old parts.new) }
 {
-    let owner = next_owner(parts)?;
-    let sizes = next_sizes(parts)?;
-    let atime = next_time(parts)?;
-    let mtime = next_time(parts)?;
-    let ctime = next_time(parts)?;
+    let owner = next_owner(parts, pairs)?;
+    let sizes = next_sizes(parts, pairs)?;
+    let atime = next_time(parts, pairs)?;
+    let mtime = next_time(parts, pairs)?;
+    let ctime = next_time(parts, pairs)?;
     Some(Meta {
         kind: owner.kind,
         inode: owner.inode,
@@ -124,11 +125,11 @@ pub(crate) struct Content<'a> {
     pub link: &'a [u8],
 }
 
-fn content_of<'a>(parts: &mut Parts<'a>) -> Option<Content<'a>>
+fn content_of<'a>(parts: &mut Parts<'a>, pairs: &DigitPairs) -> Option<Content<'a>>
     ensures { IfSome result (TakesContent parts.old) }
 {
     let path = parts.next_part()?;
-    let meta = next_meta(parts)?;
+    let meta = next_meta(parts, pairs)?;
     let link = parts.next_link()?;
     if link.len() > MAX_LINK || has_zero(link) {
         return None;
@@ -200,6 +201,7 @@ fn add_entry(
 pub(crate) fn add_sound(
     alloc: Global,
     delim: u8,
+    pairs: &DigitPairs,
     root: &Path,
     lines: &mut Lines,
     text: &[u8],
@@ -210,7 +212,7 @@ pub(crate) fn add_sound(
         return Ok(false);
     }
     let mut parts = Parts::of(text, delim);
-    let Some(content) = content_of(&mut parts) else {
+    let Some(content) = content_of(&mut parts, pairs) else {
         return Ok(false);
     };
     if content.meta.kind.is_dir() {

@@ -7,6 +7,7 @@ ghost use Rattle.gufi_trace.specs.TraceText.{whole_lines, cut_line, trace_lines}
 ghost use Rattle.gufi_trace.specs.Progress.{lines_from, Stops};
 ghost use Rattle.gufi_trace.specs.Reader.{HasRead, answer_of, answer_so_far, GivesLines, stream_of, is_open};
 
+use crate::digits::DigitPairs;
 use crate::fault::{TraceError, TraceFault, TraceKind};
 use crate::fields::Parts;
 use crate::lines::Progress;
@@ -21,6 +22,7 @@ use std::marker::Model;
 #[derive(Drop)]
 pub struct TraceReader {
     delim: u8,
+    pairs: DigitPairs,
     progress: Progress,
     rest: Vec<u8>,
     failed: Option<TraceError>,
@@ -53,6 +55,7 @@ fn append(rest: &mut Vec<u8>, part: &[u8]) -> Result<(), TraceError>
 fn end_line(
     alloc: Global,
     delim: u8,
+    pairs: &DigitPairs,
     progress: &mut Progress,
     rest: &mut Vec<u8>,
     part: &[u8],
@@ -62,10 +65,10 @@ fn end_line(
     ensures err { IfErr result (λ e. (more : List (List ℕ)) → Stops e (lines_from delim progress.old ((rest.old.items ++ part.now) ∷ more))) }
 {
     if rest.is_empty() {
-        return progress.add(alloc, delim, part);
+        return progress.add(alloc, delim, pairs, part);
     }
     append(rest, part)?;
-    progress.add(alloc, delim, rest.as_slice())?;
+    progress.add(alloc, delim, pairs, rest.as_slice())?;
     rest.clear();
     Ok(())
 }
@@ -84,6 +87,7 @@ fn first_part<'a>(parts: &mut Parts<'a>) -> &'a [u8]
 fn take_piece(
     alloc: Global,
     delim: u8,
+    pairs: &DigitPairs,
     progress: &mut Progress,
     rest: &mut Vec<u8>,
     piece: &[u8],
@@ -96,7 +100,7 @@ fn take_piece(
     let mut parts = Parts::of(piece, b'\n');
     let mut last = first_part(&mut parts);
     'lines: while let Some(part) = parts.next_part() {
-        end_line(alloc, delim, progress, rest, last)?;
+        end_line(alloc, delim, pairs, progress, rest, last)?;
         last = part;
     }
     append(rest, last)
@@ -110,6 +114,7 @@ impl TraceReader {
     {
         Ok(TraceReader {
             delim,
+            pairs: DigitPairs::new(alloc)?,
             progress: Progress::new(alloc)?,
             rest: Vec::new(alloc),
             failed: None,
@@ -133,7 +138,14 @@ impl TraceReader {
             return Err(error);
         }
         let delim = self.delim;
-        match take_piece(alloc, delim, &mut self.progress, &mut self.rest, piece) {
+        match take_piece(
+            alloc,
+            delim,
+            &self.pairs,
+            &mut self.progress,
+            &mut self.rest,
+            piece,
+        ) {
             Ok(()) => Ok(()),
             Err(error) => {
                 self.rest.clear();

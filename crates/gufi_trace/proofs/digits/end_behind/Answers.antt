@@ -1,0 +1,6 @@
+use Rattle.std.proofs.Common.{refl, arith}
+use Rattle.gufi_base.proofs.Digits.{ReadsFront-done}
+use Rattle.gufi_trace.proofs.digits.end_behind.Goals as goal
+
+pub returns-in-None : goal.returns-in-None
+returns-in-None c = ReadsFront-done c.args.separator c.args.text.now c.args.number c.args.at _ (omega (arith, c.requires.few)) (omega (arith, c.if-at-text.false)) refl c.requires.front c.in-None.ensures c.if-byte-separator.true c.requires.some
