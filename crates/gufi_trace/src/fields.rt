@@ -122,11 +122,11 @@ impl<'a> Parts<'a> {
     pub(crate) fn next_number(&mut self, pairs: &DigitPairs) -> Option<u64>
         ensures { IfSome result (TakesNumber self.old self.new) }
     {
-        if self.is_done {
+        if self.is_done || pairs.separator() != self.delim {
             return None;
         }
         let rest = self.rest;
-        let (number, at) = pairs.number_before(rest, self.delim)?;
+        let (number, at) = pairs.number_before(rest)?;
         self.rest = behind(rest, at);
         Some(number)
     }
