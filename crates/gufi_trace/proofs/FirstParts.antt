@@ -1,12 +1,11 @@
 -- The first part of a text ends at the first delimiter.
 use Rattle.std.proofs.Common.{◌≡◌, ℕ, ◌+◌, ◌<◌, ◌≤◌, Bool, true, false, not, cond, eqb, ltb, List, [], ◌∷◌, length, get_or, take, drop, Option, Some, None, refl, sym, ap, ◌∙◌, arith}
-use Rattle.std.specs.Prelude.{MatchOption}
 use Rattle.std.specs.List.{position, position_or_len, onto_first}
 use Rattle.std.proofs.lemmas.Bool.{ltb-true, ltb-false, true≢false, false≢true, cond-true, not-true}
 use Rattle.std.proofs.lemmas.List.Sums.{prefix_len_passes}
 use Rattle.std.proofs.lemmas.List.Splits.{slice_split_first}
 use Rattle.std.proofs.lemmas.List.Quantifiers.{position-Some}
-use Rattle.memchr.specs.Find.{IsFirstByte, is_byte, places, first_of}
+use Rattle.memchr.specs.Find.{IsFirstByte, is_byte}
 use Rattle.memchr.proofs.lemmas.ValueLemmas.{IsFirstByte-value}
 use Rattle.gufi_base.specs.Words.{split}
 
@@ -60,11 +59,6 @@ first_byte s text = by (ltb (position_or_len (is_end s) text) (length text)) ref
         (record { low = omega arith; high = h.0; before = λ k low below pass. false≢true (sym (h.2 k below) ∙ pass) }, h.1)
     by false past = λ k low lt pass. false≢true (sym (none_pass s text (ltb-false _ _ past) k lt) ∙ pass)
 
--- what an iterator over the places gives first is the position
-pub first_place : (s : ℕ) (text places_left later : List ℕ) (r : Option ℕ) → places_left ≡ places (is_byte s) text → MatchOption r ((places_left ≡ []) × (later ≡ [])) (λ at. places_left ≡ at ∷ later) → r ≡ position (λ b. eqb b s) text
-unfolding first_of
-first_place s text places_left later r is h = by r h ∙ ap first_of is ∙ sym (IsFirstByte-value (is_byte s) text (position (is_end s) text) (first_byte s text))
-  where
-    by : (r : Option ℕ) → MatchOption r ((places_left ≡ []) × (later ≡ [])) (λ at. places_left ≡ at ∷ later) → r ≡ first_of places_left
-    by None h = sym (ap first_of h.0)
-    by (Some at) h = sym (ap first_of h)
+-- the first place of the delimiter is the position
+pub first_place : (s : ℕ) (text : List ℕ) (r : Option ℕ) → IsFirstByte (is_byte s) text r → r ≡ position (λ b. eqb b s) text
+first_place s text r h = IsFirstByte-value (is_byte s) text r h ∙ sym (IsFirstByte-value (is_byte s) text (position (is_end s) text) (first_byte s text))

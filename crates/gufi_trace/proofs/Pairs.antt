@@ -1,24 +1,21 @@
 -- Pairs of digits, by their values.
-use Rattle.std.proofs.Common.{◌≡◌, ◌≢◌, ℕ, ◌+◌, ◌*◌, ◌^◌, ◌<◌, ◌≤◌, Bool, true, false, List, [], ◌∷◌, ◌++◌, length, get_or, inl, inr, refl, sym, ap, ◌∙◌, subst, arith}
-use Rattle.std.specs.Prelude.{◌&&◌, if◌then◌else◌}
+use Rattle.std.proofs.Common.{◌≡◌, ℕ, ◌+◌, ◌-◌, ◌*◌, ◌/◌, ◌%◌, ◌^◌, ◌<◌, ◌≤◌, Bool, true, false, eqb, List, [], ◌∷◌, ◌++◌, length, get_or, inl, inr, refl, sym, ap, ◌∙◌, subst, arith}
+use Rattle.std.specs.Prelude.{if◌then◌else◌}
 use Rattle.std.specs.Char.{is_digit, digit_value}
 use Rattle.std.proofs.Math.Nat.{pow-le-pow_right}
-use Rattle.std.proofs.lemmas.Bool.{cases_order, ltb-true}
+use Rattle.std.proofs.lemmas.Bool.{cases_order, ltb-true, eqb-true}
 use Rattle.std.proofs.lemmas.List.{length-append, get_or_push, get_or_append_left}
-use Rattle.gufi_base.proofs.Digits.{ReadsFront, ReadsFront-more}
+use Rattle.gufi_base.specs.Numbers.{NumberBefore}
+use Rattle.gufi_base.proofs.Digits.{ReadsFront, ReadsFront-more, ReadsFront-done}
 use Rattle.gufi_trace.specs.Pairs.{pair_value, AreFirstPairs}
 
 -- one pair more
-pub pair_pushed : (values : List ℕ) (first second value : ℕ) → first < 256 → AreFirstPairs values (first + 256 * second) → value ≡ pair_value first second
-    → AreFirstPairs (values ++ value ∷ []) (first + 256 * second + 1)
-pair_pushed values first second value low old is = record {
+pub pair_pushed : (separator : ℕ) (values : List ℕ) (count value : ℕ) → AreFirstPairs separator values count → value ≡ pair_value separator (count % 256) (count / 256) → AreFirstPairs separator (values ++ value ∷ []) (count + 1)
+pair_pushed separator values count value old is = record {
   len = length-append values (value ∷ []) ∙ ap (λ n. n + 1) old.len;
-  each = λ a b h within. elim (cases_order (a + 256 * b) (first + 256 * second)) [
-    | inl e ↦
-        let same_second : b ≡ second = omega arith in
-        let same_first : a ≡ first = omega arith in
-        get_or_push values value 0 (a + 256 * b) (old.len ∙ sym e) ∙ is ∙ ap (λ x. pair_value x second) (sym same_first) ∙ ap (pair_value a) (sym same_second)
-    | inr (inl l) ↦ get_or_append_left values (value ∷ []) 0 (a + 256 * b) (let e = old.len in omega arith) ∙ old.each a b h l
+  each = λ place within. elim (cases_order place count) [
+    | inl e ↦ get_or_push values value 0 place (old.len ∙ sym e) ∙ is ∙ ap (λ k. pair_value separator (k % 256) (k / 256)) (sym e)
+    | inr (inl l) ↦ get_or_append_left values (value ∷ []) 0 place (let e = old.len in omega arith) ∙ old.each place l
     | inr (inr g) ↦ absurd (omega arith)
   ];
 }
@@ -26,30 +23,61 @@ pair_pushed values first second value low old is = record {
 digit_below : (c : ℕ) → is_digit c 10 ≡ true → digit_value c < 10
 digit_below c h = ltb-true (digit_value c) 10 h
 
--- after fewer than sixteen digits two more fit
-pub near : (n at : ℕ) → n < 10 ^ at → at < 16 → n < 10 ^ 16
+-- what a value tells of its two bytes
+record Tells (s a b v : ℕ) : Type 0 where
+  two : v < 100 → (is_digit a 10 ≡ true) × (is_digit b 10 ≡ true) × (v ≡ digit_value a * 10 + digit_value b)
+  one : 100 ≤ v → v < 254 → (is_digit a 10 ≡ true) × (is_digit b 10 ≡ false) × (b ≡ s) × (v ≡ 100 + digit_value a)
+  none : v ≡ 254 → (is_digit a 10 ≡ false) × (a ≡ s)
+
+tells : (s a b v : ℕ) → v ≡ pair_value s a b → Tells s a b v
+tells s a b v is = by (is_digit a 10) (is_digit b 10) (eqb b s) (eqb a s) refl refl refl refl is
+  where
+    by : (x y z w : Bool) → is_digit a 10 ≡ x → is_digit b 10 ≡ y → eqb b s ≡ z → eqb a s ≡ w
+        → v ≡ (if x then (if y then digit_value a * 10 + digit_value b else (if z then 100 + digit_value a else 255)) else (if w then 254 else 255)) → Tells s a b v
+    by true true z w e f g h is =
+        let small : v < 100 = omega (arith, digit_below a e, digit_below b f) in
+        record { two = λ _. (e, f, is); one = λ low _. absurd (omega arith); none = λ v. absurd (omega arith) }
+    by true false true w e f g h is =
+        let small : v < 110 = omega (arith, digit_below a e) in
+        record { two = λ low. absurd (omega arith); one = λ _ _. (e, f, eqb-true b s g, is); none = λ v. absurd (omega arith) }
+    by true false false w e f g h is = record { two = λ low. absurd (omega arith); one = λ _ low. absurd (omega arith); none = λ v. absurd (omega arith) }
+    by false y z true e f g h is = record { two = λ low. absurd (omega arith); one = λ _ low. absurd (omega arith); none = λ _. (e, eqb-true a s h) }
+    by false y z false e f g h is = record { two = λ low. absurd (omega arith); one = λ _ low. absurd (omega arith); none = λ v. absurd (omega arith) }
+
+-- after fewer than fifteen digits two more fit
+pub near : (n at : ℕ) → n < 10 ^ at → at ≤ 14 → n < 10 ^ 14
 near n at small few =
     let ten : 0 < 10 = omega arith in
-    let le : at ≤ 16 = omega arith in
-    let most : 10 ^ at ≤ 10 ^ 16 = pow-le-pow_right ten le in omega arith
-
--- two digits, where a pair has a value
-pub pair_digits : (a b v : ℕ) → v ≡ pair_value a b → v ≢ 255 → (is_digit a 10 ≡ true) × (is_digit b 10 ≡ true) × (v ≡ digit_value a * 10 + digit_value b)
-pair_digits a b v is some = by (is_digit a 10) (is_digit b 10) refl refl is where
-  by : (x y : Bool) → is_digit a 10 ≡ x → is_digit b 10 ≡ y → v ≡ (if x && y then digit_value a * 10 + digit_value b else 255) → (is_digit a 10 ≡ true) × (is_digit b 10 ≡ true) × (v ≡ digit_value a * 10 + digit_value b)
-  by true true e f h = (e, f, h)
-  by true false e f h = absurd (some h)
-  by false y e f h = absurd (some h)
+    let most : 10 ^ at ≤ 10 ^ 14 = pow-le-pow_right ten few in omega arith
 
 -- two digits more
-pub pair_more : (text : List ℕ) (n at a b v : ℕ) → at + 1 < length text → a ≡ get_or text at 0 → b ≡ get_or text (at + 1) 0 → ReadsFront text n at → v ≡ pair_value a b → v ≢ 255
-    → ReadsFront text (n * 100 + v) (at + 2) × (v < 100)
-pair_more text n at a b v within first second front is some =
-    let digits = pair_digits a b v is some in
-    let tens = digit_below a digits.0 in
-    let ones = digit_below b digits.1 in
-    let one = ReadsFront-more text n at a (digit_value a) (omega arith) first front digits.0 refl tens in
-    let two = ReadsFront-more text (n * 10 + digit_value a) (at + 1) b (digit_value b) within second one digits.1 refl ones in
+pub pair_more : (s : ℕ) (text : List ℕ) (n at v : ℕ) → at + 1 < length text → ReadsFront text n at → v ≡ pair_value s (get_or text at 0) (get_or text (at + 1) 0) → v < 100 → ReadsFront text (n * 100 + v) (at + 2)
+pair_more s text n at v within front is small =
+    let a = get_or text at 0 in
+    let b = get_or text (at + 1) 0 in
+    let told : Tells s a b v = tells s a b v is in
+    let digits = told.two small in
+    let one = ReadsFront-more text n at a (digit_value a) (omega arith) refl front digits.0 refl (digit_below a digits.0) in
+    let two = ReadsFront-more text (n * 10 + digit_value a) (at + 1) b (digit_value b) within refl one digits.1 refl (digit_below b digits.1) in
     let number : (n * 10 + digit_value a) * 10 + digit_value b ≡ n * 100 + v = omega (arith, digits.2) in
     let place : at + 1 + 1 ≡ at + 2 = omega arith in
-    (subst (λ k. ReadsFront text (n * 100 + v) k) place (subst (λ m. ReadsFront text m (at + 1 + 1)) number two), omega (arith, digits.2))
+    subst (λ k. ReadsFront text (n * 100 + v) k) place (subst (λ m. ReadsFront text m (at + 1 + 1)) number two)
+
+-- one digit more, and the separator
+pub one_more : (s : ℕ) (text : List ℕ) (n at v : ℕ) → at + 1 < length text → at + 1 < 19 → ReadsFront text n at → v ≡ pair_value s (get_or text at 0) (get_or text (at + 1) 0) → 100 ≤ v → v < 254
+    → NumberBefore s text (n * 10 + (v - 100)) (at + 1)
+one_more s text n at v within few front is large small =
+    let a = get_or text at 0 in
+    let b = get_or text (at + 1) 0 in
+    let told : Tells s a b v = tells s a b v is in
+    let digits = told.one large small in
+    let digit : digit_value a ≡ v - 100 = omega (arith, digits.3) in
+    let one = ReadsFront-more text n at a (digit_value a) (omega arith) refl front digits.0 refl (digit_below a digits.0) in
+    ReadsFront-done s text (n * 10 + (v - 100)) (at + 1) b few within refl (subst (λ d. ReadsFront text (n * 10 + d) (at + 1)) digit one) digits.1 digits.2 (omega arith)
+
+-- the separator
+pub no_more : (s : ℕ) (text : List ℕ) (n at v : ℕ) → at + 1 < length text → at + 1 < 19 → ReadsFront text n at → v ≡ pair_value s (get_or text at 0) (get_or text (at + 1) 0) → v ≡ 254 → 0 < at → NumberBefore s text n at
+no_more s text n at v within few front is none some =
+    let told : Tells s (get_or text at 0) (get_or text (at + 1) 0) v = tells s (get_or text at 0) (get_or text (at + 1) 0) v is in
+    let end = told.none none in
+    ReadsFront-done s text n at (get_or text at 0) (omega arith) (omega arith) refl front end.0 end.1 some

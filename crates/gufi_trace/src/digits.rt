@@ -1,35 +1,47 @@
-//! Decimal numbers, two digits at a time: for speed alone, since an exact reader stands behind.
+//! Decimal numbers, two digits at a time: for speed alone, since the exact readers stand behind.
 
-ghost use Rattle.std.specs.Prelude.{◌≡◌, ◌≢◌, ◌<◌, ◌≤◌, ◌+◌, ◌*◌, ◌^◌, true, false, length, IfOk, IfSome, OnOk, MatchOption};
+ghost use Rattle.std.specs.Prelude.{◌≡◌, ◌<◌, ◌≤◌, ◌+◌, true, false, length, slice_index_or, IfOk, IfSome, MatchOption};
 ghost use Rattle.std.specs.Char.{is_digit, digit_value};
 ghost use Rattle.gufi_base.specs.Numbers.{NumberBefore};
 ghost use Rattle.gufi_base.proofs.Digits.{ReadsFront};
-ghost use Rattle.gufi_trace.specs.Pairs.{pair_value, AreFirstPairs};
+ghost use Rattle.gufi_trace.specs.Pairs.{pair_value};
 
 use std::alloc::{AllocError, Global};
 use std::marker::Model;
 
-/// How many digits are looked at by twos: with one more a number has less than 64 bits.
-const MOST: usize = 16;
+/// How many pairs of bytes there are.
+const PAIRS: u32 = 65536;
 
-/// The value of two bytes that are not two digits.
-const NO_PAIR: u8 = 255;
+/// The value of a digit before the separator is this and the digit.
+const ONE_DIGIT: u8 = 100;
 
-/// What each two bytes are worth as two decimal digits, looked up by both.
+/// The value of the separator before any byte.
+const NO_DIGIT: u8 = 254;
+
+/// The value of all other pairs.
+const UNKNOWN: u8 = 255;
+
+/// At most so many digits are looked at: no such number wraps.
+const MOST_DIGITS: usize = 16;
+
+/// What each two bytes are worth as decimal digits before a separator, at the first and 256 times the second.
+///
+/// Contracts see the separator.
 #[derive(Drop)]
 pub(crate) struct DigitPairs {
+    separator: u8,
     values: Vec<u8>,
 }
 
 impl Model for DigitPairs {
-    ghost use Rattle.std.specs.Prelude.{ℕ, List};
-    ghost use Rattle.gufi_trace.specs.Pairs.{ArePairs};
+    ghost use Rattle.std.specs.Prelude.{ℕ};
+    ghost use Rattle.gufi_trace.specs.Pairs.{AreFirstPairs};
 
-    ghost Value = { List ℕ };
+    ghost Value = { ℕ };
 
-    ghost view = { λ p. p.values.items };
+    ghost view = { λ p. p.separator };
 
-    ghost invariant = { λ p. ArePairs p.values.items };
+    ghost invariant = { λ p. AreFirstPairs p.separator p.values.items 65536 };
 }
 
 /// What a decimal digit is worth.
@@ -44,99 +56,101 @@ fn digit_of(byte: u8) -> Option<u8>
     if digit < 10 { Some(digit) } else { None }
 }
 
-/// What two bytes are worth as two digits.
-fn value_of(first: u8, second: u8) -> u8
-    ensures { result ≡ pair_value first second }
+fn value_of(separator: u8, first: u8, second: u8) -> u8
+    ensures { result ≡ pair_value separator first second }
 {
     match (digit_of(first), digit_of(second)) {
         (Some(tens), Some(ones)) => tens * 10 + ones,
-        _ => NO_PAIR,
+        (Some(digit), None) if second == separator => ONE_DIGIT + digit,
+        (None, _) if first == separator => NO_DIGIT,
+        _ => UNKNOWN,
     }
 }
 
-/// Adds the values of all pairs that end in a byte.
-fn push_pairs(values: &mut Vec<u8>, second: u8) -> Result<(), AllocError>
-    requires { AreFirstPairs values.old.items (256 * second) }
-    ensures { OnOk result (AreFirstPairs values.new.items (256 * second + 256)) }
-{
-    for first in 0..256u32 {
-        values.push(value_of(first as u8, second))?;
-    }
-    Ok(())
-}
-
-/// The number of these digits and perhaps one more, where the separator stands right behind.
-fn end_of_number(text: &[u8], separator: u8, number: u64, at: usize) -> Option<(u64, usize)>
-    requires few { at ≤ 17 }
-    requires front { ReadsFront text.now number at }
-    ensures { IfSome result (λ found. NumberBefore separator text.now found.0 found.1) }
-{
-    if at >= text.len() {
-        return None;
-    }
-    let byte = text[at];
-    match digit_of(byte) {
-        None if at > 0 && byte == separator => Some((number, at)),
-        Some(digit) if at < 17 => end_behind(
-            text,
-            separator,
-            number * 10 + u64::from(digit),
-            at + 1,
-        ),
-        _ => None,
-    }
-}
-
-/// The number of these digits, where the separator stands right behind.
+/// The number that so many digits and perhaps the first of a pair write, where the separator stands right behind.
 #[inline(always)]
-fn end_behind(text: &[u8], separator: u8, number: u64, at: usize) -> Option<(u64, usize)>
-    requires few { at ≤ 17 }
-    requires some { 0 < at }
+fn end_in_pair(
+    separator: u8,
+    text: &[u8],
+    number: u64,
+    at: usize,
+    value: u8,
+) -> Option<(u64, usize)>
+    requires within { at + 1 < length text.now }
+    requires few { at + 1 < 16 }
+    requires front { ReadsFront text.now number at }
+    requires pair { value ≡ pair_value separator (slice_index_or text.now at 0) (slice_index_or text.now (at + 1) 0) }
+    requires ends { 100 ≤ value }
+    ensures { IfSome result (λ found. NumberBefore separator text.now found.0 found.1) }
+{
+    if value < NO_DIGIT {
+        return Some((number * 10 + u64::from(value - ONE_DIGIT), at + 1));
+    }
+    if value == NO_DIGIT && at > 0 {
+        Some((number, at))
+    } else {
+        None
+    }
+}
+
+/// The number that so many digits write, where the separator stands right behind.
+#[inline(always)]
+fn end_behind(separator: u8, text: &[u8], number: u64, at: usize) -> Option<(u64, usize)>
+    requires few { at ≤ 16 }
     requires front { ReadsFront text.now number at }
     ensures { IfSome result (λ found. NumberBefore separator text.now found.0 found.1) }
 {
-    if at >= text.len() {
+    if at == 0 || at >= text.len() {
         return None;
     }
-    let byte = text[at];
-    match digit_of(byte) {
-        None if byte == separator => Some((number, at)),
+    match digit_of(text[at]) {
+        None if text[at] == separator => Some((number, at)),
         _ => None,
     }
 }
 
 impl DigitPairs {
-    pub(crate) fn new(alloc: Global) -> Result<DigitPairs, AllocError> {
-        let mut values = Vec::with_capacity(alloc, 65536)?;
-        for second in 0..256u32 {
-            push_pairs(&mut values, second as u8)?;
+    pub(crate) fn new(alloc: Global, separator: u8) -> Result<DigitPairs, AllocError>
+        ensures { IfOk result (λ pairs. pairs ≡ separator) }
+    {
+        let mut values = Vec::with_capacity(alloc, PAIRS as usize)?;
+        for place in 0..PAIRS {
+            values.push(value_of(separator, (place % 256) as u8, (place / 256) as u8))?;
         }
-        Ok(DigitPairs { values })
+        Ok(DigitPairs { separator, values })
+    }
+
+    #[inline(always)]
+    pub(crate) fn separator(&self) -> u8
+        ensures { result ≡ self.now }
+    {
+        self.separator
     }
 
     #[inline(always)]
     fn value(&self, first: u8, second: u8) -> u8
-        ensures { result ≡ pair_value first second }
+        ensures { result ≡ pair_value self.now first second }
     {
         self.values[first as usize + 256 * second as usize]
     }
 
     /// The number that decimal digits write before the first separator of a text, and where that stands.
     ///
-    /// It looks at no more than seventeen digits, and where it gives nothing, nothing is known.
-    pub(crate) fn number_before(&self, text: &[u8], separator: u8) -> Option<(u64, usize)>
-        ensures { IfSome result (λ found. NumberBefore separator text.now found.0 found.1) }
+    /// It looks at no more than sixteen digits, and where it gives nothing, nothing is known.
+    #[inline(always)]
+    pub(crate) fn number_before(&self, text: &[u8]) -> Option<(u64, usize)>
+        ensures { IfSome result (λ found. NumberBefore self.now text.now found.0 found.1) }
     {
         let mut number: u64 = 0;
         let mut at = 0;
-        'pairs: while at < MOST && at + 1 < text.len() {
+        'pairs: while at + 1 < MOST_DIGITS && at + 1 < text.len() {
             let value = self.value(text[at], text[at + 1]);
-            if value == NO_PAIR {
-                return end_of_number(text, separator, number, at);
+            if value >= ONE_DIGIT {
+                return end_in_pair(self.separator, text, number, at, value);
             }
             number = number * 100 + u64::from(value);
             at += 2;
         }
-        end_of_number(text, separator, number, at)
+        end_behind(self.separator, text, number, at)
     }
 }

@@ -130,11 +130,22 @@ fn content_of<'a>(parts: &mut Parts<'a>, pairs: &DigitPairs) -> Option<Content<'
 {
     let path = parts.next_part()?;
     let meta = next_meta(parts, pairs)?;
-    let link = parts.next_part()?;
+    let link = parts.next_link()?;
     if link.len() > MAX_LINK || has_zero(link) {
         return None;
     }
     Some(Content { path, meta, link })
+}
+
+/// The bytes of a link; most lines have none.
+#[inline(always)]
+fn copy_link(alloc: Global, link: &[u8]) -> Result<Bytes, AllocError>
+    ensures { IfOk result (λ copy. copy ≡ link.now) }
+{
+    if link.is_empty() {
+        return Ok(Bytes::of(Vec::new(alloc)));
+    }
+    Bytes::from_slice(alloc, link)
 }
 
 /// Takes a directory's line, where its path is plain and it stands at its place.
@@ -154,7 +165,7 @@ fn add_directory(
         return Ok(false);
     };
     let path = Path::of_names(alloc, names)?;
-    let link = Bytes::from_slice(alloc, content.link)?;
+    let link = copy_link(alloc, content.link)?;
     let meta = content.meta;
     lines.push_dir(alloc, path, Rec { meta, link })?;
     Ok(true)
@@ -180,7 +191,7 @@ fn add_entry(
         return Ok(false);
     };
     let name = Name::of_checked(alloc, name)?;
-    let link = Bytes::from_slice(alloc, content.link)?;
+    let link = copy_link(alloc, content.link)?;
     let meta = content.meta;
     lines.push_entry(alloc, name, Rec { meta, link })?;
     Ok(true)

@@ -114,7 +114,7 @@ impl TraceReader {
     {
         Ok(TraceReader {
             delim,
-            pairs: DigitPairs::new(alloc)?,
+            pairs: DigitPairs::new(alloc, delim)?,
             progress: Progress::new(alloc)?,
             rest: Vec::new(alloc),
             failed: None,

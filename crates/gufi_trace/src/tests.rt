@@ -120,32 +120,37 @@ fn each_fault_is_named_by_its_line(rt: HostRuntime) -> Result<(), Fail> {
     Ok(())
 }
 
-/// What is written of the tree of a trace below a root.
 /// A number behind which a text goes on, and where it ends; none where nothing is known of it.
-const NUMBERS: [(&[u8], Option<(u64, usize)>); 12] = [
+const NUMBERS: [(&[u8], Option<(u64, usize)>); 17] = [
     (b"7|", Some((7, 1))),
     (b"40|x", Some((40, 2))),
     (b"123|", Some((123, 3))),
     (b"0000|5|", Some((0, 4))),
     (b"1700000000|", Some((1700000000, 10))),
-    (b"12345678901234567|", Some((12345678901234567, 17))),
+    (b"123456789012345|", Some((123456789012345, 15))),
+    (b"1234567890123456|", Some((1234567890123456, 16))),
+    (b"12345678901234567|", None),
     (b"123456789012345678|", None),
+    (b"1234567890123456789|", None),
+    (b"123456789012345678", None),
     (b"12", None),
     (b"|", None),
     (b"1/|", None),
     (b"1:|", None),
+    (b"/1|", None),
     (b"12-3|", None),
 ];
 
 #[test]
 fn numbers_are_read_by_pairs_of_digits(rt: HostRuntime) -> Result<(), Fail> {
-    let pairs = DigitPairs::new(rt.alloc())?;
+    let pairs = DigitPairs::new(rt.alloc(), b'|')?;
     for (text, number) in NUMBERS {
-        assert_eq!(rt; pairs.number_before(text, b'|'), number);
+        assert_eq!(rt; pairs.number_before(text), number);
     }
     Ok(())
 }
 
+/// What is written of the tree of a trace below a root.
 fn rewritten(
     alloc: Global,
     trace: &[u8],

@@ -3,4 +3,5 @@ use Rattle.gufi_base.proofs.Digits.{ReadsFront-done}
 use Rattle.gufi_trace.proofs.digits.end_behind.Goals as goal
 
 pub returns-in-None : goal.returns-in-None
-returns-in-None c = ReadsFront-done c.args.separator c.args.text.now c.args.number c.args.at _ (omega (arith, c.requires.few)) (omega (arith, c.if-at-text.false)) refl c.requires.front c.in-None.ensures c.if-byte-separator.true c.requires.some
+returns-in-None c =
+    ReadsFront-done c.args.separator c.args.text.now c.args.number c.args.at _ (omega (arith, c.requires.few)) c.if-at-text.false refl c.requires.front c.in-None.ensures c.if-text-at.true (omega (arith, c.if-at-eq0.false))

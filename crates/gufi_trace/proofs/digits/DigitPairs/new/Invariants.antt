@@ -1,6 +1,5 @@
-use Rattle.std.proofs.Common.{◌*◌}
 use Rattle.gufi_trace.specs.Pairs.{AreFirstPairs}
 use Rattle.gufi_trace.proofs.digits.DigitPairs.new.Given as goal
 
-abbrev pub invariant-loop-second : goal.invariant-loop-second
-invariant-loop-second l = AreFirstPairs l.values.items (256 * l.second)
+abbrev pub invariant-loop-place : goal.invariant-loop-place
+invariant-loop-place l = AreFirstPairs l.separator l.values.items l.place

@@ -1,21 +1,27 @@
-use Rattle.std.proofs.Common.{◌<◌, ◌^◌, refl, arith}
+use Rattle.std.proofs.Common.{◌+◌, ◌*◌, ◌<◌, ◌≤◌, ◌^◌, ℕ, length, rules, sym, subst, arith}
+use Rattle.gufi_base.proofs.Digits.{ReadsFront}
 use Rattle.gufi_trace.proofs.Pairs.{near, pair_more}
 use Rattle.gufi_trace.proofs.digits.DigitPairs.number_before.Goals as goal
 
 pub overflow_mul-number : goal.overflow_mul-number
 overflow_mul-number c =
-    let few : c.pairs.number < 10 ^ 16 = near c.pairs.number c.pairs.at c.pairs.invariant.front.small c.pairs-test.true in omega arith
+    let low : c.pairs.at ≤ 14 = search rules in
+    let few : c.pairs.number < 10 ^ 14 = near c.pairs.number c.pairs.at c.pairs.invariant.front.small low in omega arith
 
 pub overflow_add-number : goal.overflow_add-number
 overflow_add-number c =
-    let few : c.pairs.number < 10 ^ 16 = near c.pairs.number c.pairs.at c.pairs.invariant.front.small c.pairs-test.true in
-    let pair = pair_more c.args.text.now c.pairs.number c.pairs.at _ _ c.value-value.result c.if-at-text.true refl refl c.pairs.invariant.front c.value-value.ensures c.if-value.false in
-    omega (arith, c.from.ensures, pair.1)
+    let low : c.pairs.at ≤ 14 = search rules in
+    let few : c.pairs.number < 10 ^ 14 = near c.pairs.number c.pairs.at c.pairs.invariant.front.small low in
+    let value = c.from.ensures in
+    let small = c.if-value-ge-ONE_DIGIT.false in
+    omega arith
 
 pub pairs-preserved : goal.pairs-preserved
 pairs-preserved c =
-    let more = pair_more c.args.text.now c.pairs.number c.pairs.at _ _ c.value-value.result c.if-at-text.true refl refl c.pairs.invariant.front c.value-value.ensures c.if-value.false in
-    rw c.from.ensures (record {
-      few = let a = c.pairs-test.true in omega arith;
-      front = more.0;
-    })
+    let low : c.pairs.at + 2 ≤ 16 = search rules in
+    let within : c.pairs.at + 1 < length c.args.text.now = search rules in
+    record {
+      few = low;
+      front = subst (λ (v : ℕ). ReadsFront c.args.text.now (c.pairs.number * 100 + v) (c.pairs.at + 2)) (sym c.from.ensures)
+          (pair_more c.args.self.now c.args.text.now c.pairs.number c.pairs.at c.value-value.result within c.pairs.invariant.front c.value-value.ensures c.if-value-ge-ONE_DIGIT.false);
+    }

@@ -1,12 +1,12 @@
-use Rattle.std.proofs.Common.{◌≤◌, ◌-◌}
+use Rattle.std.proofs.Common.{◌-◌, ◌≤◌}
 use Rattle.gufi_base.proofs.Digits.{ReadsFront}
 use Rattle.gufi_trace.proofs.digits.DigitPairs.number_before.Given as goal
 
 abbrev pub invariant-pairs : goal.invariant-pairs
 invariant-pairs l = record {
-  few : l.at ≤ 17;
+  few : l.at ≤ 16;
   front : ReadsFront l.text l.number l.at;
 }
 
 abbrev pub decreases-pairs : goal.decreases-pairs
-decreases-pairs l = 17 - l.at
+decreases-pairs l = 16 - l.at
