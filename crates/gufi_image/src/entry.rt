@@ -37,6 +37,7 @@ fn follows(before: &[Entry], name: &Name) -> bool
 }
 
 /// An entry, behind those before it. Two allocations at most.
+#[inline(always)]
 #[tactic(auto, unfolding(crate::specs::Entries::entry_at))]
 fn entry_at<'a>(
     alloc: Global,

@@ -77,6 +77,7 @@ fn i64_at(bytes: &[u8]) -> Result<(i64, &[u8]), Refused>
 }
 
 /// What a record of this kind holds before its link.
+#[inline(always)]
 #[tactic(auto, unfolding(crate::specs::Fields::meta_at))]
 fn meta_at(bytes: &[u8], kind: Kind) -> Result<(Meta, &[u8]), Refused>
     ensures gives { Gives (λ x. (x.0, x.1.now)) result (meta_at kind bytes.now) }
@@ -120,6 +121,7 @@ fn are_path_bytes(bytes: &[u8]) -> bool
 }
 
 /// The target of a link, behind its length.
+#[inline(always)]
 #[tactic(auto, unfolding(crate::specs::Fields::link_at))]
 fn link_at(bytes: &[u8]) -> Result<(&[u8], &[u8]), Refused>
     ensures { Gives (λ x. (x.0.now, x.1.now)) result (link_at bytes.now) }
@@ -136,6 +138,7 @@ fn link_at(bytes: &[u8]) -> Result<(&[u8], &[u8]), Refused>
 }
 
 /// A record of this kind. One allocation where there is a link.
+#[inline(always)]
 #[tactic(auto, unfolding(crate::specs::Fields::record_at))]
 pub(crate) fn record_at(alloc: Global, bytes: &[u8], kind: Kind) -> Result<(Rec, &[u8]), Refused>
     ensures gives { Gives (λ x. (x.0, x.1.now)) result (record_at kind bytes.now) }

@@ -62,6 +62,7 @@ impl<'a> Above<'a> {
 }
 
 /// A name below a directory, behind its length. One allocation.
+#[inline(always)]
 #[tactic(auto, unfolding(crate::specs::Names::name_at))]
 pub(crate) fn name_at<'a>(
     alloc: Global,
