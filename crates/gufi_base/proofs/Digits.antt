@@ -6,7 +6,7 @@ use Rattle.std.specs.Char.{is_digit, digit_value}
 use Rattle.std.specs.Str.Parse.{digits_value, digits_value_after, starts_with_minus}
 use Rattle.std.proofs.Math.Nat.{mul-le-mul_left, pow-le-pow_right, pow-suc}
 use Rattle.std.proofs.lemmas.Bool.{cond-false, lt-ltb, le-ltb, and_right, and_from, and_parts, not_from_false, cases_Bool, eqb-true, false≢true}
-use Rattle.std.proofs.lemmas.List.{take-append-drop, drop_more, get_or-take, length-take}
+use Rattle.std.proofs.lemmas.List.{take-append-drop, drop_more, length-take}
 use Rattle.std.proofs.lemmas.List.Folds.{list_all_more}
 use Rattle.std.proofs.lemmas.Int.Digits.{digits_value_more}
 use Rattle.gufi_base.specs.Words.{is_empty, split}
@@ -57,12 +57,6 @@ more_power at = let one : at + 1 ≡ suc at = omega arith in ap (λ k. 10 ^ k) o
 
 more_small : (n power digit : ℕ) → n < power → digit < 10 → n * 10 + digit < power * 10
 more_small n power digit h d = omega arith
-
--- a place of the first bytes is that of the text
-pub near_place : (text near : List ℕ) (at : ℕ) → near ≡ take 19 text → at < length near → (at < 19) × (at < length text) × (get_or near at 0 ≡ get_or text at 0)
-near_place text near at e lt =
-    let low : at < 19 = omega (arith, ap length e, length-take 19 text) in
-    (low, omega (arith, ap length e, length-take 19 text), ap (λ (t : List ℕ). get_or t at 0) e ∙ get_or-take 19 text at 0 low)
 
 pub ReadsFront-more : (text : List ℕ) (n at b digit : ℕ) → at < length text → b ≡ get_or text at 0 → ReadsFront text n at → is_digit b 10 ≡ true → digit ≡ digit_value b → digit < 10 → ReadsFront text (n * 10 + digit) (at + 1)
 ReadsFront-more text n at b digit within here h test d small =

@@ -4,7 +4,6 @@ pub mod Children
 pub mod Cuts
 pub mod Decimals
 pub mod Digits
-pub mod GoesOn
 pub mod Names
 pub mod Orders
 pub mod PartOrders
@@ -20,4 +19,5 @@ pub mod SortedOnce
 pub mod Sorting
 pub mod SplitParts
 pub mod Spots
+pub mod TextLines
 pub mod Texts

@@ -1,5 +1,5 @@
 -- The order of paths, and what leads to what.
-use Rattle.std.proofs.Common.{◌≡◌, ℕ, suc, length, true, false, ◌&&◌, List, [], ◌∷◌, ◌++◌, refl, sym, ap, ◌∙◌, inl, inr, arith}
+use Rattle.std.proofs.Common.{◌≡◌, ℕ, suc, length, drop, true, false, ◌&&◌, List, [], ◌∷◌, ◌++◌, refl, sym, ap, ◌∙◌, inl, inr, arith}
 use Rattle.std.specs.Prelude.{bytes_eq, nat_lt, ◌⊎◌}
 use Rattle.std.specs.declared.cmp.Ordering.{Ordering}
 use Rattle.std.specs.declared.cmp.Ordering.TheVariants.{Less, Equal, Greater}
@@ -127,3 +127,11 @@ child_stands (n ∷ path) (m ∷ other) name h = by (name_order n m) refl (λ k.
 -- one name more stands to what goes on as the names do
 pub child_goes_on : (path : Components) (name next : List ℕ) (more : Components) → path_cmp (path ++ name ∷ []) (path ++ next ∷ more) ≡ ordering_then (name_order name next) (path_cmp [] more)
 child_goes_on path name next more = path_cmp-append path (name ∷ []) (next ∷ more)
+
+-- what is left behind a prefix
+pub front_and_rest : (front path : Components) → is_prefix front path ≡ true → path ≡ front ++ drop (length front) path
+front_and_rest [] path h = refl
+front_and_rest (f ∷ front) [] h = absurd (false≢true h)
+front_and_rest (f ∷ front) (n ∷ path) h =
+    let both = and_parts _ _ h in
+    ap (λ x. x ∷ path) (sym ((bytes_eq-Decides f n).0 both.0)) ∙ ap (λ xs. f ∷ xs) (front_and_rest front path both.1)

@@ -1,5 +1,5 @@
 -- Paths (XBD 3.271 Pathname, 4.13 Pathname Resolution): lists of names.
-use Rattle.std.specs.Prelude.{◌≡◌, ℕ, Bool, true, false, not, ◌&&◌, ◌||◌, nat_lt, List, [], ◌∷◌, ◌++◌, length, filter, Result, Ok, Err, if◌then◌else◌, bytes_eq}
+use Rattle.std.specs.Prelude.{ℕ, Bool, true, false, not, ◌&&◌, ◌||◌, nat_lt, List, [], ◌∷◌, ◌++◌, length, filter, Result, Ok, Err, if◌then◌else◌, bytes_eq}
 use Rattle.std.specs.List.{list_any, flat_map}
 use Rattle.std.specs.Ordering.{nat_cmp}
 use Rattle.std.specs.declared.cmp.Ordering.{Ordering}
@@ -74,8 +74,3 @@ stem (name ∷ path) = slashed_text (parent_path (name ∷ path)) ++ 47 ∷ []
 -- the second path is the first followed by one name
 abbrev pub is_child_of : Components → Components → Bool
 is_child_of path child = not (is_empty child) && path_eq path (parent_path child)
-
--- the path is the front, then the name, and perhaps more
-pub record GoesOnWith (front path : Components) (name : List ℕ) : Type 0 where
-  pub more : Components
-  pub is : path ≡ front ++ name ∷ more

@@ -5,6 +5,7 @@
 #![tactic(auto)]
 
 mod kept;
+mod lines;
 mod list;
 mod name;
 mod number;
@@ -26,11 +27,10 @@ mod steps;
 mod tail;
 mod yields;
 
+pub use lines::lines_of;
 pub use list::{Bytes, Items, Nums, Text};
 pub use name::{Name, NameFault, name_cmp};
-pub use number::{
-    number_before, put_i64, put_u64, put_u128, read_i64, read_octal, read_u32, read_u64,
-};
+pub use number::{put_i64, put_u64, put_u128, read_i64, read_octal, read_u32, read_u64};
 pub use order::{path_cmp, text_cmp};
 pub use path::{Path, PathFault, path_text};
 pub use path_list::PathList;

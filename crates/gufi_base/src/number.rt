@@ -1,9 +1,9 @@
 //! Numbers in text.
 
-ghost use Rattle.std.specs.Prelude.{◌≡◌, ◌+◌, ◌^◌, ◌≤◌, ◌<◌, true, false, pos, neg_ℤ, length, take, drop, IfSome, decimal, ◌++◌, OnOk, OnErr, MatchOption, option_map};
+ghost use Rattle.std.specs.Prelude.{◌≡◌, ◌+◌, ◌^◌, ◌≤◌, ◌<◌, true, false, pos, neg_ℤ, length, drop, decimal, ◌++◌, OnOk, OnErr, MatchOption, option_map};
 ghost use Rattle.std.specs.Fmt.{signed_decimal};
 ghost use Rattle.std.specs.Char.{is_digit, digit_value};
-ghost use Rattle.gufi_base.specs.Numbers.{number_below, NumberBefore, read_below, read_u64, read_u32, read_octal, read_i64};
+ghost use Rattle.gufi_base.specs.Numbers.{number_below, read_below, read_u64, read_u32, read_octal, read_i64};
 
 use crate::Memory;
 
@@ -20,22 +20,6 @@ fn digit_of(byte: u8, radix: u64) -> Option<u64>
     }
     let digit = u64::from(byte - b'0');
     if digit < radix { Some(digit) } else { None }
-}
-
-/// What a decimal digit is worth.
-#[inline(always)]
-fn decimal_digit(byte: u8) -> Option<u64>
-    ensures { MatchOption result
-        (is_digit byte 10 ≡ false)
-        (λ digit. (is_digit byte 10 ≡ true) × (digit ≡ digit_value byte) × (digit < 10)) }
-{
-    // A byte below the digits wraps to one far above them, so that one test is enough.
-    let digit = byte.wrapping_sub(b'0');
-    if digit < 10 {
-        Some(u64::from(digit))
-    } else {
-        None
-    }
 }
 
 /// The number that at most nineteen decimal digits write: no such number is too large.
@@ -68,68 +52,6 @@ fn long_number(bytes: &[u8], radix: u64) -> Option<u64>
         number = number.checked_mul(radix)?.checked_add(digit)?;
     }
     Some(number)
-}
-
-/// The first bytes of a text, no more than so many.
-#[inline]
-fn front_of(text: &[u8], count: usize) -> &[u8]
-    ensures { result.now ≡ take count text.now }
-{
-    if text.len() > count {
-        &text[..count]
-    } else {
-        text
-    }
-}
-
-/// The number before the first separator, in a text of nineteen bytes or more: no place needs a test of the length.
-#[inline(always)]
-fn number_in_long(text: &[u8], separator: u8) -> Option<(u64, usize)>
-    requires { 19 ≤ length text.now }
-    ensures { IfSome result (λ found. NumberBefore separator text.now found.0 found.1) }
-{
-    let mut number: u64 = 0;
-    for at in 0..19 {
-        let byte = text[at];
-        match decimal_digit(byte) {
-            Some(_) if at >= 18 => return None,
-            Some(digit) => number = number * 10 + digit,
-            None if at > 0 && byte == separator => return Some((number, at)),
-            None => return None,
-        }
-    }
-    None
-}
-
-/// The same in a text of any length.
-#[inline(never)]
-fn number_in_short(text: &[u8], separator: u8) -> Option<(u64, usize)>
-    ensures { IfSome result (λ found. NumberBefore separator text.now found.0 found.1) }
-{
-    let mut number: u64 = 0;
-    for (at, byte) in front_of(text, 19).iter().enumerate() {
-        match decimal_digit(*byte) {
-            Some(_) if at >= 18 => return None,
-            Some(digit) => number = number * 10 + digit,
-            None if at > 0 && *byte == separator => return Some((number, at)),
-            None => return None,
-        }
-    }
-    None
-}
-
-/// The number that decimal digits write before the first separator of a text, and where that stands.
-///
-/// For speed alone: it looks at no more than eighteen digits, and where it gives nothing, nothing is known.
-#[inline(always)]
-pub fn number_before(text: &[u8], separator: u8) -> Option<(u64, usize)>
-    ensures { IfSome result (λ found. NumberBefore separator text.now found.0 found.1) }
-{
-    if text.len() >= 19 {
-        number_in_long(text, separator)
-    } else {
-        number_in_short(text, separator)
-    }
 }
 
 /// The number that decimal digits write, where it is below 2^64.

@@ -4,7 +4,7 @@ ghost use Rattle.std.specs.Prelude.{◌≡◌, ◌≢◌, ◌↔◌, [], ◌∷�
 ghost use Rattle.std.specs.List.{list_all};
 ghost use Rattle.gufi_base.specs.Words.{GivesUnless, split, is_empty as has_no_element};
 ghost use Rattle.gufi_base.specs.Names.{is_name};
-ghost use Rattle.gufi_base.specs.Paths.{Components, read_path, path_text, is_prefix, parent_path, base_name, stem, is_child_of, is_proper_prefix, GoesOnWith};
+ghost use Rattle.gufi_base.specs.Paths.{Components, read_path, path_text, is_prefix, parent_path, base_name, stem, is_child_of};
 ghost use Rattle.gufi_base.specs.PathTexts.{kept_text};
 ghost use Rattle.gufi_base.specs.PathLists.{ArePartsOf};
 
@@ -16,7 +16,7 @@ use crate::path_parts::{
     text_of_row, without_front,
 };
 use crate::path_reading::{MAX_NAME, closed, text_of_parts, without_first_slash};
-use crate::path_relations::{begins_with, child_name, name_behind, names_behind};
+use crate::path_relations::{begins_with, child_name, names_behind};
 use crate::plain::are_plain;
 use std::alloc::{AllocError, Global};
 use std::marker::Model;
@@ -173,15 +173,6 @@ impl Path {
         ensures { result ≡ is_prefix front.now self.now }
     {
         begins_with(self.text.as_slice(), front.text.as_slice())
-    }
-
-    /// Its first name below a front that it goes on from.
-    pub fn name_below(&self, front: &Path) -> Option<&[u8]>
-        ensures { MatchOption result
-            (is_proper_prefix front.now self.now ≡ false)
-            (λ name. GoesOnWith front.now self.now name.now) }
-    {
-        name_behind(self.text.as_slice(), front.text.as_slice())
     }
 
     /// Whether it is the parent followed by one name.

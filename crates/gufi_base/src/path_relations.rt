@@ -1,16 +1,15 @@
 //! Whether a path begins with another, and what is left of it.
 
-ghost use Rattle.std.specs.Prelude.{◌≡◌, ◌≢◌, ℕ, List, [], ◌∷◌, ◌++◌, IsTrue, IfSome, Ok, MatchOption, false};
+ghost use Rattle.std.specs.Prelude.{◌≡◌, ◌≢◌, ℕ, List, [], ◌∷◌, ◌++◌, IsTrue, IfSome, Ok, MatchOption};
 ghost use Rattle.std.specs.List.{list_all};
-ghost use Rattle.gufi_base.specs.Words.{BeginsWith, split};
+ghost use Rattle.gufi_base.specs.Words.{split};
 ghost use Rattle.gufi_base.specs.Names.{is_name};
-ghost use Rattle.gufi_base.specs.Paths.{read_path, is_prefix, is_proper_prefix, GoesOnWith};
+ghost use Rattle.gufi_base.specs.Paths.{read_path, is_prefix};
 ghost use Rattle.gufi_base.specs.PathTexts.{names, IsText};
 
 use crate::name::is_name;
 use crate::order::same_bytes;
 use crate::path_reading::MAX_NAME;
-use crate::piece::pieces_of;
 use crate::plain::are_plain;
 
 /// What is left of a text behind a front.
@@ -40,12 +39,6 @@ pub(crate) fn begins_with(text: &[u8], front: &[u8]) -> bool
     }
 }
 
-fn first_piece(text: &[u8]) -> Option<&[u8]>
-    ensures { MatchOption result ⊥ (λ part. BeginsWith (split 47 text.now) part.now) }
-{
-    pieces_of(text, b"/").next()
-}
-
 /// The last name of bytes that spell a root's path, a parent's below it, and that name.
 pub(crate) fn child_name<'a>(bytes: &'a [u8], root: &[u8], parent: &[u8]) -> Option<&'a [u8]>
     requires root { IsText root.now }
@@ -70,19 +63,4 @@ pub(crate) fn names_behind<'a>(bytes: &'a [u8], root: &[u8]) -> Option<&'a [u8]>
     }
     let rest = behind(bytes, root)?;
     if are_plain(rest) { Some(rest) } else { None }
-}
-
-/// The first name of a text behind a front that it goes on from.
-pub(crate) fn name_behind<'a>(text: &'a [u8], front: &[u8]) -> Option<&'a [u8]>
-    requires text { IsText text.now }
-    requires front { IsText front.now }
-    ensures { MatchOption result
-        (is_proper_prefix (names front.now) (names text.now) ≡ false)
-        (λ name. GoesOnWith (names front.now) (names text.now) name.now) }
-{
-    match behind(text, front) {
-        None => None,
-        Some(rest) if rest.is_empty() => None,
-        Some(rest) => first_piece(rest),
-    }
 }

@@ -4,8 +4,8 @@ ghost use Rattle.gufi_base.specs.Rows.{StandsForSome};
 
 use crate::{
     Bytes, Items, Kind, Memory, Meta, Name, NameFault, Nums, Path, PathFault, PathList, Row,
-    RowList, RowRef, Text, Yield, number_before, path_text, put_i64, put_u64, put_u128, read_i64,
-    read_octal, read_u64,
+    RowList, RowRef, Text, Yield, path_text, put_i64, put_u64, put_u128, read_i64, read_octal,
+    read_u64,
 };
 use std::alloc::Global;
 use std::test::Fail;
@@ -52,25 +52,6 @@ fn plain_paths_go_on_from_others(rt: HostRuntime) -> Result<(), Fail> {
     assert_eq!(rt; child.printed(), b"/a/.b/c d".as_slice());
     assert!(rt; root.names_behind(b"/fs/a//b").is_none());
     assert!(rt; parent.child_name(&root, b"/fs/a/.b/c/d").is_none());
-    Ok(())
-}
-
-#[test]
-fn numbers_end_before_a_separator(rt: HostRuntime) -> Result<(), Fail> {
-    assert_eq!(rt; number_before(b"0042|7", b'|'), Some((42, 4)));
-    assert_eq!(rt;
-        number_before(b"123456789012345678|", b'|'),
-        Some((123456789012345678, 18))
-    );
-    for text in [
-        b"|".as_slice(),
-        b"12",
-        b"-1|",
-        b"1x|",
-        b"1234567890123456789|",
-    ] {
-        assert_eq!(rt; number_before(text, b'|'), None);
-    }
     Ok(())
 }
 

@@ -15,8 +15,7 @@ use Rattle.gufi_base.specs.Paths.{Components, path_cmp, path_text, is_prefix, is
 use Rattle.gufi_base.specs.Rows.{row_cmp, is_dir_row}
 use Rattle.gufi_base.specs.Words.{ascends, line}
 use Rattle.gufi_base.proofs.Orders.{path_cmp-same}
-use Rattle.gufi_base.proofs.GoesOn.{front_and_rest}
-use Rattle.gufi_base.proofs.Prefixes.{rows_total, prefix_stands_before, stands_after_subtree}
+use Rattle.gufi_base.proofs.Prefixes.{rows_total, front_and_rest, prefix_stands_before, stands_after_subtree}
 use Rattle.gufi_base.proofs.SortedOnce.{below_all, ascends-tail, less_turned}
 use Rattle.gufi_stats.specs.Reports.{is_leaf}
 use Rattle.gufi_stats.specs.Leaves.{is_above_any, leaf_line}

@@ -9,9 +9,9 @@ ghost use Rattle.gufi_users.specs.Rows.{is_named, group_rows};
 ghost use Rattle.gufi_users.specs.Users.{group_texts, members_of, read_group_line, new_row, with_line, group_name, read_group};
 
 use crate::fault::{UserError, UserKind};
-use crate::line::{MAX_LINES, is_skipped, lines_of};
+use crate::line::{MAX_LINES, is_skipped};
 use crate::row::add_row;
-use gufi_base::{Bytes, Pieces, pieces_of, read_u32};
+use gufi_base::{Bytes, Pieces, lines_of, pieces_of, read_u32};
 use indexmap::IndexMap;
 use std::alloc::{AllocError, Global};
 use std::marker::Model;

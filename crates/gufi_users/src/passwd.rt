@@ -8,9 +8,9 @@ ghost use Rattle.gufi_users.specs.Rows.{is_named, passwd_rows};
 ghost use Rattle.gufi_users.specs.Users.{passwd_texts, read_passwd_line, new_row, with_line, user_name, read_passwd};
 
 use crate::fault::{UserError, UserKind};
-use crate::line::{MAX_LINES, is_skipped, lines_of};
+use crate::line::{MAX_LINES, is_skipped};
 use crate::row::add_row;
-use gufi_base::{Pieces, pieces_of, read_u32};
+use gufi_base::{Pieces, lines_of, pieces_of, read_u32};
 use indexmap::IndexMap;
 use std::alloc::{AllocError, Global};
 use std::marker::Model;

@@ -1,4 +1,4 @@
-use Rattle.std.proofs.Common.{arith, [], ◌∷◌, ◌++◌, length, length-append}
+use Rattle.std.proofs.Common.{arith, [], ◌∷◌, ◌++◌, length-append}
 use Rattle.gufi_base.proofs.tests.take_row.Goals as goal
 
 pub returns-clause-count : goal.returns-clause-count
