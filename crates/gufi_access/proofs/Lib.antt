@@ -1,2 +1,3 @@
 pub mod AccessLemmas
+pub mod Indexed
 pub mod Suffice

@@ -2,7 +2,7 @@
 ghost use Rattle.std.specs.Prelude.{◌≡◌};
 ghost use Rattle.gufi_access.specs.Access.{rights, class_for, class_bits, is_granted, can_list, principal};
 
-use crate::groups::Groups;
+use crate::groups::{Groups, Members};
 
 /// Who asks: a user ID and any groups.
 #[derive(Drop)]
@@ -27,34 +27,34 @@ pub enum Class {
     Other,
 }
 
-/// The class that decides alone: the owner's, else the group's, else the others'. Goes through the groups once.
+/// The class that decides alone: the owner's, else the group's, else the others'. Asks the groups at most once.
 pub fn class_of(who: &Principal, of: &Guard) -> Class
     ensures { result ≡ class_for who.now (rights of.now) }
 {
-    class_as(who.uid, who.groups.as_slice(), of)
+    class_as(who.uid, &who.groups, of)
 }
 
 /// Whether every bit of `want` is granted, of read 4, write 2 and search 1. The uid 0 is granted all.
 pub fn granted(who: &Principal, of: &Guard, want: u8) -> bool
     ensures { result ≡ is_granted who.now (rights of.now) want }
 {
-    granted_as(who.uid, who.groups.as_slice(), of, want)
+    granted_as(who.uid, &who.groups, of, want)
 }
 
 /// Whether a directory may be listed: read and search are both granted.
 pub fn lists(who: &Principal, of: &Guard) -> bool
     ensures { result ≡ can_list who.now (rights of.now) }
 {
-    lists_as(who.uid, who.groups.as_slice(), of)
+    lists_as(who.uid, &who.groups, of)
 }
 
 #[tactic(auto, unfolding(crate::specs::Access::class_for))]
-fn class_as(uid: u32, groups: &[u32], of: &Guard) -> Class
-    ensures { result ≡ class_for (principal uid groups.now) (rights of.now) }
+fn class_as<M: Members>(uid: u32, groups: &M, of: &Guard) -> Class
+    ensures { result ≡ class_for (principal uid (M.members groups.now)) (rights of.now) }
 {
     if uid == of.uid {
         Class::Owner
-    } else if groups.contains(&of.gid) {
+    } else if groups.has(of.gid) {
         Class::Group
     } else {
         Class::Other
@@ -74,15 +74,15 @@ fn bits_of(class: Class, mode: u16) -> u8
 }
 
 #[tactic(auto, unfolding(crate::specs::Access::is_granted))]
-fn granted_as(uid: u32, groups: &[u32], of: &Guard, want: u8) -> bool
-    ensures { result ≡ is_granted (principal uid groups.now) (rights of.now) want }
+fn granted_as<M: Members>(uid: u32, groups: &M, of: &Guard, want: u8) -> bool
+    ensures { result ≡ is_granted (principal uid (M.members groups.now)) (rights of.now) want }
 {
     uid == 0 || bits_of(class_as(uid, groups, of), of.mode) & want == want
 }
 
 #[tactic(auto, unfolding(crate::specs::Access::can_list))]
-pub(crate) fn lists_as(uid: u32, groups: &[u32], of: &Guard) -> bool
-    ensures { result ≡ can_list (principal uid groups.now) (rights of.now) }
+pub(crate) fn lists_as<M: Members>(uid: u32, groups: &M, of: &Guard) -> bool
+    ensures { result ≡ can_list (principal uid (M.members groups.now)) (rights of.now) }
 {
     granted_as(uid, groups, of, 5)
 }

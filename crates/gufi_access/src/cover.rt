@@ -4,6 +4,7 @@ ghost use Rattle.gufi_access.specs.Access.{rights, principal, Covers};
 ghost use Rattle.gufi_access.specs.Tried.{keeps, keeps_for, fresh_uid, covers};
 
 use crate::class::{Guard, lists_as};
+use crate::groups::Members;
 
 /// Whether every principal who may list `d` may list `c`. Tries twelve principals, which decide for all.
 pub fn covers(d: &Guard, c: &Guard) -> bool
@@ -11,6 +12,20 @@ pub fn covers(d: &Guard, c: &Guard) -> bool
     ensures tested { result ≡ covers (rights d.now) (rights c.now) }
 {
     keeps_for_all(d, c)
+}
+
+// The groups of a principal that is tried: at most two.
+#[derive(Clone, Copy)]
+struct Few<'a> {
+    items: &'a [u32],
+}
+
+impl Members for Few<'_> {
+    ghost members = { λ few. few.items.now };
+
+    fn has(&self, gid: u32) -> bool {
+        self.items.contains(&gid)
+    }
 }
 
 // Whether each principal that is tried may list c, if it may list d.
@@ -26,7 +41,8 @@ fn keeps_for_all(d: &Guard, c: &Guard) -> bool
 fn keeps(uid: u32, groups: &[u32], d: &Guard, c: &Guard) -> bool
     ensures { result ≡ keeps (principal uid groups.now) (rights d.now) (rights c.now) }
 {
-    !lists_as(uid, groups, d) || lists_as(uid, groups, c)
+    let groups = Few { items: groups };
+    !lists_as(uid, &groups, d) || lists_as(uid, &groups, c)
 }
 
 // The same of each principal with this uid and some of the groups of d and c.

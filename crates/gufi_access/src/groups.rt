@@ -1,27 +1,76 @@
 //! The groups of a principal.
-ghost use Rattle.std.specs.Prelude.{◌≡◌};
+ghost use Rattle.std.specs.Prelude.{◌≡◌, List, ℕ, IfOk};
 
+use crate::index::{index_of, stands_in};
+use std::alloc::{AllocError, Global};
 use std::marker::Model;
 
+/// So many groups are searched in order; more have an index.
+const FEW: usize = 16;
+
+/// A list of groups that can be asked for members.
+pub(crate) trait Members {
+    ghost members: { Self → List ℕ };
+
+    ghost use Rattle.gufi_access.specs.Access.{is_member};
+
+    fn has(&self, gid: u32) -> bool
+        ensures { result ≡ is_member (members self.now) gid };
+}
+
 /// The groups of a principal, seen as the list of their numbers.
+///
+/// The list stays as it was given. Many groups can keep an ascending copy beside it, by which a look-up takes O(log n) steps.
 #[derive(Drop)]
 pub struct Groups {
     items: Vec<u32>,
+    index: Option<Vec<u32>>,
 }
 
 impl Model for Groups {
-    ghost use Rattle.std.specs.Prelude.{List, ℕ};
+    ghost use Rattle.std.specs.Prelude.{List, ℕ, IfSome};
 
     ghost Value = { List ℕ };
 
+    ghost use Rattle.gufi_access.specs.Indexed.{IsIndexOf};
+
     ghost view = { λ g. g.items.items };
+
+    ghost invariant = { λ g. IfSome g.index (λ index. IsIndexOf g.items.items index.items) };
 }
 
 impl Groups {
+    ghost use Rattle.gufi_access.specs.Access.{is_member};
+
+    /// These groups, which are searched in order. Takes no memory.
     pub fn of(items: Vec<u32>) -> Groups
         ensures { result ≡ items.items }
     {
-        Groups { items }
+        Groups { items, index: None }
+    }
+
+    /// These groups, with an index where they are more than 16.
+    pub fn indexed(alloc: Global, items: Vec<u32>) -> Result<Groups, AllocError>
+        ensures { IfOk result (λ groups. groups ≡ items.items) }
+    {
+        if items.len() <= FEW {
+            return Ok(Groups::of(items));
+        }
+        let index = index_of(alloc, &items)?;
+        Ok(Groups {
+            items,
+            index: Some(index),
+        })
+    }
+
+    /// Whether a group is among these.
+    pub fn has(&self, gid: u32) -> bool
+        ensures { result ≡ is_member self.now gid }
+    {
+        match &self.index {
+            Some(index) => stands_in(index, gid),
+            None => self.items.contains(&gid),
+        }
     }
 
     pub fn as_slice(&self) -> &[u32]
@@ -34,5 +83,13 @@ impl Groups {
         ensures { result.items ≡ self }
     {
         self.items
+    }
+}
+
+impl Members for Groups {
+    ghost members = { λ groups. groups };
+
+    fn has(&self, gid: u32) -> bool {
+        Groups::has(self, gid)
     }
 }

@@ -7,6 +7,7 @@
 mod class;
 mod cover;
 mod groups;
+mod index;
 
 pub use class::{Class, Guard, Principal, class_of, granted, lists};
 pub use cover::covers;

@@ -39,3 +39,49 @@ fn one_class_decides(rt: HostRuntime) -> Result<(), Fail> {
     }
     Ok(())
 }
+
+#[test]
+fn many_groups_have_their_members_and_keep_their_order(rt: HostRuntime) -> Result<(), Fail> {
+    let alloc = rt.alloc();
+    let mut items = Vec::new(alloc);
+    for place in 0u32..40 {
+        items.push(4000 - 100 * place)?;
+    }
+    items.push(4000)?;
+    items.push(100)?;
+    let given = items.as_slice().to_vec(alloc)?;
+    let groups = Groups::indexed(alloc, items)?;
+    assert_eq!(rt; groups.as_slice(), given.as_slice());
+    let who = Principal { uid: 102, groups };
+    for (gid, answer) in [
+        (4000, true),
+        (2100, true),
+        (2000, true),
+        (100, true),
+        (0, false),
+        (99, false),
+        (2050, false),
+        (4001, false),
+    ] {
+        assert_eq!(rt; who.groups.has(gid), answer);
+        assert_eq!(rt; lists(&who, &guard(101, gid, 0o050)), answer);
+    }
+    assert_eq!(rt; who.groups.into_vec().as_slice(), given.as_slice());
+    Ok(())
+}
+
+#[test]
+fn few_groups_have_their_members(rt: HostRuntime) -> Result<(), Fail> {
+    let alloc = rt.alloc();
+    for count in [1u32, 16, 17] {
+        let mut items = Vec::new(alloc);
+        for gid in 0..count {
+            items.push(gid)?;
+        }
+        let groups = Groups::indexed(alloc, items)?;
+        for (gid, answer) in [(0, true), (count - 1, true), (count, false)] {
+            assert_eq!(rt; groups.has(gid), answer);
+        }
+    }
+    Ok(())
+}
