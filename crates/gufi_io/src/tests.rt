@@ -97,14 +97,15 @@ fn reads_files_of_the_system(rt: HostRuntime) -> Result<(), Fail> {
         assert_eq!(rt; bytes.len(), length);
         assert!(rt; TEXT.starts_with(&bytes));
     }
+    fs::remove_file(&rt, "t")?;
     Ok(())
 }
 
 #[test]
-fn writes_to_a_stream(rt: HostRuntime) -> Result<(), Fail> {
-    let mut sink = StdSink::output(rt.stdout());
-    assert!(rt; write_whole(&mut sink, b"written\n").is_ok());
+fn writes_to_both_streams(rt: HostRuntime) -> Result<(), Fail> {
+    let mut output = StdSink::output(rt.stdout());
+    assert!(rt; write_whole(&mut output, b"written\n").is_ok());
     let mut errors = StdSink::errors(rt.stderr());
-    assert!(rt; write_whole(&mut errors, b"").is_ok());
+    assert!(rt; write_whole(&mut errors, b"noted\n").is_ok());
     Ok(())
 }

@@ -93,7 +93,7 @@ fn piece_buffer(alloc: Global) -> Result<Vec<u8>, AllocError>
 #[derive(Clone, Copy, Debug)]
 pub struct WriteFault;
 
-/// Writes all of the bytes, as few pieces as the sink takes. After a fault a front of them was taken.
+/// Writes all of the bytes, in as few pieces as the sink takes. After a fault a front of them was taken.
 pub fn write_whole<K: Sink>(sink: &mut K, bytes: &[u8]) -> Result<(), WriteFault>
     ensures ok { OnOk result (Appends (K.taken sink.old) (K.taken sink.new) bytes.now) }
     ensures err { OnErr result (TakesFront (K.taken sink.old) (K.taken sink.new) bytes.now) }
