@@ -6,10 +6,12 @@
 #![tactic(auto)]
 
 mod counts;
+mod laws;
 mod skip;
 mod summary;
 
 pub use counts::put_counts;
+pub use laws::sums_join;
 pub use skip::{NoSkip, Skip};
 pub use summary::Summary;
 

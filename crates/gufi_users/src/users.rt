@@ -119,7 +119,7 @@ impl Users {
                 let groups = self.gids_of(alloc, word, account)?;
                 Ok(Some(Principal {
                     uid: account.uid,
-                    groups: gufi_access::Groups::of(groups),
+                    groups: gufi_access::Groups::indexed(alloc, groups)?,
                 }))
             }
             None => Ok(numbered(alloc, word)?),

@@ -29,7 +29,7 @@ pub(crate) fn numbered(alloc: Global, word: &[u8]) -> Result<Option<Principal>, 
     match read_groups(alloc, texts.groups)? {
         Some(groups) => Ok(Some(Principal {
             uid,
-            groups: Groups::of(groups),
+            groups: Groups::indexed(alloc, groups)?,
         })),
         None => Ok(None),
     }

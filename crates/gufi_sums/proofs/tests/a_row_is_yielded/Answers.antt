@@ -1,4 +1,4 @@
-use Rattle.std.proofs.Common.{refl, [], ◌∷◌}
+use Rattle.std.proofs.Common.{refl, []}
 use Rattle.gufi_base.specs.declared.record.Row.{Row}
 use Rattle.gufi_sums.proofs.tests.a_row_is_yielded.Goals as goal
 
