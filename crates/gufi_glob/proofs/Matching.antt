@@ -69,7 +69,7 @@ no_bytes any_text parts single = absurd (false≢true (sym single))
 no_bytes one_byte parts single = refl
 no_bytes (byte_in complement ranges) parts single = refl
 
-or_cases : (a b : Bool) → (a || b) ≡ true → (a ≡ true) ⊎ (b ≡ true)
+pub or_cases : (a b : Bool) → (a || b) ≡ true → (a ≡ true) ⊎ (b ≡ true)
 or_cases true b e = inl refl
 or_cases false b e = inr e
 

@@ -1,6 +1,9 @@
 pub mod Parts
 pub mod Patterns
+pub mod Cuts
+pub mod ByteSets
 pub mod Pieces
 pub mod Joined
 pub mod Plain
 pub mod Forms
+pub mod Unclosed

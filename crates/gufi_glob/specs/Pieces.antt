@@ -10,7 +10,7 @@ abbrev pub part_of : Piece → Part
 part_of pieces.AnyText = any_text
 part_of pieces.OneByte = one_byte
 part_of (pieces.Byte b) = only b
-part_of (pieces.ByteIn complement ranges) = byte_in complement ranges.items
+part_of (pieces.ByteIn members) = byte_in members.complement members.ranges.items
 
 abbrev pub parts_of : List Piece → List Part
 parts_of kept = map part_of kept

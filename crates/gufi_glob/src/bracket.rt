@@ -5,6 +5,7 @@ ghost use Rattle.std.specs.List.{list_any};
 ghost use Rattle.gufi_glob.specs.Pieces.{part_of};
 
 use crate::fault::GlobFault;
+use crate::members::Members;
 use crate::piece::Piece;
 use std::alloc::{AllocError, Global};
 
@@ -134,5 +135,5 @@ pub(crate) fn bracket(alloc: Global, complement: bool, body: &[u8]) -> Result<Pi
     if has_class(body) || any_falls(ranges.as_slice()) {
         return Err(GlobFault::BadPattern);
     }
-    Ok(Piece::ByteIn { complement, ranges })
+    Ok(Piece::ByteIn(Members::of(complement, ranges)))
 }

@@ -5,15 +5,19 @@
 #![tactic(auto)]
 
 mod bracket;
+mod byte_set;
 mod fault;
 mod glob;
 mod joined;
+mod laws;
 mod matcher;
+mod members;
 mod piece;
 mod reader;
 
 pub use fault::GlobFault;
 pub use glob::Glob;
+pub use laws::matches_are_cuts;
 
 #[cfg(test)]
 mod tests;

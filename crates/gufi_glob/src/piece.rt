@@ -1,8 +1,8 @@
 //! What a pattern is made of.
 ghost use Rattle.std.specs.Prelude.{◌≡◌, [], ◌∷◌, MatchOption};
-ghost use Rattle.gufi_glob.specs.Patterns.{is_within};
-ghost use Rattle.std.specs.List.{list_any};
 ghost use Rattle.gufi_glob.specs.Pieces.{part_of, takes, is_any_text};
+
+use crate::members::Members;
 
 /// A part of a pattern.
 #[derive(Drop)]
@@ -12,20 +12,8 @@ pub(crate) enum Piece {
     OneByte,
     /// This byte.
     Byte(u8),
-    /// One byte within some of the ranges, whose ends belong to them; or within none, where it is the complement.
-    ByteIn {
-        complement: bool,
-        ranges: Vec<(u8, u8)>,
-    },
-}
-
-/// Whether a byte is within some of the ranges.
-fn is_within_some(ranges: &[(u8, u8)], byte: u8) -> bool
-    ensures { result ≡ list_any (is_within byte) ranges.now }
-{
-    ranges
-        .iter()
-        .any(|range| range.0 <= byte && byte <= range.1)
+    /// One of the members of a bracket.
+    ByteIn(Members),
 }
 
 impl Piece {
@@ -38,10 +26,7 @@ impl Piece {
             Piece::AnyText => false,
             Piece::OneByte => true,
             Piece::Byte(own) => *own == byte,
-            Piece::ByteIn { complement, ranges } => {
-                let within = is_within_some(ranges.as_slice(), byte);
-                if *complement { !within } else { within }
-            }
+            Piece::ByteIn(members) => members.has(byte),
         }
     }
 

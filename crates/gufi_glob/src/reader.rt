@@ -1,27 +1,36 @@
 //! How a pattern is read.
-ghost use Rattle.std.specs.Prelude.{◌≡◌, ◌≢◌, ◌≤◌, length, [], ◌∷◌, MatchOption, MatchResult, IfOk, IfSome, Ok, Err};
+ghost use Rattle.std.specs.Prelude.{◌≡◌, ◌≢◌, ◌≤◌, length, drop, [], ◌∷◌, MatchOption, MatchResult, IfOk, IfSome, Ok, Err};
+ghost use Rattle.std.specs.Bool.{OnTrue};
 ghost use Rattle.std.specs.List.{list_all};
 ghost use Rattle.gufi_glob.specs.Patterns.{front_part, escaped_part, bracket_part, closing, sign_length, read_pattern};
 ghost use Rattle.gufi_glob.specs.Pieces.{part_of, parts_of};
 ghost use Rattle.gufi_glob.specs.Plain.{is_plain_byte};
+ghost use Rattle.gufi_glob.specs.Unclosed.{IsUnclosed};
 
 use crate::bracket::{bracket, closing, has_class, is_complemented};
 use crate::fault::GlobFault;
 use crate::piece::Piece;
 use std::alloc::Global;
 
-/// The part at the front of a pattern, and how many bytes behind the first one belong to it.
+/// The part at the front of a pattern, how many bytes behind the first one belong to it, and whether from there on no
+/// bracket closes.
 #[derive(Drop)]
 struct Front {
     piece: Piece,
     used: usize,
+    is_unclosed: bool,
 }
 
-fn front_of(piece: Piece, used: usize) -> Front
+fn front_of(piece: Piece, used: usize, is_unclosed: bool) -> Front
     ensures piece { result.piece ≡ piece }
     ensures used { result.used ≡ used }
+    ensures unclosed { result.is_unclosed ≡ is_unclosed }
 {
-    Front { piece, used }
+    Front {
+        piece,
+        used,
+        is_unclosed,
+    }
 }
 
 /// A bracket, of which these bytes stand behind the `[`; or the `[` alone, where nothing closes it.
@@ -30,6 +39,7 @@ fn bracket_front(alloc: Global, rest: &[u8]) -> Result<Front, GlobFault>
         (λ front. front_part 91 rest.now ≡ Ok (part_of front.piece, front.used))
         (λ e. e ≢ GlobFault.Memory → front_part 91 rest.now ≡ Err e) }
     ensures within { IfOk result (λ front. front.used ≤ length rest.now) }
+    ensures unclosed { IfOk result (λ front. OnTrue front.is_unclosed (IsUnclosed (drop front.used rest.now))) }
 {
     let complement = is_complemented(rest);
     let sign = usize::from(complement);
@@ -37,33 +47,41 @@ fn bracket_front(alloc: Global, rest: &[u8]) -> Result<Front, GlobFault>
     match closing(inside) {
         Some(at) => {
             let piece = bracket(alloc, complement, &inside[..at])?;
-            Ok(front_of(piece, sign + at + 1))
+            Ok(front_of(piece, sign + at + 1, false))
         }
         None => {
             if has_class(rest) {
                 return Err(GlobFault::BadPattern);
             }
-            Ok(front_of(Piece::Byte(b'['), 0))
+            Ok(front_of(Piece::Byte(b'['), 0, true))
         }
     }
 }
 
-/// The part that a byte begins, before these.
-fn front_piece(alloc: Global, first: u8, rest: &[u8]) -> Result<Front, GlobFault>
+/// The part that a byte begins, before these. Once nothing closes one `[`, nothing closes those behind it.
+#[tactic(auto, using(crate::proofs::Unclosed::unclosed_bracket, crate::proofs::Unclosed::unclosed_behind, crate::proofs::Unclosed::unclosed_escaped))]
+fn front_piece(alloc: Global, is_unclosed: bool, first: u8, rest: &[u8]) -> Result<Front, GlobFault>
+    requires { OnTrue is_unclosed (IsUnclosed (first ∷ rest.now)) }
     ensures value { MatchResult result
         (λ front. front_part first rest.now ≡ Ok (part_of front.piece, front.used))
         (λ e. e ≢ GlobFault.Memory → front_part first rest.now ≡ Err e) }
     ensures within { IfOk result (λ front. front.used ≤ length rest.now) }
+    ensures unclosed { IfOk result (λ front. OnTrue front.is_unclosed (IsUnclosed (drop front.used rest.now))) }
 {
     match first {
-        b'*' => Ok(front_of(Piece::AnyText, 0)),
-        b'?' => Ok(front_of(Piece::OneByte, 0)),
+        b'*' => Ok(front_of(Piece::AnyText, 0, is_unclosed)),
+        b'?' => Ok(front_of(Piece::OneByte, 0, is_unclosed)),
         b'\\' => match rest {
-            [next, ..] => Ok(front_of(Piece::Byte(*next), 1)),
+            [next, ..] => Ok(front_of(Piece::Byte(*next), 1, is_unclosed)),
             [] => Err(GlobFault::BadPattern),
         },
-        b'[' => bracket_front(alloc, rest),
-        _ => Ok(front_of(Piece::Byte(first), 0)),
+        b'[' => {
+            if is_unclosed {
+                return Ok(front_of(Piece::Byte(b'['), 0, true));
+            }
+            bracket_front(alloc, rest)
+        }
+        _ => Ok(front_of(Piece::Byte(first), 0, is_unclosed)),
     }
 }
 
@@ -79,7 +97,7 @@ fn split_byte(bytes: &[u8]) -> Option<(u8, &[u8])>
     }
 }
 
-/// The parts of a pattern.
+/// The parts of a pattern. Time in proportion to its bytes.
 pub(crate) fn read_pieces(alloc: Global, bytes: &[u8]) -> Result<Vec<Piece>, GlobFault>
     ensures { MatchResult result
         (λ pieces. read_pattern bytes.now ≡ Ok (parts_of pieces.items))
@@ -87,9 +105,11 @@ pub(crate) fn read_pieces(alloc: Global, bytes: &[u8]) -> Result<Vec<Piece>, Glo
 {
     let mut pieces = Vec::new(alloc);
     let mut rest = bytes;
+    let mut is_unclosed = false;
     'bytes: while let Some((first, behind)) = split_byte(rest) {
-        let front = front_piece(alloc, first, behind)?;
+        let front = front_piece(alloc, is_unclosed, first, behind)?;
         pieces.push(front.piece)?;
+        is_unclosed = front.is_unclosed;
         let (_, left) = behind.split_at(front.used);
         rest = left;
     }

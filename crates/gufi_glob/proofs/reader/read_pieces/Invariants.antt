@@ -1,10 +1,15 @@
 use Rattle.std.proofs.Common.{length}
+use Rattle.std.specs.Bool.{OnTrue}
 use Rattle.gufi_glob.specs.Pieces.{parts_of}
+use Rattle.gufi_glob.specs.Unclosed.{IsUnclosed}
 use Rattle.gufi_glob.proofs.Reading.{Reads}
 use Rattle.gufi_glob.proofs.reader.read_pieces.Given as goal
 
 abbrev pub invariant-bytes : goal.invariant-bytes
-invariant-bytes l = Reads l.bytes (parts_of l.pieces.items) l.rest
+invariant-bytes l = record {
+  reads : Reads l.bytes (parts_of l.pieces.items) l.rest;
+  unclosed : OnTrue l.is_unclosed (IsUnclosed l.rest);
+}
 
 abbrev pub decreases-bytes : goal.decreases-bytes
 decreases-bytes l = length l.rest
