@@ -1,0 +1,2 @@
+pub mod ReadLemmas
+mod Worked

@@ -1,0 +1,4 @@
+pub mod Acts
+pub mod Faults
+pub mod ScriptText
+pub mod ScriptWords
