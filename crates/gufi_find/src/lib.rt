@@ -17,6 +17,7 @@ mod reading;
 mod state;
 mod step;
 mod test;
+mod word;
 
 pub use expression::FindExpr;
 pub use fault::{FindError, FindKind};
