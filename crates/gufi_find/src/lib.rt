@@ -8,6 +8,7 @@ mod comparison;
 mod condition;
 mod expression;
 mod fault;
+mod laws;
 mod level;
 mod numbers;
 mod operand;
@@ -21,6 +22,7 @@ mod word;
 
 pub use expression::FindExpr;
 pub use fault::{FindError, FindKind};
+pub use laws::expressions_read_back;
 pub use reading::read_find;
 
 #[cfg(test)]
