@@ -6,3 +6,4 @@ pub mod WordFaults
 pub mod Operands
 pub mod Reading
 pub mod States
+pub mod Spelled

@@ -8,6 +8,7 @@ mod comparison;
 mod condition;
 mod expression;
 mod fault;
+mod laws;
 mod level;
 mod numbers;
 mod operand;
@@ -17,9 +18,11 @@ mod reading;
 mod state;
 mod step;
 mod test;
+mod word;
 
 pub use expression::FindExpr;
 pub use fault::{FindError, FindKind};
+pub use laws::expressions_read_back;
 pub use reading::read_find;
 
 #[cfg(test)]

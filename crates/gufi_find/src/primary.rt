@@ -7,6 +7,7 @@ ghost use Rattle.gufi_find.specs.Operands.{primary_named, primary_of};
 use crate::numbers::NumberSet;
 use crate::operand::Operand;
 use crate::test::Test;
+use crate::word::is_word;
 use gufi_users::Users;
 use std::alloc::{AllocError, Global};
 
@@ -40,25 +41,25 @@ pub enum Primary {
 
 impl PrimaryName {
     #[tactic(auto, unfolding(crate::specs::Operands::primary_named))]
-    pub(crate) fn of(word: &str) -> Option<PrimaryName>
+    pub(crate) fn of(word: &[u8]) -> Option<PrimaryName>
         ensures { result ≡ primary_named word.now }
     {
         match word {
-            "-name" => Some(PrimaryName::Name),
-            "-path" => Some(PrimaryName::Path),
-            "-type" => Some(PrimaryName::Kind),
-            "-size" => Some(PrimaryName::Size),
-            "-atime" => Some(PrimaryName::Atime),
-            "-mtime" => Some(PrimaryName::Mtime),
-            "-ctime" => Some(PrimaryName::Ctime),
-            "-links" => Some(PrimaryName::Links),
-            "-perm" => Some(PrimaryName::Perm),
-            "-user" => Some(PrimaryName::User),
-            "-group" => Some(PrimaryName::Group),
-            "-nouser" => Some(PrimaryName::NoUser),
-            "-nogroup" => Some(PrimaryName::NoGroup),
-            "-mindepth" => Some(PrimaryName::MinDepth),
-            "-maxdepth" => Some(PrimaryName::MaxDepth),
+            _ if is_word(word, b"-name") => Some(PrimaryName::Name),
+            _ if is_word(word, b"-path") => Some(PrimaryName::Path),
+            _ if is_word(word, b"-type") => Some(PrimaryName::Kind),
+            _ if is_word(word, b"-size") => Some(PrimaryName::Size),
+            _ if is_word(word, b"-atime") => Some(PrimaryName::Atime),
+            _ if is_word(word, b"-mtime") => Some(PrimaryName::Mtime),
+            _ if is_word(word, b"-ctime") => Some(PrimaryName::Ctime),
+            _ if is_word(word, b"-links") => Some(PrimaryName::Links),
+            _ if is_word(word, b"-perm") => Some(PrimaryName::Perm),
+            _ if is_word(word, b"-user") => Some(PrimaryName::User),
+            _ if is_word(word, b"-group") => Some(PrimaryName::Group),
+            _ if is_word(word, b"-nouser") => Some(PrimaryName::NoUser),
+            _ if is_word(word, b"-nogroup") => Some(PrimaryName::NoGroup),
+            _ if is_word(word, b"-mindepth") => Some(PrimaryName::MinDepth),
+            _ if is_word(word, b"-maxdepth") => Some(PrimaryName::MaxDepth),
             _ => None,
         }
     }

@@ -10,7 +10,7 @@ use crate::fault::{FindError, WordFault};
 use crate::level::Level;
 use crate::place::Place;
 use crate::state::State;
-use gufi_base::Text;
+use gufi_base::Bytes;
 use gufi_users::Users;
 use std::alloc::Global;
 
@@ -38,7 +38,7 @@ fn fault_at(place: usize, fault: WordFault) -> FindError
 }
 
 /// What is wanted of the first word.
-fn first_state(alloc: Global, words: &[Text]) -> State
+fn first_state(alloc: Global, words: &[Bytes]) -> State
     ensures { state_kept result ≡ first_state words.now }
 {
     let place = match words {
@@ -60,7 +60,7 @@ fn first_state(alloc: Global, words: &[Text]) -> State
 /// An allocation for each test, and time in proportion to the words and the depth of their parentheses.
 pub fn read_find(
     alloc: Global,
-    words: &[Text],
+    words: &[Bytes],
     users: &Users,
     now: Option<i64>,
 ) -> Result<FindExpr, FindError>
@@ -69,7 +69,7 @@ pub fn read_find(
     let mut state = first_state(alloc, words);
     let mut place = 0;
     'words: for word in words {
-        state = match state.with_word(alloc, users, now, word.as_str()) {
+        state = match state.with_word(alloc, users, now, word.as_slice()) {
             Ok(next) => next,
             Err(fault) => return Err(fault_at(place, fault)),
         };

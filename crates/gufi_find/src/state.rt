@@ -13,6 +13,7 @@ use crate::operand::{Item, read_operand};
 use crate::place::Place;
 use crate::primary::{Primary, PrimaryName, primary_of};
 use crate::test::Test;
+use crate::word::is_word;
 use gufi_users::Users;
 use std::alloc::{AllocError, Global};
 
@@ -133,14 +134,14 @@ impl State {
         alloc: Global,
         users: &Users,
         now: Option<i64>,
-        word: &str,
+        word: &[u8],
     ) -> Result<State, WordFault>
         ensures { Gives state_kept result (wants_primary users.now now (state_kept self) word.now) }
     {
         match word {
-            ")" => Err(WordFault::Kind(FindKind::Parenthesis)),
-            "(" => self.opened(),
-            "!" => self.inverted(),
+            _ if is_word(word, b")") => Err(WordFault::Kind(FindKind::Parenthesis)),
+            _ if is_word(word, b"(") => self.opened(),
+            _ if is_word(word, b"!") => self.inverted(),
             _ => match PrimaryName::of(word) {
                 Some(name) => self.begun(alloc, primary_of(alloc, users, now, name)?),
                 None => Err(WordFault::Kind(FindKind::UnknownPrimary)),
@@ -193,14 +194,14 @@ impl State {
         alloc: Global,
         users: &Users,
         now: Option<i64>,
-        word: &str,
+        word: &[u8],
     ) -> Result<State, WordFault>
         ensures { Gives state_kept result (wants_operator users.now now (state_kept self) word.now) }
     {
         match word {
-            ")" => self.closed(),
-            "-o" => Ok(self.with_or()?),
-            "-a" => Ok(self.wanting(Place::Primary)),
+            _ if is_word(word, b")") => self.closed(),
+            _ if is_word(word, b"-o") => Ok(self.with_or()?),
+            _ if is_word(word, b"-a") => Ok(self.wanting(Place::Primary)),
             _ => self.with_primary(alloc, users, now, word),
         }
     }
@@ -211,7 +212,7 @@ impl State {
         alloc: Global,
         users: &Users,
         now: Option<i64>,
-        word: &str,
+        word: &[u8],
     ) -> Result<State, WordFault>
         ensures { Gives state_kept result (read_word users.now now (state_kept self) self.place word.now) }
     {
@@ -219,7 +220,7 @@ impl State {
             Place::Primary => self.with_primary(alloc, users, now, word),
             Place::Operator => self.with_operator(alloc, users, now, word),
             Place::Argument(operand) => {
-                let item = read_operand(alloc, users, operand, word.as_bytes())?;
+                let item = read_operand(alloc, users, operand, word)?;
                 Ok(self.with_item(alloc, item)?)
             }
         }

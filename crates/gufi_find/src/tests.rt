@@ -1,15 +1,15 @@
 ghost use Rattle.gufi_base.specs.Rows.{StandsForSome};
 
 use crate::{FindError, FindExpr, FindKind, read_find};
-use gufi_base::{Kind, Meta, Pred, RowRef, Text};
+use gufi_base::{Bytes, Kind, Meta, Pred, RowRef};
 use gufi_users::{Users, read_group, read_passwd};
 use std::alloc::{AllocError, Global};
 use std::test::Fail;
 
-fn words_of(alloc: Global, line: &str) -> Result<Vec<Text>, AllocError> {
+fn words_of(alloc: Global, line: &str) -> Result<Vec<Bytes>, AllocError> {
     let mut words = Vec::new(alloc);
     for word in line.split_whitespace() {
-        words.push(Text::of(String::from_str(alloc, word)?))?;
+        words.push(Bytes::from_slice(alloc, word.as_bytes())?)?;
     }
     Ok(words)
 }
@@ -155,8 +155,8 @@ fn at_most_64_constructs_are_open(rt: HostRuntime) -> Result<(), Fail> {
     let users = users(alloc)?;
     let mut words = Vec::new(alloc);
     for _ in 0..32 {
-        words.push(Text::of(String::from_str(alloc, "!")?))?;
-        words.push(Text::of(String::from_str(alloc, "(")?))?;
+        words.push(Bytes::from_slice(alloc, b"!")?)?;
+        words.push(Bytes::from_slice(alloc, b"(")?)?;
     }
     let open = read_find(alloc, words.as_slice(), &users, None).err();
     assert_eq!(rt;
@@ -166,7 +166,7 @@ fn at_most_64_constructs_are_open(rt: HostRuntime) -> Result<(), Fail> {
             kind: FindKind::MissingArgument
         })
     );
-    words.push(Text::of(String::from_str(alloc, "!")?))?;
+    words.push(Bytes::from_slice(alloc, b"!")?)?;
     let deep = read_find(alloc, words.as_slice(), &users, None).err();
     assert_eq!(rt;
         deep,

@@ -1,3 +1,4 @@
 pub mod Formulas
 pub mod FormulaCodes
 pub mod Steps
+pub mod Written

@@ -1,5 +1,5 @@
 //! What the commands with a USER and a START ask.
-ghost use Rattle.std.specs.Prelude.{◌≡◌, ◌≢◌, ℕ, ◌+◌, List, Result, Err, IfErr};
+ghost use Rattle.std.specs.Prelude.{◌≡◌, ◌≢◌, ℕ, ◌+◌, List, Result, Err, IfErr, IfOk};
 ghost use Rattle.gufi_base.specs.Words.{capped_number};
 ghost use Rattle.gufi_find.specs.Expressions.{Find as SeenFind};
 ghost use Rattle.gufi_find.specs.Faults.{find_kind_text};
@@ -17,13 +17,13 @@ use crate::halt::{Halt, Text as Written, refused};
 use crate::note;
 use crate::start::written;
 use gufi_access::Principal;
-use gufi_base::{Path, Text};
+use gufi_base::{Bytes, Path, Text};
 use gufi_find::{FindError, FindExpr, FindKind, read_find};
 use gufi_select::{Select, SelectError, SelectKind, read_select};
 use gufi_snap::Snapshot;
 use gufi_stats::Report;
 use gufi_users::Users;
-use std::alloc::Global;
+use std::alloc::{AllocError, Global};
 
 /// What a command asks of an index for a principal from a start on.
 pub(crate) trait Question {
@@ -89,13 +89,25 @@ fn refuse_word<T>(alloc: Global, word: u32, kind: FindKind) -> Result<T, Halt>
     refused(2, note::find_word(alloc, word, kind)?)
 }
 
+// The bytes of each word.
+fn bytes_of(alloc: Global, words: &[Text]) -> Result<Vec<Bytes>, AllocError>
+    ensures { IfOk result (λ copies. copies.items ≡ words.now) }
+{
+    let mut copies = Vec::with_capacity(alloc, words.len())?;
+    'words: for word in words {
+        copies.push(Bytes::from_slice(alloc, word.as_str().as_bytes())?)?;
+    }
+    Ok(copies)
+}
+
 impl Find<'_> {
     // The expression that the words are.
     fn expression(&self, alloc: Global, users: &Users) -> Result<FindExpr, Halt>
         ensures expression { Gives (λ (f : SeenFind). f) result (expression_in self.now.user_at self.now.moment self.now.words.now users.now) }
         ensures of_bytes { IfErr result IsOfBytes }
     {
-        match read_find(alloc, self.words, users, self.moment) {
+        let words = bytes_of(alloc, self.words)?;
+        match read_find(alloc, words.as_slice(), users, self.moment) {
             Ok(expression) => Ok(expression),
             Err(FindError::Fault { word, kind }) => {
                 refuse_word(alloc, expression_word(self.user_at, word), kind)

@@ -12,13 +12,13 @@ words-init c = record { led = led_first _ _ _ _ c.first_state-state.ensures; pla
 pub returns-in-Err : goal.returns-in-Err
 returns-in-Err c =
     let inside : c.words.place < length c.args.words.now = omega arith in
-    let is = item_at c.args.words.now c.word-item.result c.as_str.result.now c.words.place c.words.word-index c.words.invariant.place c.as_str.ensures c.word-item.is in
+    let is = item_at c.args.words.now c.word-item.result c.as_slice.result.now c.words.place c.words.word-index c.words.invariant.place c.as_slice.ensures c.word-item.is in
     rw c.fault_at.ensures (word_fault c.in-Err.fault c.words.invariant.led inside is c.in-Err.ensures)
 
 pub words-preserved : goal.words-preserved
 words-preserved c =
     let inside : c.words.place < length c.args.words.now = omega arith in
-    let is = item_at c.args.words.now c.word-item.result c.as_str.result.now c.words.place c.words.word-index c.words.invariant.place c.as_str.ensures c.word-item.is in
+    let is = item_at c.args.words.now c.word-item.result c.as_slice.result.now c.words.place c.words.word-index c.words.invariant.place c.as_slice.ensures c.word-item.is in
     record { led = led_on c.words.invariant.led inside is c.in-Ok.ensures; place = omega arith }
 
 pub returns-in-Ok-ended : goal.returns-in-Ok-ended
