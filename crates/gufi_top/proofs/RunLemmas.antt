@@ -18,7 +18,7 @@ use Rattle.gufi_image.specs.Image.{image_text}
 use Rattle.gufi_top.specs.Verdict.{Verdict, writes, writes_only, asked, walk_over, trace2index_over, rolled_up, rollup_over, command_over, command_in, verdict, may_refuse, may_refuse_words}
 use Rattle.gufi_top.specs.Calls.{Gives, GivesOver, OfWordsOnlyIf}
 use Rattle.gufi_top.specs.Views.{text_view}
-use Rattle.gufi_top.specs.Ends.{BreaksOff, MayEnd, MayBreakOff, MayBeCut, TakesNote, Ended, BrokenOff, TextEnds, WriteFaulted}
+use Rattle.gufi_top.specs.Ends.{BreaksOff, MayEnd, MayBreakOff, MayBeCut, MayBeNoted, TakesNote, Ended, BrokenOff, TextEnds, WriteFaulted}
 use Rattle.gufi_top.specs.declared.halt.Text.{Text}
 use Rattle.gufi_top.specs.declared.halt.Halt.{Halt}
 use Rattle.gufi_top.specs.declared.halt.Halt.TheVariants as halts
@@ -113,17 +113,27 @@ pub MayBreakOff-nothing : (told : Option Files) (words : List (List ℕ)) → Ma
 MayBreakOff-nothing None words = tt
 MayBreakOff-nothing (Some files) words = breaks_off (verdict words files)
 
+MayBeNoted-refused : (told : Option Files) (words : List (List ℕ)) (status : ℕ) (notes notes' : Option (List ℕ)) (faults faults' : ℕ) (note : Vec ℕ Global)
+    → GivesOver told text_view (Err (halts.Refused status note)) (verdict words) → TakesNote notes notes' faults faults' note.items → MayBeNoted told words notes notes' faults faults' note.items
+MayBeNoted-refused None words status notes notes' faults faults' note given noted = noted
+MayBeNoted-refused (Some files) words status notes notes' faults faults' note given noted = rw given noted
+
+MayBeNoted-written : (told : Option Files) (words : List (List ℕ)) (notes notes' : Option (List ℕ)) (faults faults' : ℕ) (text : Text)
+    → GivesOver told text_view (Ok text) (verdict words) → Appends notes notes' text.notes.items → MayBeNoted told words notes notes' faults faults' text.notes.items
+MayBeNoted-written None words notes notes' faults faults' text given noted = inl noted
+MayBeNoted-written (Some files) words notes notes' faults faults' text given noted = rw given noted
+
 pub Ended-refused : (told : Option Files) (words : List (List ℕ)) (status : ℕ) (numbers : List ℕ) (out notes notes' : Option (List ℕ)) (faults faults' : ℕ) (note : Vec ℕ Global)
     → GivesOver told text_view (Err (halts.Refused status note)) (verdict words) → numbers ≡ [] → TakesNote notes notes' faults faults' note.items
     → Ended told words status numbers out out notes notes' faults faults'
 Ended-refused told words status numbers out notes notes' faults faults' note given none noted =
-    rw none (record { text = []; note = note.items; answer = MayEnd-refused told words status note given; taken = Appends-nil out; noted = noted })
+    rw none (record { text = []; note = note.items; answer = MayEnd-refused told words status note given; taken = Appends-nil out; noted = MayBeNoted-refused told words status notes notes' faults faults' note given noted })
 
 pub Ended-written : (told : Option Files) (words : List (List ℕ)) (status : ℕ) (numbers : List ℕ) (out out' notes notes' : Option (List ℕ)) (faults faults' : ℕ) (text : Text)
     → GivesOver told text_view (Ok text) (verdict words) → numbers ≡ [] → status ≡ 0 → Appends out out' text.out.items → Appends notes notes' text.notes.items
     → Ended told words status numbers out out' notes notes' faults faults'
 Ended-written told words status numbers out out' notes notes' faults faults' text given none good taken noted =
-    rw (none, good) (record { text = text.out.items; note = text.notes.items; answer = MayEnd-written told words text given; taken = taken; noted = inl noted })
+    rw (none, good) (record { text = text.out.items; note = text.notes.items; answer = MayEnd-written told words text given; taken = taken; noted = MayBeNoted-written told words notes notes' faults faults' text given noted })
 
 pub BrokenOff-nothing : (told : Option Files) (words : List (List ℕ)) (numbers : List ℕ) (out notes notes' : Option (List ℕ)) (faults faults' : ℕ) (note : List ℕ)
     → numbers ≡ [] → TakesNote notes notes' faults faults' note → BrokenOff told words numbers out out notes notes' faults faults' note

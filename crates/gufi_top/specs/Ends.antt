@@ -57,13 +57,22 @@ MayBeCut (Some files) words numbers text note = IsCut (verdict words files) numb
 abbrev pub TakesNote : Option (List ℕ) → Option (List ℕ) → ℕ → ℕ → List ℕ → Type 0
 TakesNote old new faults faults' note = Appends old new note ⊎ (Rose faults faults' × TakesFront old new note)
 
+-- by the verdict: status 0's note was taken whole, and a refusal's as a note is
+abbrev pub IsNoted : Result Verdict Reason → Option (List ℕ) → Option (List ℕ) → ℕ → ℕ → List ℕ → Type 0
+IsNoted (Err why) old new faults faults' note = TakesNote old new faults faults' note
+IsNoted (Ok (writes whole)) old new faults faults' note = Appends old new note
+
+abbrev pub MayBeNoted : Option Files → List (List ℕ) → Option (List ℕ) → Option (List ℕ) → ℕ → ℕ → List ℕ → Type 0
+MayBeNoted None words old new faults faults' note = TakesNote old new faults faults' note
+MayBeNoted (Some files) words old new faults faults' note = IsNoted (verdict words files) old new faults faults' note
+
 -- the whole text was taken, and its note
 pub record Ended (told : Option Files) (words : List (List ℕ)) (status : ℕ) (numbers : List ℕ) (out out' notes notes' : Option (List ℕ)) (faults faults' : ℕ) : Type 0 where
   pub text : List ℕ
   pub note : List ℕ
   pub answer : MayEnd told words status numbers text note
   pub taken : Appends out out' text
-  pub noted : TakesNote notes notes' faults faults' note
+  pub noted : MayBeNoted told words notes notes' faults faults' note
 
 -- the run broke off, and this note was taken
 pub record BrokenOff (told : Option Files) (words : List (List ℕ)) (numbers : List ℕ) (out out' notes notes' : Option (List ℕ)) (faults faults' : ℕ) (note : List ℕ) : Type 0 where

@@ -45,21 +45,23 @@ fn traces_become_images(rt: HostRuntime) -> Result<(), Fail> {
     )
 }
 
-// A roll-up of three directories, each in another, whose image has 284 bytes.
+// A roll-up of three directories, each in another, whose image has 284 bytes. Notes are written by five bytes.
 fn check_report<R: AllocGlobal + Abort + Threads + Wait>(
     rt: &R,
     limit: &str,
+    bad_notes: &[u64],
+    status: u8,
     note: &[u8],
 ) -> Result<(), Fail> {
     let alloc = rt.alloc();
     let words = words_of(alloc, &["rollup", "--delim=|", limit, "t"])?;
     let mut shelf = shelf_of(rt, "t", D.to_vec(alloc)?, b"", &[])?;
     let mut out = sink_of(alloc, &[])?;
-    let mut notes = sink_of(alloc, &[])?;
+    let mut notes = sink_of(alloc, bad_notes)?;
     let outcome = gufi_run(rt, alloc, &words, &mut shelf, &mut out, &mut notes, &NoGate);
     assert_eq!(rt; notes.taken(), note);
     assert_eq!(rt; out.taken().len(), 284);
-    assert_eq!(rt; outcome.status, 0);
+    assert_eq!(rt; outcome.status, status);
     Ok(())
 }
 
@@ -70,9 +72,14 @@ fn roll_ups_are_reported(rt: HostRuntime) -> Result<(), Fail> {
         ("--limit=2", b"rolled 2 of 3 tops 1 rows 2\n"),
         ("--limit=0", b"rolled 0 of 3 tops 0 rows 0\n"),
     ] {
-        check_report(&rt, limit, note)?;
+        check_report(&rt, limit, &[], 0, note)?;
     }
     Ok(())
+}
+
+#[test]
+fn a_cut_report_is_a_write_fault(rt: HostRuntime) -> Result<(), Fail> {
+    check_report(&rt, "--limit=100", &[3], 4, b"rolled 3 o")
 }
 
 // An image with one byte made another.
