@@ -2,7 +2,7 @@
 # gufi-renew.sh ROOT: makes the site's index of the tree at ROOT anew. To be run as root, which may read all of it.
 # Each file is made aside and put in place whole, so no caller meets a part of one.
 set -eu
-umask 077
+umask 027
 PATH=/usr/bin:/bin
 export PATH
 site=/srv/gufi
@@ -16,6 +16,6 @@ for table in passwd group; do
     rm "$site/$table.all"
 done
 for file in passwd group index; do
-    chown gufi "$site/$file.new"
+    chgrp gufi "$site/$file.new"
     mv "$site/$file.new" "$site/$file"
 done
