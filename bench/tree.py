@@ -9,7 +9,7 @@ import os
 import random
 import sys
 
-MODES = (0o755, 0o755, 0o755, 0o750, 0o700, 0o711, 0o744, 0o770, 0o2775, 0o1777, 0o000, 0o050)
+MODES = (0o755,) * 16 + (0o750, 0o700, 0o711, 0o744, 0o770, 0o2775, 0o1777, 0o000, 0o050)
 NAMES = (b"run", b"run.1", b"run-1", b"run 2", b".hidden", b"-dash", b"\xff\xfe", b"caf\xc3\xa9", b"tab\there", b"quote'\"$", b"*[a]?", b"back\\slash")
 ODD = (b"new\nline", b"record\x1eseparator", b"\x01low", b"pipe|bar")
 
@@ -31,7 +31,7 @@ def main(dirs, entries, folder):
     os.chmod(folder, 0o755)
     paths = [folder]
     for number in range(1, dirs):
-        paths.append(os.path.join(paths[rng.randrange(max(0, len(paths) - 400), len(paths))], name(rng, number)))
+        paths.append(os.path.join(rng.choice(paths), name(rng, number)))
         os.mkdir(paths[-1])
     for number in range(entries):
         path = os.path.join(rng.choice(paths), name(rng, number) + b".f")
@@ -47,8 +47,8 @@ def main(dirs, entries, folder):
             os.truncate(path, rng.randrange(100000))
             own(rng, path, rng.choice((0o644, 0o600, 0o4755)))
             os.utime(path, (1700000000 - number, -number if kind < 0.12 else 1700000000 - number))
-    for path in reversed(paths[1:]):
-        own(rng, path, rng.choice(MODES))
+    for number in range(dirs - 1, 0, -1):
+        own(rng, paths[number], 0o755 if number < dirs // 100 else rng.choice(MODES))
 
 
 if __name__ == "__main__":
