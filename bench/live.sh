@@ -7,6 +7,7 @@ here=$(CDPATH= cd -P -- "$(dirname -- "$0")" && pwd) || exit 1
 folder=$1 uid=$2 gids=$3
 work=$(mktemp -d) || exit 1
 trap 'rm -r -- "$work"' EXIT
+trap 'exit 130' INT TERM
 "$here/../examples/trace.sh" "$folder" >"$work/trace" || exit 1
 "${GUFI:-$here/../gufi}" walk "$work/trace" "$uid" "$gids" >"$work/walked" || exit 1
 # A path or link with a newline or the byte 0x1E isn't in the trace.

@@ -10,6 +10,7 @@ trace=$1
 shift
 work=$(mktemp -d) || exit 1
 trap 'rm -r -- "$work"' EXIT
+trap 'exit 130' INT TERM
 
 # Compares one question, whose words are given, over the shards of $count.
 compare() {
