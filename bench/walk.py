@@ -1,12 +1,13 @@
 #!/usr/bin/env python3
 """Processor time, peak memory and instructions of commands over a trace and its image, beside another program where one is named.
 
-  python3 walk.py TRACE [--image IMAGE] [--program PROGRAM] [--beside PROGRAM] [--pages small] [--uid 2007] [--gids 5001,5002]
-                  [--runs 5] [--instructions] [--only TEXT] [--peer 'NAME=COMMAND ..']..
+  python3 walk.py TRACE [--image IMAGE] [--program PROGRAM] [--beside PROGRAM] [--words WORDS] [--pages small] [--uid 2007]
+                  [--gids 5001,5002] [--runs 5] [--instructions] [--only TEXT] [--peer 'NAME=COMMAND ..']..
 
 Runs are interleaved, output goes to /dev/null, files are warm, times are medians. The image is what `trace2index` writes of the
 trace; with it the same questions are asked of both. `--beside` names a program with the same command words, which answers the same
 questions in turn; where it lacks a command it is given the nearest one, as `match` says, and ratios are those of the median times.
+`--words` are further words behind its command's own where it reads the image, as '--whole --built'.
 All programs get their memory in pages of the same size: `--pages large` asks glibc's malloc for large ones, for each program that
 takes memory through it. A peer is any command line that reads the same files. Instructions are counted by valgrind's callgrind.
 Nothing here is a test.
@@ -90,14 +91,15 @@ def asked_of(given):
     return commands
 
 
-def match(command, program):
+def match(command, given):
     """The same question for a program that has `find`, `trace2index` and SELECT without REGEXP: a sum as a find of few rows."""
-    verb, index, user = command[1:4] if len(command) > 3 else command[1:] + [None]
+    verb, index, rest = command[1], command[2], command[3:]
     if verb == "walk":
-        return [program, "find", index, "%s:%s" % (user, command[4].strip("-")), "/"]
+        verb, rest = "find", ["%s:%s" % (rest[0], rest[1].strip("-")), "/"]
     if verb == "stat":
-        return [program, "find", index, user, "/"] + LARGE
-    return [program] + [LARGER if word == NAMED else word for word in command[1:]]
+        verb, rest = "find", rest + LARGE
+    words = given.words.split() if index == given.image else []
+    return [given.beside, verb] + words + [index] + [LARGER if word == NAMED else word for word in rest]
 
 
 def main():
@@ -106,6 +108,7 @@ def main():
     parser.add_argument("trace")
     parser.add_argument("--program", default=os.path.join(here, "..", "crates", "gufi", "out", "gufi"))
     parser.add_argument("--beside")
+    parser.add_argument("--words", default="")
     parser.add_argument("--pages", choices=PAGES, default="small")
     parser.add_argument("--uid", default="2007")
     parser.add_argument("--gids", default="5001,5002")
@@ -123,7 +126,7 @@ def main():
         commands = {name: command for name, command in commands.items() if given.only in name}
     if given.beside:
         commands = {
-            beside + name: match(command, given.beside) if beside else command
+            beside + name: match(command, given) if beside else command
             for name, command in commands.items()
             for beside in ("", "beside ")
         }
