@@ -1,16 +1,19 @@
 #!/usr/bin/env python3
-"""Processor time, peak memory and instructions of commands over a trace and its image, beside other programs' where they are named.
+"""Processor time, peak memory and instructions of commands over a trace and its image, beside another program where one is named.
 
-  python3 walk.py TRACE [--image IMAGE] [--program ../gufi] [--uid 2007] [--gids 5001,5002] [--runs 5] [--instructions]
-                  [--only TEXT] [--peer 'NAME=COMMAND ..']..
+  python3 walk.py TRACE [--image IMAGE] [--program PROGRAM] [--beside PROGRAM] [--words WORDS] [--pages small] [--uid 2007]
+                  [--gids 5001,5002] [--runs 5] [--instructions] [--only TEXT] [--peer 'NAME=COMMAND ..']..
 
-Runs are interleaved, output goes to /dev/null, files are warm, times are medians of user and system time. A peer is a
-command line that reads the same files. The image is what `trace2index` writes of the trace; with it the same questions are
-asked of both. Instructions are counted by valgrind's callgrind. Nothing here is a test.
+Runs are interleaved, output goes to /dev/null, files are warm, times are medians. The image is what `trace2index` writes of the
+trace; with it the same questions are asked of both. `--beside` names a program with the same command words, which answers the same
+questions in turn; where it lacks a command it is given the nearest one, as `match` says, and ratios are those of the median times.
+`--words` are further words behind its command's own where it reads the image, as '--whole --built'.
+All programs get their memory in pages of the same size: `--pages large` asks glibc's malloc for large ones, for each program that
+takes memory through it. A peer is any command line that reads the same files. Instructions are counted by valgrind's callgrind.
+Nothing here is a test.
 """
 import argparse
 import os
-import resource
 import shlex
 import statistics
 import subprocess
@@ -22,25 +25,33 @@ LARGE = ["-name", "*.h5", "-size", "+2048"]
 LARGER = "SELECT path, size FROM entries WHERE size > 1000000"
 NAMED = "SELECT path FROM entries WHERE name REGEXP '\\.h5$'"
 
+# What glibc's malloc is told. The script `gufi` keeps a value that is set, also an empty one.
+PAGES = {"small": "", "large": "glibc.malloc.hugetlb=1:glibc.malloc.top_pad=67108864"}
+
+
+def take_pages(size):
+    """Has each program that is started from now on take its memory in pages of this size."""
+    os.environ["GLIBC_TUNABLES"] = PAGES[size]
+
 
 def once(command):
-    """The seconds of processor time and the peak memory in MB of one run."""
+    """The seconds of user time, those of user and system time, and the peak memory in MB of one run."""
     with open(os.devnull, "w") as sink:
         child = subprocess.Popen(command, stdout=sink)
         _, status, usage = os.wait4(child.pid, 0)
     if status:
         sys.exit("%s ended with %d" % (command, status))
-    return usage.ru_utime + usage.ru_stime, usage.ru_maxrss / 1024
+    return usage.ru_utime, usage.ru_utime + usage.ru_stime, usage.ru_maxrss / 1024
 
 
 def interleaved(commands, runs):
-    """The median seconds and the highest peak memory of each of these named commands, run in turn; the first turn warms the files."""
+    """The median times and the highest peak memory of each of these named commands, run in turn; the first turn warms the files."""
     seen = {name: [] for name in commands}
     for _ in range(runs + 1):
         for name, command in commands.items():
             seen[name].append(once(command))
     return {
-        name: (statistics.median(seconds for seconds, _ in turns[1:]), max(memory for _, memory in turns))
+        name: [statistics.median(column) for column in list(zip(*turns[1:]))[:2]] + [max(memory for _, _, memory in turns)]
         for name, turns in seen.items()
     }
 
@@ -80,11 +91,25 @@ def asked_of(given):
     return commands
 
 
+def match(command, given):
+    """The same question for a program that has `find`, `trace2index` and SELECT without REGEXP: a sum as a find of few rows."""
+    verb, index, rest = command[1], command[2], command[3:]
+    if verb == "walk":
+        verb, rest = "find", ["%s:%s" % (rest[0], rest[1].strip("-")), "/"]
+    if verb == "stat":
+        verb, rest = "find", rest + LARGE
+    words = given.words.split() if index == given.image else []
+    return [given.beside, verb] + words + [index] + [LARGER if word == NAMED else word for word in rest]
+
+
 def main():
     here = os.path.dirname(os.path.abspath(__file__))
     parser = argparse.ArgumentParser()
     parser.add_argument("trace")
-    parser.add_argument("--program", default=os.path.join(here, "..", "gufi"))
+    parser.add_argument("--program", default=os.path.join(here, "..", "crates", "gufi", "out", "gufi"))
+    parser.add_argument("--beside")
+    parser.add_argument("--words", default="")
+    parser.add_argument("--pages", choices=PAGES, default="small")
     parser.add_argument("--uid", default="2007")
     parser.add_argument("--gids", default="5001,5002")
     parser.add_argument("--runs", type=int, default=5)
@@ -93,19 +118,29 @@ def main():
     parser.add_argument("--only")
     parser.add_argument("--peer", action="append", default=[])
     given = parser.parse_args()
+    take_pages(given.pages)
     with open(given.trace, "rb") as file:
         rows = sum(piece.count(b"\n") for piece in iter(lambda: file.read(1 << 20), b""))
     commands = asked_of(given)
     if given.only:
         commands = {name: command for name, command in commands.items() if given.only in name}
-    commands.update(peer.split("=", 1) for peer in given.peer)
-    commands = {name: command if isinstance(command, list) else shlex.split(command) for name, command in commands.items()}
-    print("%d rows" % rows)
-    for name, (time, peak) in interleaved(commands, given.runs).items():
-        text = "%-24s %8.3f s  %7.0f ns/row  %6.0f MB" % (name, time, 1e9 * time / rows, peak)
+    if given.beside:
+        commands = {
+            beside + name: match(command, given) if beside else command
+            for name, command in commands.items()
+            for beside in ("", "beside ")
+        }
+    commands.update((name, shlex.split(words)) for name, words in (peer.split("=", 1) for peer in given.peer))
+    print("%d rows, %s pages" % (rows, given.pages))
+    times = interleaved(commands, given.runs)
+    for name, (user, time, peak) in times.items():
+        text = "%-31s %7.3f s user %7.3f s %6.0f MB" % (name, user, time, peak)
+        if "beside " + name in times:
+            other = times["beside " + name]
+            text += "  ratio of user time %.2f, of time %.2f, of memory %.2f" % (user / other[0], time / other[1], peak / other[2])
         if given.instructions:
             text += "  %6.0f instructions/row" % (instructions(commands[name]) / rows)
-        print(text)
+        print(text, flush=True)
 
 
 if __name__ == "__main__":
