@@ -13,5 +13,10 @@ pub mod FirstParts
 pub mod Writes
 pub mod Checks
 pub mod SoundLines
+pub mod LineTrees
+pub mod PathsRead
+pub mod MetaRead
+pub mod LinesRead
+pub mod TreesRead
 mod Worked
 pub mod Pairs

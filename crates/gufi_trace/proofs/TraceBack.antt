@@ -75,7 +75,7 @@ text_rows tree root delim = by tree ∙ sym (flat_map-map (λ (part : List ℕ).
     by (d ∷ ds) = ap (λ (t : List ℕ). flat_map (row_line delim root) (own_rows d) ++ t) (by ds) ∙ sym (flat_map-append (row_line delim root) (own_rows d) (flat_map own_rows ds))
 
 -- the root is that of the first line
-root_back : (root : Components) (delim : ℕ) (row : Row) (rows : List Row) → may_delimit delim ≡ true → row.path ≡ [] → IsWritable root delim row → root_of delim (texts_of root delim (row ∷ rows)) ≡ root
+pub root_back : (root : Components) (delim : ℕ) (row : Row) (rows : List Row) → may_delimit delim ≡ true → row.path ≡ [] → IsWritable root delim row → root_of delim (texts_of root delim (row ∷ rows)) ≡ root
 root_back root delim row rows may first h =
     ap (λ (parts : List (List ℕ)). result_unwrap_or (read_path (part_at parts 1)) []) (split_joined delim (path_text (root ++ row.path)) _ (are_fields root delim row may h))
     ∙ ap (λ (r : Result Components PathFault). result_unwrap_or r []) (read_path-path_text (root ++ row.path) h.named h.short)
@@ -86,7 +86,7 @@ rows_root [] root delim may t h = absurd (false≢true t.root)
 rows_root (d ∷ ds) root delim may t h = root_back root delim (dir_row d) (map (entry_row d.path) d.entries ++ flat_map own_rows ds) may (root_first d ds t) h.0
 
 -- the lines of the text
-text_lines_back : (tree : List Directory) (root : Components) (delim : ℕ) (lines : List Line) → may_delimit delim ≡ true → AllByRecursion (IsWritable root delim) (flat_map own_rows tree) → root_of delim (texts_of root delim (flat_map own_rows tree)) ≡ root
+pub text_lines_back : (tree : List Directory) (root : Components) (delim : ℕ) (lines : List Line) → may_delimit delim ≡ true → AllByRecursion (IsWritable root delim) (flat_map own_rows tree) → root_of delim (texts_of root delim (flat_map own_rows tree)) ≡ root
     → read_lines delim root [] (texts_of root delim (flat_map own_rows tree)) ≡ Ok lines → trace_lines delim (trace_text tree root delim) ≡ Ok lines
 unfolding trace_lines
 text_lines_back tree root delim lines may h is read =

@@ -8,6 +8,7 @@ mod content;
 mod digits;
 mod fault;
 mod fields;
+mod laws;
 mod lines;
 mod quick;
 mod reader;
@@ -16,6 +17,7 @@ mod text;
 mod writer;
 
 pub use fault::{TraceError, TraceFault, TraceKind};
+pub use laws::traces_mean_sound_trees;
 pub use reader::{TraceReader, read_pieces, read_trace};
 pub use text::put_tree_fault;
 pub use writer::{WriteTraceFault, write_trace, written_traces_read_back};

@@ -1,6 +1,6 @@
 //! A trace that comes in pieces.
 
-ghost use Rattle.std.specs.Prelude.{◌≡◌, ◌≢◌, ◌≤◌, ◌+◌, ℕ, length, List, [], ◌∷◌, ◌++◌, None, Some, Ok, OnOk, IfOk, IfErr, IsSome, IsTrue};
+ghost use Rattle.std.specs.Prelude.{◌≡◌, ◌≢◌, ◌≤◌, ◌+◌, ℕ, length, List, [], ◌∷◌, ◌++◌, None, Some, Ok, Err, OnOk, IfOk, IfErr, IfSome, IsSome, IsTrue};
 ghost use Rattle.gufi_base.specs.Limits.{max_dirs, max_entries};
 ghost use Rattle.gufi_base.specs.Words.{GivesUnless};
 ghost use Rattle.gufi_trace.specs.TraceText.{whole_lines, cut_line, trace_lines};
@@ -158,6 +158,9 @@ impl TraceReader {
     /// The lines by their stanzas, at the end of the stream. Takes no memory.
     pub fn finish_stanzas(self) -> Result<Stanzas, TraceError>
         ensures lines { (stream : List ℕ) → HasRead self stream → GivesUnless TraceError.Memory result (trace_lines self.delim stream) }
+
+        // After an error the same comes again.
+        ensures again { IfSome self.failed (λ error. result ≡ Err error) }
         ensures few { IfOk result (λ stanzas. length stanzas ≤ max_dirs + max_entries) }
     {
         let TraceReader {
@@ -181,6 +184,7 @@ impl TraceReader {
     /// The lines, at the end of the stream.
     pub fn finish(self, alloc: Global) -> Result<Vec<Line>, TraceError>
         ensures lines { (stream : List ℕ) → HasRead self stream → GivesLines result (trace_lines self.delim stream) }
+        ensures again { IfSome self.failed (λ error. result ≡ Err error) }
         ensures few { IfOk result (λ lines. length lines.items ≤ max_dirs + max_entries) }
     {
         let stanzas = self.finish_stanzas()?;
