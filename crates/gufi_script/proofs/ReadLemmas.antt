@@ -1,5 +1,5 @@
 -- Reading line by line.
-use Rattle.std.proofs.Common.{◌≡◌, ℕ, ◌+◌, Bool, true, false, cond, List, [], ◌∷◌, ◌++◌, refl, sym, ap, ◌∙◌, arith, Bor}
+use Rattle.std.proofs.Common.{◌≡◌, ℕ, ◌+◌, true, false, cond, List, [], ◌∷◌, ◌++◌, refl, sym, ap, ◌∙◌, arith, Bor}
 use Rattle.std.specs.Prelude.{map}
 use Rattle.percent_encoding.specs.Percent.{percent_decode}
 use Rattle.gufi_script.specs.ScriptWords.{raw_words, words_of}
@@ -8,7 +8,6 @@ use Rattle.std.proofs.lemmas.List.Sums.{sum_by-append}
 use Rattle.std.specs.Prelude.{Ok, Err}
 use Rattle.std.specs.Str.{IsUtf8, is_utf8}
 use Rattle.std.proofs.lemmas.Str.{IsUtf8-from_is_utf8, is_utf8-from_IsUtf8}
-use Rattle.gufi_base.specs.Words.{result_map_err}
 use Rattle.gufi_script.specs.declared.fault.ScriptKind.{ScriptKind}
 use Rattle.gufi_script.specs.declared.fault.ScriptError.TheVariants.{Fault}
 use Rattle.gufi_script.specs.declared.act.Act.{Act}

@@ -1,5 +1,5 @@
 -- The acts of a script, line by line, or the least faulty line.
-use Rattle.std.specs.Prelude.{ℕ, ◌+◌, Bool, true, false, not, ◌==◌, ◌&&◌, nat_lt, nat_le, List, [], ◌∷◌, ◌++◌, length, count_by, Result, Ok, Err, if◌then◌else◌, codes, decimal}
+use Rattle.std.specs.Prelude.{ℕ, ◌+◌, Bool, true, false, not, ◌==◌, ◌&&◌, nat_lt, nat_le, List, [], ◌∷◌, ◌++◌, length, count_by, Result, Ok, if◌then◌else◌, codes, decimal}
 use Rattle.std.specs.List.{list_all}
 use Rattle.gufi_base.specs.Limits.{max_script_lines, max_publishing, max_lanes}
 use Rattle.gufi_base.specs.Words.{is_empty, part_at, text_lines, result_map_err, ◌>>=◌, ◌>>◌, refuse}
