@@ -1,0 +1,154 @@
+//! The pages that the program answers itself, and the words that ask for them.
+ghost use Rattle.std.specs.Prelude.{◌≡◌, ◌||◌, IsTrue};
+ghost use Rattle.std.specs.Option.{option_copied};
+ghost use Rattle.gufi_words.specs.WordTexts.{texts};
+ghost use Rattle.gufi.specs.Pages.{asks_help, lone_page, page_among, page_of};
+
+use crate::commands::table;
+
+/// The name of a command and its page.
+pub(crate) struct CommandPage {
+    name: &'static str,
+    page: &'static str,
+}
+
+/// The pages that the program answers itself.
+pub(crate) struct Pages {
+    usage: &'static str,
+    version: &'static str,
+    manual: &'static str,
+    completions: &'static str,
+    commands: &'static [CommandPage],
+}
+
+macro_rules! usage {
+    (
+        $(($status:literal $means:literal))*;
+        $(($asked:literal $shown:literal))*;
+        $($name:literal $synopsis:literal $prints:literal
+            $words:tt $options:tt)*
+    ) => {
+        concat!(
+            "usage: gufi COMMAND [OPTION].. WORD..\n       gufi COMMAND --help\n\nprints\n",
+            $("  gufi ", $name, " ", $synopsis, "\n      ", $prints, "\n",)*
+            $("  gufi ", $asked, "\n      ", $shown, "\n",)*
+            "\nstatus\n",
+            $("  ", $status, "  ", $means, "\n",)*
+        )
+    };
+}
+
+macro_rules! command_pages {
+    (
+        $(($status:literal $means:literal))*;
+        $(($asked:literal $shown:literal))*;
+        $($name:literal $synopsis:literal $prints:literal
+            [$(($word:literal $is:literal))*]
+            [$(($option:literal $value:literal $gives:literal))*])*
+    ) => {
+        [$(CommandPage {
+            name: $name,
+            page: concat!(
+                "usage: gufi ", $name, " ", $synopsis, "\n\nprints ", $prints, "\n\n",
+                $("  ", $word, "\n      ", $is, "\n",)*
+                $("  ", $option, $value, "\n      ", $gives, "\n",)*
+            ),
+        }),*]
+    };
+}
+
+macro_rules! manual {
+    (
+        $(($status:literal $means:literal))*;
+        $(($asked:literal $shown:literal))*;
+        $($name:literal $synopsis:literal $prints:literal
+            [$(($word:literal $is:literal))*]
+            [$(($option:literal $value:literal $gives:literal))*])*
+    ) => {
+        concat!(
+            ".\\\" Made by: gufi --man\n.TH GUFI 1\n.\\\" hyphens are printed as they are typed\n.tr -\\-\n",
+            ".SH NAME\ngufi \\- a file index with permission-exact queries\n",
+            ".SH SYNOPSIS\n.B gufi\nCOMMAND [OPTION].. WORD..\n",
+            ".SH COMMANDS\nOptions stand behind the name of the command, in any order.\n",
+            $(
+                ".SS gufi ", $name, " ", $synopsis, "\nPrints ", $prints, ".\n",
+                $(".TP\n.I ", $word, "\n", $is, "\n",)*
+                $(".TP\n.BR ", $option, " ", $value, "\n", $gives, "\n",)*
+            )*
+            ".SH OTHER WORDS\n",
+            $(".TP\n.B gufi ", $asked, "\n", $shown, "\n",)*
+            ".SH EXIT STATUS\n",
+            $(".TP\n.B ", $status, "\n", $means, "\n",)*
+            ".SH SEE ALSO\ndocs/guide.md, which shows each command at work\n",
+        )
+    };
+}
+
+macro_rules! completions {
+    (
+        $(($status:literal $means:literal))*;
+        $(($asked:literal $shown:literal))*;
+        $($name:literal $synopsis:literal $prints:literal
+            $words:tt
+            [$(($option:literal $value:literal $gives:literal))*])*
+    ) => {
+        concat!(
+            "# Completions of gufi for bash. Made by: gufi --completions\n_gufi() {\n    local names=",
+            "'", $($name, " ",)* $($asked, " ",)* "'\n",
+            "    case $COMP_CWORD:${COMP_WORDS[1]} in\n    1:*) ;;\n",
+            $("    *:", $name, ") names='", $($option, " ",)* "--help' ;;\n",)*
+            "    *) names= ;;\n    esac\n",
+            "    COMPREPLY=($(compgen -W \"$names\" -- \"${COMP_WORDS[COMP_CWORD]}\"))\n}\n",
+            "complete -o default -F _gufi gufi\n",
+        )
+    };
+}
+
+/// The program's own pages, of one table.
+pub(crate) const PAGES: Pages = Pages {
+    usage: table!(usage),
+    version: "gufi 0.1.0\n",
+    manual: table!(manual),
+    completions: table!(completions),
+    commands: &table!(command_pages),
+};
+
+fn asks_help(word: &str) -> bool
+    ensures { result ≡ asks_help word.now }
+{
+    word == "--help" || word == "-h"
+}
+
+// The page that a lone word asks for.
+#[tactic(auto, unfolding(crate::specs::Pages::lone_page))]
+fn lone_page(pages: &Pages, word: &str) -> Option<&'static str>
+    ensures { option_copied result ≡ lone_page pages.now word.now }
+{
+    match word {
+        "--help" | "-h" | "help" => Some(pages.usage),
+        "--version" => Some(pages.version),
+        "--man" => Some(pages.manual),
+        "--completions" => Some(pages.completions),
+        _ => None,
+    }
+}
+
+// The page of the command of that name.
+fn command_page(commands: &'static [CommandPage], name: &str) -> Option<&'static str>
+    ensures { option_copied result ≡ page_among commands.now name.now }
+{
+    let named = commands.iter().find(|command| command.name == name)?;
+    Some(named.page)
+}
+
+/// The page that the words ask for, where they ask for one.
+#[tactic(auto, unfolding(crate::specs::Pages::page_of))]
+pub(crate) fn page(pages: &Pages, words: &[String]) -> Option<&'static str>
+    ensures { option_copied result ≡ page_of pages.now (texts words.now) }
+{
+    match words {
+        [word] => lone_page(pages, word.as_str()),
+        [name, word] if asks_help(word.as_str()) => command_page(pages.commands, name.as_str()),
+        _ => None,
+    }
+}
