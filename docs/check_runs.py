@@ -90,6 +90,8 @@ def main():
     parser.add_argument("--program", default=os.path.join(TOP, "gufi"))
     parser.add_argument("documents", nargs="*", default=DOCUMENTS)
     given = parser.parse_args()
+    # The script `gufi` builds the program where that is needed, and says so.
+    subprocess.run([given.program, "--version"], stdout=subprocess.DEVNULL, check=True)
     return 1 if sum(differences(document, given.program) for document in given.documents) else 0
 
 
