@@ -17,8 +17,8 @@ import tempfile
 TOP = os.path.dirname(os.path.dirname(os.path.abspath(__file__)))
 DOCUMENTS = ["README.md", "docs/guide.md", "docs/operators.md"]
 
-# What the shell prints behind each command: a byte that no command prints.
-MARK = "\036\n"
+# What the shell prints behind each command, and no command prints.
+MARK = "\036\036\n"
 
 
 class Run:
@@ -51,7 +51,7 @@ def runs_of(document):
 
 def script_of(runs):
     """A script of the commands, each with the mark behind it. The status of each is there for the next one."""
-    end = "status=$?; printf '\\036\\n'; (exit $status)"
+    end = "status=$?; printf '\\036\\036\\n'; (exit $status)"
     return "umask 022\n" + "".join("%s\n%s\n" % (run.text, end) for run in runs)
 
 
