@@ -17,8 +17,8 @@ import tempfile
 TOP = os.path.dirname(os.path.dirname(os.path.abspath(__file__)))
 DOCUMENTS = ["README.md", "docs/guide.md", "docs/operators.md"]
 
-# What the shell prints behind each command: a byte that no command prints.
-MARK = "\036\n"
+# What the shell prints behind each command, and no command prints.
+MARK = "\036\036\n"
 
 
 class Run:
@@ -51,7 +51,7 @@ def runs_of(document):
 
 def script_of(runs):
     """A script of the commands, each with the mark behind it. The status of each is there for the next one."""
-    end = "status=$?; printf '\\036\\n'; (exit $status)"
+    end = "status=$?; printf '\\036\\036\\n'; (exit $status)"
     return "umask 022\n" + "".join("%s\n%s\n" % (run.text, end) for run in runs)
 
 
@@ -90,6 +90,8 @@ def main():
     parser.add_argument("--program", default=os.path.join(TOP, "gufi"))
     parser.add_argument("documents", nargs="*", default=DOCUMENTS)
     given = parser.parse_args()
+    # The script `gufi` builds the program where that is needed, and says so.
+    subprocess.run([given.program, "--version"], stdout=subprocess.DEVNULL, check=True)
     return 1 if sum(differences(document, given.program) for document in given.documents) else 0
 
 
