@@ -26,7 +26,7 @@ line_text delim root path m =
     (signed_decimal m.atime) (signed_decimal m.mtime) (signed_decimal m.ctime)
 
 -- more fuel than the number gives the same path
-fuel_same : (f g i : ℕ) → i ≤ f → i ≤ g → path_within f i ≡ path_within g i
+pub fuel_same : (f g i : ℕ) → i ≤ f → i ≤ g → path_within f i ≡ path_within g i
 fuel_same zero zero i h k = refl
 fuel_same zero (suc g) zero h k = refl
 fuel_same zero (suc g) (suc i) h k = absurd (omega (arith, h))

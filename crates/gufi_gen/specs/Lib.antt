@@ -1,2 +1,4 @@
 pub mod Generated
 pub mod Lines
+pub mod MadeTree
+pub mod Laws

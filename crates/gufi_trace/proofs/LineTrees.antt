@@ -1,13 +1,13 @@
 -- The directories of lines without a fault are a tree, which has the lines' rows.
-use Rattle.std.proofs.Common.{◌≡◌, ℕ, ◌+◌, ◌≤◌, inl, inr, Bool, true, false, not, ◌&&◌, ◌||◌, cond, List, [], ◌∷◌, ◌++◌, map, refl, sym, ap, ◌∙◌, subst, arith, append_assoc}
-use Rattle.std.specs.Prelude.{Result, Ok, Err, Option, Some, None}
+use Rattle.std.proofs.Common.{◌≡◌, ◌+◌, ◌≤◌, inl, inr, Bool, true, false, not, ◌&&◌, ◌||◌, cond, List, [], ◌∷◌, ◌++◌, map, refl, sym, ap, ◌∙◌, subst, arith, append_assoc}
+use Rattle.std.specs.Prelude.{Ok, Option, Some, None}
 use Rattle.std.specs.Ordering.{is_eq}
-use Rattle.std.specs.List.{AllByRecursion, filter, flat_map, list_any, list_all}
+use Rattle.std.specs.List.{filter, flat_map, list_any, list_all}
 use Rattle.std.specs.List.Sorted.{IsPermutation}
-use Rattle.std.proofs.lemmas.Bool.{and_parts, and_from, not-true, not-false, not_from_false, not_from_true, false_from_ne_true, false≢true}
+use Rattle.std.proofs.lemmas.Bool.{and_parts, and_from, not-true, not-false, not_from_false, not_from_true, false_from_ne_true}
 use Rattle.std.proofs.lemmas.List.{map-append}
 use Rattle.std.proofs.lemmas.List.Folds.{list_all-map, flat_map-map}
-use Rattle.std.proofs.lemmas.List.Sorted.{IsPermutation-refl, IsPermutation-trans, IsPermutation-sym, IsPermutation-map, IsPermutation-cons, IsPermutation-append_left, IsPermutation-append_right, IsPermutation-append_comm}
+use Rattle.std.proofs.lemmas.List.Sorted.{IsPermutation-refl, IsPermutation-trans, IsPermutation-map, IsPermutation-cons, IsPermutation-append_left, IsPermutation-append_right, IsPermutation-append_comm}
 use Rattle.gufi_base.specs.declared.record.Line.{Line}
 use Rattle.gufi_base.specs.declared.record.Row.{Row}
 use Rattle.gufi_base.specs.Kinds.{is_dir}
@@ -17,10 +17,10 @@ use Rattle.gufi_base.specs.Rows.{row_cmp}
 use Rattle.gufi_base.proofs.Cuts.{all_but_last_and_last}
 use Rattle.gufi_base.proofs.Permutations.{IsPermutation-flat_map}
 use Rattle.gufi_base.proofs.Sorting.{IsPermutation-sort_by}
-use Rattle.gufi_base.proofs.SortedOnce.{times, Once, Once-IsPermutation, ascends-sort_by}
+use Rattle.gufi_base.proofs.SortedOnce.{times, Once-IsPermutation, ascends-sort_by}
 use Rattle.gufi_tree.specs.declared.tree.Entry.{Entry}
 use Rattle.gufi_tree.specs.declared.fault.TreeFault.{TreeFault}
-use Rattle.gufi_tree.specs.Tree.{Directory, dir_cmp, entry_cmp, dir_row, entry_row, own_rows, has_dir, is_kinded, HasTreeShape}
+use Rattle.gufi_tree.specs.Tree.{Directory, dir_cmp, entry_cmp, dir_row, entry_row, own_rows, is_kinded, HasTreeShape}
 use Rattle.gufi_tree.specs.Build.{is_dir_line, names_dir, is_orphan, is_entry_line, entry_of_line, directory_of_line, directories_of_lines, tree_fault, unless, tree_of}
 use Rattle.gufi_tree.specs.Gathered.{row_of_line}
 use Rattle.gufi_tree.proofs.Apart.{entries_apart}

@@ -1,32 +1,28 @@
 -- What is known of each line that is read.
-use Rattle.std.proofs.Common.{◌≡◌, ◌≢◌, ℕ, ◌+◌, ◌<◌, ◌≤◌, Bool, true, false, not, ◌&&◌, ◌||◌, cond, List, [], ◌∷◌, ◌++◌, length, map, drop, reverse, refl, sym, ap, ◌∙◌, subst, arith, length-append, ⊎_elim, inl, inr}
-use Rattle.std.specs.Prelude.{Option, Some, None, Result, Ok, Err, nat_lt, nat_le, ok_or, ◌==◌}
-use Rattle.std.specs.Result.{is_err, result_unwrap_or, result_map_both}
-use Rattle.std.specs.List.{AllByRecursion, list_all, list_any, flat_map}
-use Rattle.std.proofs.lemmas.Bool.{and_parts, and_from, or_parts, not-true, not_from_false, not_from_true, cases_Bool, ltb-false, le-leb, cond-true, cond-false}
-use Rattle.std.proofs.lemmas.List.Concat.{flat_map-append}
+use Rattle.std.proofs.Common.{◌≡◌, ◌≢◌, ℕ, ◌+◌, ◌≤◌, Bool, true, false, not, ◌||◌, cond, List, [], ◌∷◌, ◌++◌, length, drop, reverse, refl, sym, ap, ◌∙◌, subst, arith, length-append, ⊎_elim, inl, inr}
+use Rattle.std.specs.Prelude.{Option, Some, None, Result, Ok, Err, nat_lt, ◌==◌}
+use Rattle.std.specs.Result.{is_err, result_unwrap_or}
+use Rattle.std.specs.List.{AllByRecursion, list_all, list_any}
+use Rattle.std.proofs.lemmas.Bool.{and_parts, and_from, or_parts, not_from_false, not_from_true, cases_Bool, ltb-false, le-leb}
 use Rattle.std.proofs.lemmas.List.Folds.{list_all-append}
 use Rattle.std.proofs.lemmas.List.Sorted.{IsPermutation-reverse, IsPermutation-sym}
 use Rattle.std.proofs.Math.Seq.{drop-append_seam}
 use Rattle.gufi_base.specs.declared.record.Line.{Line}
 use Rattle.gufi_base.specs.declared.record.Meta.{Meta}
-use Rattle.gufi_base.specs.declared.record.Row.{Row}
 use Rattle.gufi_base.specs.declared.path.PathFault.{PathFault}
 use Rattle.gufi_base.specs.Limits.{max_dirs, max_entries, max_link, max_path, max_components}
-use Rattle.gufi_base.specs.Words.{split, ◌>>=◌, ◌>>◌, refuse, result_map_err}
+use Rattle.gufi_base.specs.Words.{split, result_map_err}
 use Rattle.gufi_base.proofs.Parts.{has_no}
 use Rattle.gufi_base.specs.Names.{is_name, is_path_byte}
-use Rattle.gufi_base.specs.Kinds.{is_dir}
-use Rattle.gufi_base.specs.Paths.{Components, read_path, is_prefix, path_text, slashed_text}
-use Rattle.gufi_base.specs.Rows.{are_bytes, is_well_formed, fits_types, row_fits_types}
+use Rattle.gufi_base.specs.Paths.{Components, read_path, is_prefix, path_text}
+use Rattle.gufi_base.specs.Rows.{are_bytes, is_well_formed, row_fits_types}
 use Rattle.gufi_tree.specs.Build.{is_dir_line}
 use Rattle.gufi_tree.specs.Gathered.{row_of_line}
-use Rattle.gufi_tree.proofs.Built.{Has, All-Has, All-from_Has}
+use Rattle.gufi_tree.proofs.Built.{Has}
 use Rattle.gufi_tree.proofs.Flat.{is_prefix-rest}
 use Rattle.gufi_tree.proofs.RowHomes.{Has-IsPermutation}
 use Rattle.gufi_trace.specs.declared.fault.TraceKind.{TraceKind}
 use Rattle.gufi_trace.specs.declared.fault.TraceKind.TheVariants.{BadPath, LongName, NotUnderRoot, Short}
-use Rattle.gufi_trace.specs.declared.fault.TraceError.{TraceError}
 use Rattle.gufi_trace.specs.TraceText.{is_bad_path, read_line, read_lines, fault_at}
 use Rattle.gufi_trace.specs.Fields.{Texts, fields_of, fields_in}
 use Rattle.gufi_trace.specs.Lines.{path_with_link, meta_in, dirs_of, entries_of, place_fault, unless_fault, below_root, line_in}

@@ -1,5 +1,5 @@
 -- What is known of the numbers of a line that are read.
-use Rattle.std.proofs.Common.{◌≡◌, ℕ, zero, suc, ◌+◌, ◌-◌, ◌^◌, ◌<◌, ◌≤◌, Bool, true, false, ◌&&◌, cond, List, drop, refl, sym, ap, ◌∙◌, subst, arith, ℤ, pos, negsuc, neg_ℤ}
+use Rattle.std.proofs.Common.{◌≡◌, ℕ, zero, suc, ◌+◌, ◌-◌, ◌^◌, ◌<◌, Bool, true, false, ◌&&◌, cond, List, drop, refl, subst, arith, ℤ, pos, neg_ℤ}
 use Rattle.std.specs.Prelude.{Option, Some, None, Result, Ok, Err, ok_or, option_map, nat_lt, nat_le, ◌%◌}
 use Rattle.std.specs.Str.Parse.{digits_value, starts_with_minus}
 use Rattle.std.proofs.lemmas.Bool.{and_parts, and_from, ltb-true, lt-ltb, le-leb}

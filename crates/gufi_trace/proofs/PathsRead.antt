@@ -1,9 +1,8 @@
 -- What is known of a path that is read from bytes, and of the parts of bytes.
-use Rattle.std.proofs.Common.{◌≡◌, ℕ, zero, suc, ◌+◌, ◌≤◌, Bool, true, false, not, ◌||◌, cond, eqb, List, [], ◌∷◌, ◌++◌, length, refl, sym, ap, ◌∙◌, subst, arith, length-append}
-use Rattle.std.specs.Prelude.{nat_lt, filter, bytes_eq, slice_index_or, Result, Ok, Err}
+use Rattle.std.proofs.Common.{◌≡◌, ℕ, zero, suc, ◌+◌, ◌≤◌, Bool, true, false, not, ◌||◌, cond, eqb, List, [], ◌∷◌, length, refl, ◌∙◌, subst, arith, length-append}
+use Rattle.std.specs.Prelude.{nat_lt, filter, bytes_eq, slice_index_or, Ok, Err}
 use Rattle.std.specs.List.{onto_first, list_all, list_any}
 use Rattle.std.proofs.lemmas.Bool.{and_parts, and_from, or_parts, not_from_false, ltb-false}
-use Rattle.gufi_base.specs.declared.path.PathFault.{PathFault}
 use Rattle.gufi_base.specs.declared.path.PathFault.TheVariants.{DotDot, BadByte, LongName}
 use Rattle.gufi_base.specs.Words.{split, all_but_last}
 use Rattle.gufi_base.specs.Limits.{max_path, max_name, max_components}

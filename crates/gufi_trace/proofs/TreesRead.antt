@@ -1,6 +1,6 @@
 -- The tree that a trace means has sound records, within the limits.
-use Rattle.std.proofs.Common.{◌≡◌, ◌≢◌, ℕ, suc, ◌+◌, ◌≤◌, Bool, true, false, not, ◌&&◌, ◌||◌, List, [], ◌∷◌, ◌++◌, length, map, refl, sym, ap, ◌∙◌, subst, arith, inl, inr, length-append}
-use Rattle.std.specs.Prelude.{Ok, nat_lt, nat_le}
+use Rattle.std.proofs.Common.{◌≡◌, ℕ, ◌+◌, Bool, true, false, not, ◌&&◌, List, [], ◌∷◌, ◌++◌, length, map, refl, sym, ◌∙◌, subst, arith, inl, inr, length-append}
+use Rattle.std.specs.Prelude.{Ok, nat_lt}
 use Rattle.std.specs.List.{AllByRecursion, filter, flat_map, list_all}
 use Rattle.std.proofs.lemmas.Bool.{and_parts, and_from, or_from, le-ltb, le-leb, not_from_false}
 use Rattle.std.proofs.lemmas.List.{length-map}
@@ -25,8 +25,8 @@ use Rattle.gufi_tree.proofs.Built.{Has}
 use Rattle.gufi_tree.proofs.Faultless.{IsFaultless}
 use Rattle.gufi_tree.proofs.Numbered.{both_counted}
 use Rattle.gufi_tree.proofs.Placed.{list_all-IsPermutation, list_all-Has, list_all-from_Has}
-use Rattle.gufi_trace.specs.Lines.{dirs_of, entries_of}
-use Rattle.gufi_trace.specs.TraceText.{whole_lines, cut_line, root_of, lines_so_far, trace_lines, trace_means, fault_at, of_line, of_tree}
+use Rattle.gufi_trace.specs.Lines.{dirs_of}
+use Rattle.gufi_trace.specs.TraceText.{whole_lines, cut_line, lines_so_far, trace_lines, trace_means, fault_at, of_line, of_tree}
 use Rattle.gufi_trace.specs.declared.fault.TraceKind.TheVariants.{CutLine}
 use Rattle.gufi_trace.specs.TraceTrees.{trace_root, is_close, IsTraceTree, TracesMeanSoundTrees}
 use Rattle.gufi_trace.proofs.LineTrees.{rows_of_lines, lines_shape, tree_given}
