@@ -1,5 +1,5 @@
 //! The pages that the program answers itself, and the words that ask for them.
-ghost use Rattle.std.specs.Prelude.{◌≡◌, ◌||◌, IsTrue};
+ghost use Rattle.std.specs.Prelude.{◌≡◌};
 ghost use Rattle.std.specs.Option.{option_copied};
 ghost use Rattle.gufi_words.specs.WordTexts.{texts};
 ghost use Rattle.gufi.specs.Pages.{asks_help, lone_page, page_among, page_of};

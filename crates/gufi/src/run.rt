@@ -1,5 +1,5 @@
 //! One run of the program: a page, or what `gufi_top` makes of the words.
-ghost use Rattle.std.specs.Prelude.{◌≡◌, ◌≢◌, ◌⊎◌, [], None, IfSome, IsTrue, is_some, true};
+ghost use Rattle.std.specs.Prelude.{◌≡◌, ◌⊎◌, [], None, IfSome, IsSome, IsTrue};
 ghost use Rattle.std.specs.Io.KnownBytes.{Appends};
 ghost use Rattle.gufi_io.specs.Causes.{Rose};
 ghost use Rattle.gufi_words.specs.WordTexts.{texts};
@@ -50,13 +50,13 @@ pub(crate) fn run<R: Threads + Wait, F: Shelf, K: Sink, G: Gate>(
     gate: &G,
 ) -> Outcome
     // A page is shown whole, or a front of it where the output failed. No file is asked for.
-    ensures page_status { is_some (page_of pages.now (texts words.now)) ≡ true → (result.status ≡ 0) ⊎ (result.status ≡ 4) }
+    ensures page_status { IsSome (page_of pages.now (texts words.now)) → (result.status ≡ 0) ⊎ (result.status ≡ 4) }
     ensures page_whole { IfSome (page_of pages.now (texts words.now)) (λ text. result.status ≡ 0
         → IsShown (K.taken out.old) (K.taken out.new) (K.taken notes.old) (K.taken notes.new) text) }
     ensures page_cut { IfSome (page_of pages.now (texts words.now)) (λ text. result.status ≡ 4
         → CutShort (K.taken out.old) (K.taken out.new) (K.taken notes.old) (K.taken notes.new)
         (K.faults out.old) (K.faults out.new) (K.faults notes.old) (K.faults notes.new) text) }
-    ensures page_alone { is_some (page_of pages.now (texts words.now)) ≡ true → (result.numbers.items ≡ []) × (shelf.new ≡ shelf.old) }
+    ensures page_alone { IsSome (page_of pages.now (texts words.now)) → (result.numbers.items ≡ []) × (shelf.new ≡ shelf.old) }
 
     // All that `gufi_run` promises, where no page is asked for.
     ensures ended { page_of pages.now (texts words.now) ≡ None → IsVerdictStatus result.status → Ended (F.files shelf.old) (texts words.now) result.status result.numbers.items
