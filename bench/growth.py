@@ -66,7 +66,7 @@ def cases(program, folder):
         "a pattern of many brackets": [(size, find(few, size // 3 * "[a]")) for size in (16000, 128000)],
         "members of a bracket over 20,000 names": [(size, find(files, "*[%s]z" % (size * "b"))) for size in (16, 4096)],
         "a user's groups over 50,000 directories": [(count, held(count)) for count in (1, 65536)],
-        "nested groups of a REGEXP": [(depth, nested(depth)) for depth in (25, 200)],
+        "nested groups of a REGEXP": [(depth, nested(depth)) for depth in (25, 250)],
     }
 
 

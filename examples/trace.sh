@@ -3,7 +3,7 @@
 #
 # It needs GNU find, awk and sort. Files with the byte 0x1E or a newline in their path or link are left out, since a trace can't hold
 # them, and so is what isn't of the seven types; standard error says how many. What the caller can't read is told there by find. A tree
-# that changes meanwhile is told as it was met, each path once. No system tells find a file's preferred block size: it is given as 4096.
+# that changes meanwhile is told as it was met, each path once. find can't print a file's preferred block size: it is given as 4096.
 [ $# -ge 1 ] || { echo "trace.sh FOLDER [WORDS OF FIND..]" >&2; exit 2; }
 folder=$(CDPATH= cd -- "$1" && pwd -P) || exit 1
 shift
