@@ -9,3 +9,4 @@ pub mod TokenLemmas
 pub mod ReadLemmas
 pub mod LineLemmas
 pub mod Sharing
+pub mod ReadBack

@@ -38,11 +38,11 @@ led_blank {text} {rest} {s} {b} led is =
 abbrev pub placed : List ℕ → ℕ → List ℕ → Front → PlacedToken
 placed text b rest front = record { offset = length text - length (b ∷ rest); token = front.token }
 
-one_read : (n : ℕ) (s : SelectState) (t : PlacedToken) (rest : List PlacedToken) → read_tokens n s (t ∷ rest) ≡ (read_placed s t >>= λ next. read_tokens n next rest)
+pub one_read : (n : ℕ) (s : SelectState) (t : PlacedToken) (rest : List PlacedToken) → read_tokens n s (t ∷ rest) ≡ (read_placed s t >>= λ next. read_tokens n next rest)
 unfolding read_tokens
 one_read n s t rest = refl
 
-none_read : (n : ℕ) (s : SelectState) → read_tokens n s [] ≡ (at_offset n (refuse (not (may_end s.place s)) Unexpected) >> Ok s)
+pub none_read : (n : ℕ) (s : SelectState) → read_tokens n s [] ≡ (at_offset n (refuse (not (may_end s.place s)) Unexpected) >> Ok s)
 unfolding read_tokens
 none_read n s = refl
 

@@ -10,3 +10,4 @@ pub mod Levels
 pub mod Reading
 pub mod States
 pub mod Lines
+pub mod Spelled

@@ -8,6 +8,7 @@ mod column;
 mod condition;
 mod fault;
 mod formula;
+mod laws;
 mod level;
 mod open_levels;
 mod operator;
@@ -24,6 +25,7 @@ mod token;
 mod word;
 
 pub use fault::{SelectError, SelectKind};
+pub use laws::conditions_read_back;
 pub use projection::select_text;
 pub use reading::read_select;
 pub use select::Select;
