@@ -26,7 +26,7 @@ fn principal_of(alloc: Global, uid: u32, gids: &Nums) -> Result<Principal, Alloc
     let groups = Vec::from_slice(alloc, gids.as_slice())?;
     Ok(Principal {
         uid,
-        groups: Groups::of(groups),
+        groups: Groups::indexed(alloc, groups)?,
     })
 }
 

@@ -1,4 +1,5 @@
+pub mod Folds
 pub mod Isolation
 pub mod Pieces
-pub mod Walked
 pub mod StartRow
+pub mod Walked

@@ -28,6 +28,7 @@ use Rattle.gufi_tree.proofs.Flat.{lists_at-own, is_prefix-append, is_prefix-rest
 use Rattle.gufi_tree.proofs.RowHomes.{Has-IsPermutation}
 use Rattle.gufi_tree.proofs.FoundStart.{IsFoundPlace}
 use Rattle.gufi_tree.proofs.Linked.{path_at-get}
+use Rattle.gufi_tree.proofs.Resolving.{depth_within}
 use Rattle.gufi_sums.specs.Total.{NoneMeets}
 use Rattle.gufi_roll.specs.CanRoll.{can_roll}
 use Rattle.gufi_snap.specs.Pieces.{front, piece, kids}
@@ -93,7 +94,7 @@ module _ (tree : List Directory) (who : Principal) where
     pub split : IsPermutation (front tree who start limit) (done ++ fronts_at limit todo)
     pub each : AllByRecursion (IsOpen start) todo
 
-filtered_fewer : {X : Type 0} (p : X → Bool) (xs : List X) → length (filter p xs) ≤ length xs
+pub filtered_fewer : {X : Type 0} (p : X → Bool) (xs : List X) → length (filter p xs) ≤ length xs
 filtered_fewer p xs = omega (arith, length-filter p xs, count_by-le-length p xs)
 
 -- a filter of a reversed list
@@ -122,6 +123,13 @@ pub rows-more : (tree : List Directory) (limit : ℕ) (met : Row → Bool) (done
 rows-more tree limit met done path =
     let P : Components → List Row = λ p. piece tree p limit in
     ap (filter met) (flat_map-append P done (path ∷ []) ∙ ap (λ l. flat_map P done ++ l) (append-nil (P path))) ∙ filter-append met (flat_map P done) (P path)
+
+-- a directory has no more names than its place says
+pub depth_at-place : (tree : List Directory) → HasTreeShape tree → (k : ℕ) → k < length tree → length (path_at tree k) ≤ k
+depth_at-place [] shape k within = absurd (omega arith)
+depth_at-place (d ∷ ds) shape k within =
+    let depth = depth_within (d ∷ ds) shape (k + 1) k d (omega arith) within in
+    omega (arith, ap length (path_at-get (d ∷ ds) k d within))
 
 module _ (tree : List Directory) (who : Principal) (shape : HasTreeShape tree) where
   at_place : (k : ℕ) → k < length tree → (d : Directory) × Has tree d × (d.path ≡ path_at tree k)
@@ -304,6 +312,12 @@ module _ (tree : List Directory) (who : Principal) (shape : HasTreeShape tree) w
       walk_less more e =
           let next = IsWalk-more more e in
           omega (arith, length_permutation _ _ walk.split, length_permutation _ _ next.split, length-append done (fronts_at tree who limit todo), length-append (done ++ path_at tree id.0 ∷ []) (fronts_at tree who limit more), length-append done (path_at tree id.0 ∷ []))
+
+      -- what is done and the place where the walk is are within the front
+      pub walk_left : length done + 1 ≤ length (front tree who start limit)
+      walk_left =
+          let p : Components = path_at tree id.0 in
+          omega (arith, length_permutation _ _ next_split, length-append (done ++ p ∷ []) (fronts_at tree who limit (rest ++ reverse (kid_ids tree who p limit))), length-append done (p ∷ []))
 
       pub walk_deep : length start ≤ length (path_at tree id.0)
       walk_deep = let r = is_prefix-rest start (path_at tree id.0) walk_last.below in omega (arith, ap length r.1, length-append start r.0)

@@ -5,6 +5,7 @@ ghost use Rattle.gufi_base.specs.declared.record.Row.{Row};
 ghost use Rattle.gufi_access.specs.Access.{can_list};
 ghost use Rattle.gufi_tree.specs.Places.{path_at};
 ghost use Rattle.gufi_tree.specs.Resolve.{resolve};
+ghost use Rattle.gufi_tree.specs.Tree.{HasTreeShape};
 ghost use Rattle.gufi_sums.specs.declared.summary.Summary.{Summary as SeenSummary};
 ghost use Rattle.gufi_sums.specs.Total.{total};
 ghost use Rattle.gufi_snap.specs.Pieces.{front, piece};
@@ -16,7 +17,7 @@ use gufi_access::{Principal, lists};
 use gufi_base::{Memory, Path, Pred, Steps, Yield};
 use gufi_snap::Snapshot;
 use gufi_sums::{Skip, Summary};
-use gufi_tree::{DirId, Resolved};
+use gufi_tree::{DirId, Resolved, Tree};
 use std::alloc::{AllocError, Global};
 use std::marker::Brand;
 use std::sync::ledger::{Blank, Ledger};
@@ -111,15 +112,13 @@ fn visit<P: Pred, Y: Yield, S: Skip, L: Ledger>(
     snap.scan_piece(alloc, id, pred, above, out, steps)
 }
 
-/// How many components a path has, where that is a number of 32 bits.
-fn depth_of(path: &Path) -> Result<u32, Memory>
-    ensures { IfOk result (λ depth. depth ≡ length path.now) }
+/// How many components the path of a directory has: no more than there are directories before it.
+fn depth_of(tree: &Tree, id: DirId) -> u32
+    requires within { id.0 < length tree.now }
+    requires shape { HasTreeShape tree.now }
+    ensures { result ≡ length (path_at tree.now id.0) }
 {
-    let depth = path.depth();
-    if depth > u32::MAX as usize {
-        return Err(Memory);
-    }
-    Ok(depth as u32)
+    tree.path(id).depth() as u32
 }
 
 /// The rows that the principal lists from a directory on and that meet the question.
@@ -136,11 +135,11 @@ fn answer_from<P: Pred, Y: Yield, S: Skip, L: Ledger>(
     requires listed { lists_at snap.now.tree who.now (path_at snap.now.tree start.0) ≡ true }
     requires query { (row : Row) (depth : ℕ) → P.sat pred.now row depth ≡ true → S.query skip.now row depth ≡ true }
     ensures rows { IfOk result (λ y. Y.stands_for y (answer snap.now.tree who.now (path_at snap.now.tree start.0) (P.sat pred.now))) }
-    ensures at_most { OnOk result (steps.new ≤ steps.old + length (front snap.now.tree who.now (path_at snap.now.tree start.0) snap.now.limit)) }
+    ensures at_most { steps.new ≤ steps.old + length (front snap.now.tree who.now (path_at snap.now.tree start.0) snap.now.limit) }
     ensures exact { OnOk result (((sum : SeenSummary) → S.skips skip.now sum ≡ false)
         → steps.new ≡ steps.old + length (front snap.now.tree who.now (path_at snap.now.tree start.0) snap.now.limit)) }
 {
-    let above = depth_of(snap.tree().path(start))?;
+    let above = depth_of(snap.tree(), start);
     let mut out = Y::none(alloc)?;
     let mut todo = list_of(alloc, start)?;
     while let Some(id) = todo.pop() {
@@ -152,7 +151,8 @@ fn answer_from<P: Pred, Y: Yield, S: Skip, L: Ledger>(
 
 /// The rows that the principal gets who walks from the start and that meet the question, or the refusal of the start.
 ///
-/// It takes the directories in path order. Cost: the pieces of the front, and nothing else of the tree.
+/// It takes the directories in path order. Cost: the pieces of the front, and nothing else of the tree; a start that is
+/// refused costs no step.
 pub fn answer_alone<P: Pred, Y: Yield, S: Skip, L: Ledger>(
     alloc: Global,
     snap: &Snapshot,
@@ -166,7 +166,8 @@ pub fn answer_alone<P: Pred, Y: Yield, S: Skip, L: Ledger>(
     ensures rows { IfOk result (λ y. Y.stands_for y (answer snap.now.tree who.now start.now (P.sat pred.now))) }
     ensures found { OnOk result (refusal_of (resolve snap.now.tree who.now start.now) ≡ None) }
     ensures refusal { IfErr result (λ refusal. refusal ≢ Refusal.Memory → refusal_of (resolve snap.now.tree who.now start.now) ≡ Some refusal) }
-    ensures at_most { OnOk result (steps.new ≤ steps.old + length (front snap.now.tree who.now start.now snap.now.limit)) }
+    ensures refused { IfErr result (λ refusal. refusal ≢ Refusal.Memory → steps.new ≡ steps.old) }
+    ensures at_most { steps.new ≤ steps.old + length (front snap.now.tree who.now start.now snap.now.limit) }
     ensures exact { OnOk result (((sum : SeenSummary) → S.skips skip.now sum ≡ false)
         → steps.new ≡ steps.old + length (front snap.now.tree who.now start.now snap.now.limit)) }
 {

@@ -9,7 +9,7 @@ mod laws;
 mod refusal;
 
 pub use descent::{answer_alone, answer_uncounted};
-pub use laws::answers_are_private;
+pub use laws::{answers_are_private, folds_hold_the_answer};
 pub use refusal::Refusal;
 
 #[cfg(test)]

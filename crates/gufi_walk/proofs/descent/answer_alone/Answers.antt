@@ -38,3 +38,10 @@ returns-in_ok-answer_from-in-Found-clause-exact g c = λ h.
     let place = found_place_of_start c.args.snap.now.tree c.args.who.now c.args.start.now c.in-Found.id c.tree.ensures.shape found in
     let P : Components → Type 0 = λ p. c.answer_from.new.steps ≡ c.args.steps.now + length (front c.args.snap.now.tree c.args.who.now p c.args.snap.now.limit) in
     subst P place.path (c.in_ok-answer_from-in-Found.ensures.exact h)
+
+pub returns-in_err-answer_from-in-Found-clause-at_most : goal.returns-in_err-answer_from-in-Found-clause-at_most
+returns-in_err-answer_from-in-Found-clause-at_most g c =
+    let found = sym (c.in-Found.ensures ∙ ap (λ (ds : List Directory). resolve ds c.args.who.now c.args.start.now) c.tree.ensures.tree) in
+    let place = found_place_of_start c.args.snap.now.tree c.args.who.now c.args.start.now c.in-Found.id c.tree.ensures.shape found in
+    let P : Components → Type 0 = λ p. c.answer_from.new.steps ≤ c.args.steps.now + length (front c.args.snap.now.tree c.args.who.now p c.args.snap.now.limit) in
+    subst P place.path c.in_err-answer_from-in-Found.ensures.at_most

@@ -8,7 +8,7 @@ use Rattle.gufi_tree.specs.Places.{path_at}
 use Rattle.gufi_snap.specs.Pieces.{piece}
 use Rattle.gufi_walk.specs.Answer.{answer}
 use Rattle.gufi_walk.specs.Walk.{meets}
-use Rattle.gufi_walk.proofs.Walked.{IsWalk, IsWalk-start, IsWalk-more, IsWalk-all, IsOpenTop-at, walk_last, walk_deep, walk_room, walk_less, rows-more, answer-by_walk}
+use Rattle.gufi_walk.proofs.Walked.{IsWalk, IsWalk-start, IsWalk-more, IsWalk-all, IsOpenTop-at, walk_last, walk_deep, walk_room, walk_less, walk_left, rows-more, answer-by_walk}
 use Rattle.gufi_walk.proofs.descent.answer_from.Goals as goal
 
 pub loop-id-init : goal.loop-id-init
@@ -30,8 +30,7 @@ visit-requires-clause-id g c κs within =
 
 pub visit-requires-clause-above : goal.visit-requires-clause-above
 visit-requires-clause-above g c κs within =
-    let start : c.path.result.now ≡ path_at c.args.snap.now.tree c.args.start.0 = c.path.ensures ∙ ap (λ (ds : List Directory). path_at ds c.args.start.0) c.tree.ensures.tree in
-    omega (arith, c.in_ok-above.ensures, ap length start, walk_deep c.args.snap.now.tree c.args.who.now c.tree.ensures.shape c.args.snap.now.limit _ _ _ _ _ c.loop-id.invariant.1.walk c.in-Some.ensures.items)
+    omega (arith, c.depth_of-above.ensures, ap (λ (ds : List Directory). length (path_at ds c.args.start.0)) c.tree.ensures.tree, walk_deep c.args.snap.now.tree c.args.who.now c.tree.ensures.shape c.args.snap.now.limit _ _ _ _ _ c.loop-id.invariant.1.walk c.in-Some.ensures.items)
 
 pub visit-requires-clause-room : goal.visit-requires-clause-room
 visit-requires-clause-room g c κs within =
@@ -41,7 +40,7 @@ visit-requires-clause-room g c κs within =
     omega (
       arith,
       law _ _ c.loop-id.invariant.1.rows,
-      walk_room snap.tree c.args.who.now c.tree.ensures.shape snap.limit _ _ _ _ _ c.loop-id.invariant.1.walk c.in-Some.ensures.items top (meets (g.P.Pred.sat c.args.pred.now) c.in_ok-above.above),
+      walk_room snap.tree c.args.who.now c.tree.ensures.shape snap.limit _ _ _ _ _ c.loop-id.invariant.1.walk c.in-Some.ensures.items top (meets (g.P.Pred.sat c.args.pred.now) c.depth_of-above.result),
       c.tree.ensures.few,
     )
 
@@ -59,7 +58,7 @@ loop-id-preserved g c =
     let done : List Components = c.loop-id.invariant.0 in
     let inv = c.loop-id.invariant.1 in
     let path : Components = path_at snap.tree c.in-Some.id.0 in
-    let met = meets (g.P.Pred.sat c.args.pred.now) c.in_ok-above.above in
+    let met = meets (g.P.Pred.sat c.args.pred.now) c.depth_of-above.result in
     let old : List Row = filter met (flat_map (λ p. piece snap.tree p snap.limit) done) in (
       done ++ path ∷ [],
       record {
@@ -78,8 +77,7 @@ returns-clause-rows g c =
     let done : List Components = c.loop-id.invariant.0 in
     let law = (g.met.Y.Yield g.world.𝓛 g.world.𝓜 g.world.𝓡 (λ s x. x, λ x. x, λ x. x, λ x. x)).reordered in
     let top = IsOpenTop-at snap.tree c.args.who.now c.tree.ensures.shape c.args.start.0 c.requires.start c.requires.listed in
-    let path : c.path.result.now ≡ start = c.path.ensures ∙ ap (λ (ds : List Directory). path_at ds c.args.start.0) c.tree.ensures.tree in
-    let rows = subst (λ n. g.Y.Yield.stands_for c.loop-id.out (filter (meets sat n) (flat_map (λ p. piece snap.tree p snap.limit) done))) (c.in_ok-above.ensures ∙ ap length path) c.loop-id.invariant.1.rows in
+    let rows = subst (λ n. g.Y.Yield.stands_for c.loop-id.out (filter (meets sat n) (flat_map (λ p. piece snap.tree p snap.limit) done))) (c.depth_of-above.ensures ∙ ap (λ (ds : List Directory). length (path_at ds c.args.start.0)) c.tree.ensures.tree) c.loop-id.invariant.1.rows in
     law c.loop-id.out (filter (meets sat (length start)) (flat_map (λ p. piece snap.tree p snap.limit) done)) (answer snap.tree c.args.who.now start sat)
     (answer-by_walk snap.tree c.args.who.now c.tree.ensures.shape snap.limit start top done c.loop-id.todo.items c.loop-id.invariant.1.walk (omega (arith, c.loop-id.todo.ok.0, c.in_default.ensures.cases)) sat) rows
 
@@ -94,3 +92,13 @@ returns-clause-exact g c = λ h.
     let snap = c.args.snap.now in
     let all = IsWalk-all snap.tree c.args.who.now c.tree.ensures.shape snap.limit (path_at snap.tree c.args.start.0) c.loop-id.invariant.0 c.loop-id.todo.items c.loop-id.invariant.1.walk (omega (arith, c.loop-id.todo.ok.0, c.in_default.ensures.cases)) in
     omega (arith, c.loop-id.invariant.1.exact h, length_permutation _ _ all)
+
+pub returns-in_err-visit-clause-at_most : goal.returns-in_err-visit-clause-at_most
+returns-in_err-visit-clause-at_most g c =
+    let left = walk_left c.args.snap.now.tree c.args.who.now c.tree.ensures.shape c.args.snap.now.limit _ _ _ _ _ c.loop-id.invariant.1.walk c.in-Some.ensures.items in
+    omega (arith, c.loop-id.invariant.1.at_most, c.visit.ensures.at_most)
+
+pub returns-in_err-push_kids-clause-at_most : goal.returns-in_err-push_kids-clause-at_most
+returns-in_err-push_kids-clause-at_most g c =
+    let left = walk_left c.args.snap.now.tree c.args.who.now c.tree.ensures.shape c.args.snap.now.limit _ _ _ _ _ c.loop-id.invariant.1.walk c.in-Some.ensures.items in
+    omega (arith, c.loop-id.invariant.1.at_most, c.visit.ensures.at_most)

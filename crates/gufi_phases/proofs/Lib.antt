@@ -1,0 +1,5 @@
+pub mod Rows
+pub mod Publishing
+pub mod Interleaving
+pub mod Gathered
+pub mod Sessions
