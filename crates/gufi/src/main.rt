@@ -46,3 +46,6 @@ fn main(rt: HostRuntime) -> ExitCode {
     );
     ExitCode::from(outcome.status)
 }
+
+#[cfg(test)]
+mod tests;
