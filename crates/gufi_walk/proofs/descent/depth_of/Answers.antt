@@ -1,4 +1,4 @@
-use Rattle.std.proofs.Common.{◌∙◌, length, ap, arith}
+use Rattle.std.proofs.Common.{length, ap, arith}
 use Rattle.gufi_walk.proofs.Walked.{depth_at-place}
 use Rattle.gufi_walk.proofs.descent.depth_of.Goals as goal
 
