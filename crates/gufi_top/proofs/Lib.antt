@@ -5,3 +5,5 @@ pub mod StepLemmas
 pub mod QueryLemmas
 pub mod AskLemmas
 pub mod SummaryLemmas
+pub mod GenLemmas
+pub mod TraceImages

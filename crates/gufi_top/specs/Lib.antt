@@ -6,3 +6,4 @@ pub mod Calls
 pub mod Views
 pub mod Fed
 pub mod Starts
+pub mod Laws

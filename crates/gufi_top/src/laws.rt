@@ -1,7 +1,27 @@
 //! Laws of what is written.
 ghost use Rattle.gufi_top.specs.Asks.{AsksArePrivate};
+ghost use Rattle.gufi_top.specs.Laws.{GenIsNeverRefused, TracesComeBackFromImages};
+
+use gufi_gen::generated_traces_are_read;
+use gufi_image::written_images_read_back;
+use gufi_trace::traces_mean_sound_trees;
 
 /// To one who can't tell two trees apart by what may be listed, each command writes the same of both.
 pub fn asks_are_private()
     ensures { AsksArePrivate }
 {}
+
+/// `gen` is never refused behind its words: a generated trace is read, and its root may be listed.
+pub fn gen_is_never_refused()
+    ensures { GenIsNeverRefused }
+{
+    generated_traces_are_read();
+}
+
+/// The image of a trace's tree means that tree, where no path is too long.
+pub fn traces_come_back_from_images()
+    ensures { TracesComeBackFromImages }
+{
+    traces_mean_sound_trees();
+    written_images_read_back();
+}

@@ -31,5 +31,5 @@ mod users;
 mod walk;
 mod words;
 
-pub use laws::asks_are_private;
+pub use laws::{asks_are_private, gen_is_never_refused, traces_come_back_from_images};
 pub use run::{Outcome, gufi_run};
