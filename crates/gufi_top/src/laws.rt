@@ -6,7 +6,7 @@ use gufi_gen::generated_traces_are_read;
 use gufi_image::written_images_read_back;
 use gufi_trace::traces_mean_sound_trees;
 
-/// To one who can't tell two trees apart by what may be listed, each command writes the same of both.
+/// To one who can't tell two trees apart by what may be listed, each ask has one reply in both.
 pub fn asks_are_private()
     ensures { AsksArePrivate }
 {}
