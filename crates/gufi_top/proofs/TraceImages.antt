@@ -1,5 +1,5 @@
 -- The image of a trace's tree is read back.
-use Rattle.std.proofs.Common.{◌≡◌, ◌≢◌, true, false, not, ◌||◌, List, [], ap, sym, ◌∙◌, ⊎_elim}
+use Rattle.std.proofs.Common.{◌≡◌, ◌≢◌, true, not, [], ap, sym, ◌∙◌, ⊎_elim}
 use Rattle.std.specs.List.{flat_map, list_all}
 use Rattle.std.proofs.lemmas.Bool.{or_cases, false≢true}
 use Rattle.gufi_base.specs.Words.{is_empty}
