@@ -69,6 +69,10 @@ macro_rules! table {
             "rollup" "--limit=N [OPTION].. INDEX"
                 "the image under a limit, and on standard error what is rolled up"
                 [$index] [("--limit" "=N" "how many rows may be rolled up into one piece; must be given") $delim]
+            "session" "[OPTION].. SCRIPT"
+                "the replies to the asks of a script, whose commands publish indexes meanwhile"
+                [("SCRIPT" "a line for each command and ask; docs/guide.md has them")]
+                [$passwd $group $delim $workers $now]
             "gen" "[OPTION].. N"
                 "a generated trace"
                 [("N" "the number of directories, 1 to 200,000")]

@@ -14,7 +14,7 @@ fn sink_of(alloc: Global, bad_writes: &[u64]) -> Result<MemSink, AllocError> {
 }
 
 // A run over no files: what is printed begins with a text.
-fn check<R: AllocGlobal + Abort + Threads + Wait>(
+fn check<R: AllocGlobal + Abort + Threads + Wait + Sync>(
     rt: &R,
     words: &[&str],
     bad_writes: &[u64],
@@ -53,7 +53,14 @@ fn pages_are_shown_and_all_else_is_a_run(rt: HostRuntime) -> Result<(), Fail> {
     check(&rt, &["help"], &[], 0, usage, none)?;
     check(&rt, &["--version"], &[], 0, b"gufi 0.1.0\n", none)?;
     check(&rt, &["find", "--help"], &[], 0, b"usage: gufi find ", none)?;
-    check(&rt, &["ls", "-h"], &[], 0, b"usage: gufi ls ", none)?;
+    check(
+        &rt,
+        &["session", "-h"],
+        &[],
+        0,
+        b"usage: gufi session ",
+        none,
+    )?;
     check(
         &rt,
         &["--man"],

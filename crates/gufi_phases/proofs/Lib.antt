@@ -3,3 +3,4 @@ pub mod Publishing
 pub mod Interleaving
 pub mod Gathered
 pub mod Sessions
+pub mod Loads

@@ -1,13 +1,16 @@
-//! Phases: publishing commands in one thread, beside lanes of asks that each pin once; and sessions, which are phases in a row.
+//! Phases: publishing commands in one thread, beside lanes of asks that each pin once; and sessions, in which phases are loaded
+//! from a shelf, carried out, and written to a sink, one before the next.
 //!
-//! Contracts see a phase as its acts in order. Commands and questions say by traits what they publish and what is replied, so
-//! nothing here knows a snapshot; what a visitor may see is a number, and the text is told by the numbers that the pins gave.
-//! It stands on `gufi_hub`; the sessions of scripts stand on it.
+//! Contracts see a phase as its acts in order, and a plan as what its phases come to over the files of the shelf. Commands and
+//! questions say by traits what they publish and what is replied, so nothing here knows a snapshot; what a visitor may see is a
+//! number, and the text is told by the numbers that the pins gave.
+//! It stands on `gufi_hub` and `gufi_io`; the sessions of scripts stand on it.
 #![tactic(auto)]
 
 mod act;
 mod answer;
 mod lane;
+mod load;
 mod phase;
 mod publish;
 mod replies;
@@ -15,8 +18,9 @@ mod session;
 mod visitors;
 
 pub use act::{Act, Command, Made, Question};
+pub use load::{Load, LoadFault, Stop};
 pub use phase::{Phase, run_phase};
-pub use session::{Session, ask_count, command_count, run_session};
+pub use session::{End, Ended, run_session};
 
 #[cfg(test)]
 mod tests;

@@ -1,13 +1,15 @@
-//! Two phases worked by hand: the numbers that a reply may bear, and the order of what is written.
-ghost use Rattle.std.specs.Prelude.{◌≡◌, ◌<◌, ◌^◌, ◌%◌, ◌∷◌, [], Ok, IsTrue};
-ghost use Rattle.gufi_phases.specs.Sessions.{act_count};
+//! Two phases worked by hand: the numbers that a reply may bear, the order of what is written, and how a session ends early.
+ghost use Rattle.std.specs.Prelude.{◌≡◌, ◌%◌, ◌∷◌, [], Ok, length, ok_or, option_map, IfOk};
+ghost use Rattle.gufi_phases.specs.declared.act.Act.TheVariants.{Publish, Ask};
 
-use crate::{Act, Command, Made, Question, run_session};
-use gufi_base::{Items, Memory};
-use gufi_io::NoGate;
+use crate::{Act, Command, End, Ended, Load, LoadFault, Made, Question, Stop, run_session};
+use gufi_base::{Memory, Text};
+use gufi_io::{MemShelf, MemSink, NoGate, ReadError, Shelf, names_differ, read_all};
 use std::alloc::Global;
-use std::sync::Arc;
+use std::process::Abort;
+use std::sync::{Arc, Wait};
 use std::test::Fail;
+use std::thread::Threads;
 
 /// Publishes a number.
 #[derive(Drop)]
@@ -33,12 +35,14 @@ impl Command<u64> for Put {
     }
 }
 
-/// Is answered by the number alone.
+/// Is answered by its mark and the number.
 #[derive(Drop)]
-struct Which;
+struct Which {
+    mark: u8,
+}
 
 impl Question<u64> for Which {
-    ghost reply = { λ _ _ n _. n % 256 ∷ [] };
+    ghost reply = { λ q _ n _. q.mark ∷ n % 256 ∷ [] };
 
     fn reply_at(
         &self,
@@ -47,79 +51,141 @@ impl Question<u64> for Which {
         number: u64,
         _item: &u64,
     ) -> Result<Vec<u8>, Memory> {
-        Ok(vec![in alloc; (number % 256) as u8]?)
+        Ok(vec![in alloc; self.mark, (number % 256) as u8]?)
     }
 
     fn reply_to_none(&self, alloc: Global, _ask: u32) -> Result<Vec<u8>, Memory> {
-        Ok(vec![in alloc; 0]?)
+        Ok(vec![in alloc; self.mark, 0]?)
     }
 }
 
-fn are_few(phases: &[Items<Act<Put, Which>>]) -> bool
-    ensures { IsTrue result → act_count phases.now < 2 ^ 30 }
-{
-    let mut total = 0u64;
-    for acts in phases {
-        let count = acts.as_slice().len();
-        if count > 100 || total > 1000 {
-            return false;
+/// Asks lane 1 and another one, publishes the length of a file, and asks lane 1 again.
+#[derive(Drop)]
+struct Planned {
+    file: String,
+    lane: u32,
+}
+
+impl<F: Shelf> Load<Put, Which, F> for Planned {
+    ghost use Rattle.std.specs.String.{string_bytes};
+    ghost use Rattle.gufi_phases.specs.declared.act.Act.TheVariants.{Publish, Ask};
+    ghost use Rattle.gufi_phases.specs.declared.load.Stop.TheVariants.{NoFile};
+
+    ghost loaded = { λ p files. ok_or (option_map (λ bytes. Ask 1 (record { mark = 97 }) ∷ Ask p.lane (record { mark = 98 }) ∷ Publish (record { value = length bytes }) ∷ Ask 1 (record { mark = 99 }) ∷ []) (files (string_bytes p.file))) (NoFile (string_bytes p.file)) };
+
+    ghost size = { λ _. 4 };
+
+    fn load(&self, alloc: Global, shelf: &mut F) -> Result<Vec<Act<Put, Which>>, LoadFault> {
+        match read_all(alloc, shelf, self.file.as_str(), 8) {
+            Ok(bytes) => match four_acts(alloc, self.lane, bytes.len() as u64) {
+                Ok(acts) => Ok(acts),
+                Err(Memory) => Err(LoadFault::Memory),
+            },
+            Err(ReadError::NoFile) => Err(LoadFault::Stopped {
+                stop: Stop::NoFile {
+                    file: Text::of(String::from_str(alloc, self.file.as_str())?),
+                },
+            }),
+            Err(ReadError::ReadFault) => Err(LoadFault::ReadFault),
+            Err(_) => Err(LoadFault::Memory),
         }
-        total = total + count as u64;
     }
-    total < 2000
+}
+
+fn four_acts(alloc: Global, lane: u32, value: u64) -> Result<Vec<Act<Put, Which>>, Memory>
+    ensures { IfOk result (λ acts. acts.items ≡ Ask 1 (record { mark = 97 }) ∷ Ask lane (record { mark = 98 }) ∷ Publish (record { value = value }) ∷ Ask 1 (record { mark = 99 }) ∷ []) }
+{
+    Ok(vec![in alloc;
+        Act::Ask {
+            lane: 1,
+            question: Which { mark: b'a' }
+        },
+        Act::Ask {
+            lane,
+            question: Which { mark: b'b' }
+        },
+        Act::Publish {
+            command: Put { value }
+        },
+        Act::Ask {
+            lane: 1,
+            question: Which { mark: b'c' }
+        },
+    ]?)
+}
+
+/// Runs a phase over the file `a`, and one over `b`.
+fn run_two<R: Threads + Wait + Sync + Abort>(
+    rt: &R,
+    alloc: Global,
+    held: Vec<(String, Vec<u8>)>,
+    bad_writes: Vec<u64>,
+) -> Result<(Ended, MemSink), Fail> {
+    assert!(rt; names_differ(&held));
+    let mut shelf = MemShelf::new(held, 2, Vec::new(alloc), Vec::new(alloc));
+    let mut out = MemSink::new(vec![in alloc; 0; 32]?, 32, bad_writes);
+    let first = Planned {
+        file: String::from_str(alloc, "a")?,
+        lane: 2,
+    };
+    let second = Planned {
+        file: String::from_str(alloc, "b")?,
+        lane: 3,
+    };
+    let plan = [first, second];
+    let ended = run_session::<u64, Put, Which, MemShelf, Planned, MemSink, NoGate, R>(
+        rt, alloc, &NoGate, &plan, &mut shelf, &mut out,
+    );
+    Ok((ended, out))
+}
+
+/// The files of those names, of two bytes each.
+fn files(alloc: Global, names: &[&str]) -> Result<Vec<(String, Vec<u8>)>, Fail> {
+    let mut files = Vec::new(alloc);
+    for name in names {
+        files.push((String::from_str(alloc, *name)?, vec![in alloc; 1, 2]?))?;
+    }
+    Ok(files)
 }
 
 #[test]
 fn numbers_fit_their_phases(rt: HostRuntime) -> Result<(), Fail> {
     let alloc = rt.alloc();
-    let first = vec![in alloc;
-        Act::Publish {
-            command: Put { value: 5 }
-        },
-        Act::Ask {
-            lane: 1,
-            question: Which
-        },
-        Act::Ask {
-            lane: 2,
-            question: Which
-        },
-        Act::Publish {
-            command: Put { value: 6 }
-        },
-    ]?;
-    let second = vec![in alloc;
-        Act::Ask {
-            lane: 1,
-            question: Which
-        },
-        Act::Ask {
-            lane: 3,
-            question: Which
-        },
-        Act::Publish {
-            command: Put { value: 7 }
-        },
-        Act::Ask {
-            lane: 1,
-            question: Which
-        },
-    ]?;
-    let phases = vec![in alloc; Items::of(first), Items::of(second)]?;
-    if !are_few(&phases) {
-        panic!(rt; "many");
-    }
-    let Ok(session) = run_session::<u64, Put, Which, NoGate, HostRuntime>(
-        &rt, alloc, &NoGate, &phases,
-    ) else {
-        panic!(rt; "no memory");
+    let (ended, out) = run_two(&rt, alloc, files(alloc, &["a", "b"])?, Vec::new(alloc))?;
+    assert!(rt; matches!(&ended.end, End::Done));
+    let numbers = &ended.numbers;
+    assert_eq!(rt; numbers.len(), 6);
+    assert!(rt; numbers[0] <= numbers[2] && numbers[1] <= 1 && numbers[2] <= 1);
+    assert!(rt; numbers[3] >= 1 && numbers[4] >= 1 && numbers[5] >= numbers[3] && numbers[5] <= 2);
+    let text = out.taken();
+    assert_eq!(rt; text.len(), 14);
+    assert!(rt; text[0] == b'a' && text[1] as u64 == numbers[0] && text[2] == b'b');
+    assert!(rt; text[4] == b'p' && text[12] == b'c' && text[13] as u64 == numbers[5]);
+    Ok(())
+}
+
+#[test]
+fn ends_at_a_file_that_is_not_held(rt: HostRuntime) -> Result<(), Fail> {
+    let alloc = rt.alloc();
+    let (ended, out) = run_two(&rt, alloc, files(alloc, &["a"])?, Vec::new(alloc))?;
+    let End::Stopped {
+        stop: Stop::NoFile { file },
+    } = &ended.end
+    else {
+        panic!(rt; "not ended by a file");
     };
-    assert!(rt; session.whole);
-    let numbers = &session.numbers;
-    assert_eq!(rt; numbers.len(), 5);
-    assert!(rt; numbers[0] <= 2 && numbers[1] <= 2);
-    assert!(rt; numbers[2] >= 2 && numbers[3] >= 2 && numbers[4] >= numbers[2] && numbers[4] <= 3);
-    assert_eq!(rt; session.text.len(), 8);
-    assert!(rt; session.text[1] as u64 == numbers[0] && session.text[7] as u64 == numbers[4]);
+    assert_eq!(rt; file.as_str(), "b");
+    assert_eq!(rt; ended.numbers.len(), 3);
+    assert_eq!(rt; out.taken().len(), 7);
+    Ok(())
+}
+
+#[test]
+fn a_write_fails(rt: HostRuntime) -> Result<(), Fail> {
+    let alloc = rt.alloc();
+    let (ended, out) = run_two(&rt, alloc, files(alloc, &["a", "b"])?, vec![in alloc; 2]?)?;
+    assert!(rt; matches!(&ended.end, End::WriteFault));
+    assert_eq!(rt; ended.numbers.len(), 6);
+    assert_eq!(rt; out.taken().len(), 7);
     Ok(())
 }

@@ -1,2 +1,3 @@
 pub mod ReadLemmas
+mod Sound
 mod Worked

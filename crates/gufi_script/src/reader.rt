@@ -1,8 +1,8 @@
 //! Scripts line by line.
-ghost use Rattle.std.specs.Prelude.{◌≡◌, ◌≢◌, ◌≤◌, Ok, Err, IfOk, OnOk, IfErr};
+ghost use Rattle.std.specs.Prelude.{◌≡◌, ◌≢◌, ◌≤◌, Ok, Err, IfOk, OnOk, IfErr, IsTrue};
 ghost use Rattle.gufi_base.specs.Words.{GivesUnless, result_map_err};
 ghost use Rattle.gufi_script.specs.Faults.{error_at};
-ghost use Rattle.gufi_script.specs.ScriptText.{publishing_count, is_publishing, is_comment, is_skipped_line, read_line, with_act, with_script_line, read_script};
+ghost use Rattle.gufi_script.specs.ScriptText.{publishing_count, is_publishing, is_comment, is_skipped_line, read_line, with_act, with_script_line, read_script, is_script};
 
 use crate::act::{Act, Script};
 use crate::fault::{LineFault, ScriptError, ScriptKind};
@@ -115,9 +115,10 @@ fn at_line(number: u32, fault: LineFault) -> ScriptError
 /// The acts of a script, or the first fault of its least faulty line.
 ///
 /// Users and queries aren't judged. A few allocations a line, and time in proportion to the bytes.
-#[tactic(auto, unfolding(crate::specs::ScriptText::read_script), using(crate::proofs::ReadLemmas::lines_more, crate::proofs::ReadLemmas::lines_stop, crate::proofs::ReadLemmas::lines_done))]
+#[tactic(auto, unfolding(crate::specs::ScriptText::read_script), using(crate::proofs::ReadLemmas::lines_more, crate::proofs::ReadLemmas::lines_stop, crate::proofs::ReadLemmas::lines_done, crate::proofs::Sound::read_is_script))]
 pub fn read_script(alloc: Global, bytes: &[u8]) -> Result<Script, ScriptError>
-    ensures { GivesUnless ScriptError.Memory result (read_script bytes.now) }
+    ensures acts { GivesUnless ScriptError.Memory result (read_script bytes.now) }
+    ensures sound { IfOk result (λ script. IsTrue (is_script script)) }
 {
     let mut acts = Acts {
         placed: Vec::new(alloc),

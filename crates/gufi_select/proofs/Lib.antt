@@ -9,4 +9,5 @@ pub mod TokenLemmas
 pub mod ReadLemmas
 pub mod LineLemmas
 pub mod Sharing
+pub mod Sending
 pub mod ReadBack

@@ -1,16 +1,14 @@
 -- Lemmas on what a command asks of one tree.
 use Rattle.std.proofs.Common.{◌≡◌, ◌≢◌, ℕ, ◌<◌, ◌≤◌, true, not, List, [], ◌∷◌, length, get_or, refl, sym, ap, ◌∙◌, subst, arith}
-use Rattle.std.specs.Prelude.{Bool, Option, Some, None, Result, Ok, Err, IfOk, OnOk, IfErr, filter, Vec}
+use Rattle.std.specs.Prelude.{Bool, Option, Some, None, Result, Ok, Err, filter, Vec}
 use Rattle.std.specs.declared.alloc.Global.{Global}
-use Rattle.std.specs.List.Sorted.{IsPermutation}
 use Rattle.std.specs.List.{flat_map}
 use Rattle.std.proofs.lemmas.List.{append-nil}
 use Rattle.std.proofs.lemmas.List.Filters.{length-filter_both}
 use Rattle.gufi_base.specs.declared.record.Row.{Row}
-use Rattle.gufi_base.specs.Words.{◌>>=◌, ascends}
+use Rattle.gufi_base.specs.Words.{◌>>=◌}
 use Rattle.gufi_base.specs.Paths.{Components, path_eq}
-use Rattle.gufi_base.specs.Rows.{row_cmp, home, depth_below}
-use Rattle.gufi_base.specs.PathLines.{path_lines, ArePathsOf}
+use Rattle.gufi_base.specs.Rows.{home, depth_below}
 use Rattle.gufi_access.specs.declared.class.Principal.{Principal}
 use Rattle.gufi_tree.specs.Tree.{Directory, all_rows, dir_row, may_list, HasTreeShape}
 use Rattle.gufi_tree.specs.Listed.{is_listed}
@@ -29,7 +27,6 @@ use Rattle.gufi_list.specs.Texts.{stat_text}
 use Rattle.gufi_walk.specs.declared.refusal.Refusal.{Refusal}
 use Rattle.gufi_walk.specs.Answer.{answer, listed_rows, refusal_of, rows_or}
 use Rattle.gufi_walk.proofs.Isolation.{alike_replies}
-use Rattle.gufi_walk.proofs.Pieces.{answer-ascends}
 use Rattle.gufi_walk.proofs.StartRow.{start_row}
 use Rattle.gufi_walk.specs.declared.refusal.Refusal.TheVariants as refusals
 use Rattle.gufi_top.specs.declared.halt.Text.{Text}
@@ -77,26 +74,7 @@ pub replies_refused : (tree : List Directory) (who : Principal) (start : Compone
     → (refusal ≢ refusals.Memory → refusal_of (resolve tree who start) ≡ Some refusal) → Replies (Err refusal) (ask_reply tree who start ask)
 replies_refused tree who start ask refusal is = λ other. reply_refused tree who start ask refusal (is other)
 
--- what a call returned, of which all is known
-pub replies_as : (tree : List Directory) (who : Principal) (start : Components) (ask : Ask) (r : Result (Vec ℕ Global) Refusal)
-    → IfOk r (λ text. text.items ≡ ask_text ask start (answer tree who start (ask_holds ask))) → OnOk r (refusal_of (resolve tree who start) ≡ None)
-    → IfErr r (λ refusal. refusal ≢ refusals.Memory → refusal_of (resolve tree who start) ≡ Some refusal) → Replies r (ask_reply tree who start ask)
-replies_as tree who start ask (Ok text) is found refused = replies_found tree who start ask text found is
-replies_as tree who start ask (Err refusal) is found refused = replies_refused tree who start ask refusal refused
-
--- ---- the answer's rows ascend, so what is given of every ascending list is given of them
-
-pub lines_of_answer : (tree : List Directory) (who : Principal) (start : Components) (asks : Row → ℕ → Bool) (paths : List Components) (text : List ℕ) → HasTreeShape tree
-    → ArePathsOf paths (answer tree who start asks) → ((rows : List Row) → ArePathsOf paths rows → ascends row_cmp rows ≡ true → text ≡ path_lines rows)
-    → text ≡ path_lines (answer tree who start asks)
-lines_of_answer tree who start asks paths text shape are given = given (answer tree who start asks) are (answer-ascends tree shape who start asks)
-
-pub rows_of_answer : (tree : List Directory) (who : Principal) (start : Components) (asks : Row → ℕ → Bool) (kept rows : List Row) → HasTreeShape tree
-    → IsPermutation kept (answer tree who start asks) → ((other : List Row) → IsPermutation kept other → ascends row_cmp other ≡ true → rows ≡ other)
-    → rows ≡ answer tree who start asks
-rows_of_answer tree who start asks kept rows shape are given = given (answer tree who start asks) are (answer-ascends tree shape who start asks)
-
--- there are no more of them than rows
+-- an answer has no more rows than its tree
 filter-few : (p : Row → Bool) (rows : List Row) → length (filter p rows) ≤ length rows
 filter-few p rows = let parts = length-filter_both p (λ row. not (p row)) (λ row. refl) rows in omega (arith, parts)
 

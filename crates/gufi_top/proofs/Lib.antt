@@ -1,6 +1,8 @@
 pub mod ReadingLemmas
 pub mod IndexLemmas
 pub mod RunLemmas
+pub mod EndLemmas
+pub mod SessionLemmas
 pub mod StepLemmas
 pub mod QueryLemmas
 pub mod AskLemmas

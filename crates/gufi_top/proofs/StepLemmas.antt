@@ -5,8 +5,7 @@ use Rattle.std.specs.declared.alloc.Global.{Global}
 use Rattle.gufi_io.specs.Files.{Files}
 use Rattle.gufi_base.specs.Words.{◌>>=◌}
 use Rattle.gufi_users.specs.Entries.{PasswdEntry, GroupEntry, UserTables}
-use Rattle.gufi_top.specs.Verdict.{Verdict, not_open}
-use Rattle.gufi_top.specs.Reasons.{Reason, word_refused, optional_file, passwd_within, group_within, passwd_in, group_in, tables_with, tables_beside, tables_in}
+use Rattle.gufi_top.specs.Reasons.{Reason, optional_file, passwd_within, group_within, passwd_in, group_in, tables_with, tables_beside, tables_in}
 use Rattle.gufi_top.specs.Calls.{Gives, GivesOver, HaltHasCause, IsOfBytes}
 use Rattle.gufi_top.specs.Views.{bytes_view}
 use Rattle.gufi_top.specs.declared.halt.Halt.{Halt}
@@ -46,10 +45,6 @@ over_err (Some files) view seen e first next read =
 pub given_over : {A B : Type 0} (told : Option Files) (view : A → B) (r : Result A Halt) (step : Result B Reason) → Gives view r step → GivesOver told view r (λ files. step)
 given_over None view r step given = tt
 given_over (Some files) view r step given = given
-
--- a command that isn't open
-pub not_open_given : {A : Type 0} (told : Option Files) (view : A → Verdict) (r : Result A Halt) → Gives view r (Err (word_refused 1)) → GivesOver told view r not_open
-not_open_given told view r given = given_over told view r _ given
 
 -- ---- causes
 

@@ -1,11 +1,13 @@
 -- How a run may end: its status and numbers, what the output took, and the note.
-use Rattle.std.specs.Prelude.{◌≡◌, ◌≢◌, ◌⊎◌, ℕ, List, [], codes, ⊤, Option, Some, None, Result, Ok, Err}
+use Rattle.std.specs.Prelude.{◌≡◌, ◌≢◌, ◌⊎◌, ℕ, List, [], codes, ⊤, Option, Some, None, option_map, Result, Ok, Err}
 use Rattle.std.specs.Io.KnownBytes.{Appends}
 use Rattle.gufi_io.specs.Causes.{Rose}
 use Rattle.gufi_io.specs.Files.{Files, TakesFront}
 use Rattle.gufi_base.specs.Words.{line}
-use Rattle.gufi_top.specs.Reasons.{Reason}
-use Rattle.gufi_top.specs.Verdict.{Verdict, writes, verdict}
+use Rattle.gufi_phases.specs.declared.load.Stop.{Stop}
+use Rattle.gufi_session.specs.Ends.{AnsweredWhole, AnsweredInPart}
+use Rattle.gufi_top.specs.Reasons.{Reason, stop_reason}
+use Rattle.gufi_top.specs.Verdict.{Verdict, writes, runs, verdict}
 
 abbrev pub read_fault_note : List ℕ
 read_fault_note = line (codes "gufi: read fault")
@@ -22,34 +24,45 @@ IsVerdictStatus status = (status ≢ 3) × (status ≢ 4) × (status ≢ 7)
 
 -- ---- by the verdict: the status, the numbers, the text and the note
 
--- where nothing failed
+-- a session ends with status 0, or for the file of a phase at which it ends
+abbrev pub RunEnds : Option Stop → ℕ → List ℕ → Type 0
+RunEnds None status note = (status ≡ 0) × (note ≡ [])
+RunEnds (Some stop) status note = (status ≡ (stop_reason stop).status) × (note ≡ (stop_reason stop).note)
+
+-- where nothing failed; of a session all phases are answered, up to that at whose files it ends
 abbrev pub EndsWith : Result Verdict Reason → ℕ → List ℕ → List ℕ → List ℕ → Type 0
 EndsWith (Err why) status numbers text note = (status ≡ why.status) × (numbers ≡ []) × (text ≡ []) × (note ≡ why.note)
 EndsWith (Ok (writes whole)) status numbers text note = (status ≡ 0) × (numbers ≡ []) × (text ≡ whole.out) × (note ≡ whole.notes)
+EndsWith (Ok (runs files run)) status numbers text note = AnsweredWhole files run numbers text × RunEnds run.stop status note
 
--- where reading failed or memory ran out: nothing was written
+-- where reading failed or memory ran out: nothing was written, or the first phases of a session
 abbrev pub BreaksOff : Result Verdict Reason → List ℕ → List ℕ → Type 0
 BreaksOff (Err why) numbers text = (numbers ≡ []) × (text ≡ [])
 BreaksOff (Ok (writes whole)) numbers text = (numbers ≡ []) × (text ≡ [])
+BreaksOff (Ok (runs files run)) numbers text = AnsweredInPart files run numbers text
 
 -- where writing failed: of which text a front was taken, and which note was to come with status 0
 abbrev pub IsCut : Result Verdict Reason → List ℕ → List ℕ → List ℕ → Type 0
 IsCut (Err why) numbers text note = ⊥
 IsCut (Ok (writes whole)) numbers text note = (numbers ≡ []) × (text ≡ whole.out) × (note ≡ whole.notes)
+IsCut (Ok (runs files run)) numbers text note = AnsweredInPart files run numbers text × (note ≡ [])
 
--- ---- the same of what the words ask of the files, where the shelf tells them
+-- ---- the same of a verdict that is given where the shelf tells its files
 
-abbrev pub MayEnd : Option Files → List (List ℕ) → ℕ → List ℕ → List ℕ → List ℕ → Type 0
-MayEnd None words status numbers text note = ⊤
-MayEnd (Some files) words status numbers text note = EndsWith (verdict words files) status numbers text note
+abbrev pub told_verdict : Option Files → List (List ℕ) → Option (Result Verdict Reason)
+told_verdict told words = option_map (verdict words) told
 
-abbrev pub MayBreakOff : Option Files → List (List ℕ) → List ℕ → List ℕ → Type 0
-MayBreakOff None words numbers text = ⊤
-MayBreakOff (Some files) words numbers text = BreaksOff (verdict words files) numbers text
+abbrev pub MayEnd : Option (Result Verdict Reason) → ℕ → List ℕ → List ℕ → List ℕ → Type 0
+MayEnd None status numbers text note = ⊤
+MayEnd (Some given) status numbers text note = EndsWith given status numbers text note
 
-abbrev pub MayBeCut : Option Files → List (List ℕ) → List ℕ → List ℕ → List ℕ → Type 0
-MayBeCut None words numbers text note = ⊤
-MayBeCut (Some files) words numbers text note = IsCut (verdict words files) numbers text note
+abbrev pub MayBreakOff : Option (Result Verdict Reason) → List ℕ → List ℕ → Type 0
+MayBreakOff None numbers text = ⊤
+MayBreakOff (Some given) numbers text = BreaksOff given numbers text
+
+abbrev pub MayBeCut : Option (Result Verdict Reason) → List ℕ → List ℕ → List ℕ → Type 0
+MayBeCut None numbers text note = ⊤
+MayBeCut (Some given) numbers text note = IsCut given numbers text note
 
 -- ---- what the two sinks took
 
@@ -57,27 +70,30 @@ MayBeCut (Some files) words numbers text note = IsCut (verdict words files) numb
 abbrev pub TakesNote : Option (List ℕ) → Option (List ℕ) → ℕ → ℕ → List ℕ → Type 0
 TakesNote old new faults faults' note = Appends old new note ⊎ (Rose faults faults' × TakesFront old new note)
 
--- by the verdict: status 0's note was taken whole, and a refusal's as a note is
+-- by the verdict: the note of a text was taken whole, and any other as a note is
 abbrev pub IsNoted : Result Verdict Reason → Option (List ℕ) → Option (List ℕ) → ℕ → ℕ → List ℕ → Type 0
 IsNoted (Err why) old new faults faults' note = TakesNote old new faults faults' note
 IsNoted (Ok (writes whole)) old new faults faults' note = Appends old new note
+IsNoted (Ok (runs files run)) old new faults faults' note = TakesNote old new faults faults' note
 
-abbrev pub MayBeNoted : Option Files → List (List ℕ) → Option (List ℕ) → Option (List ℕ) → ℕ → ℕ → List ℕ → Type 0
-MayBeNoted None words old new faults faults' note = TakesNote old new faults faults' note
-MayBeNoted (Some files) words old new faults faults' note = IsNoted (verdict words files) old new faults faults' note
+abbrev pub MayBeNoted : Option (Result Verdict Reason) → Option (List ℕ) → Option (List ℕ) → ℕ → ℕ → List ℕ → Type 0
+MayBeNoted None old new faults faults' note = TakesNote old new faults faults' note
+MayBeNoted (Some given) old new faults faults' note = IsNoted given old new faults faults' note
+
+-- ---- ends by a verdict that may be given
 
 -- the whole text was taken, and its note
-pub record Ended (told : Option Files) (words : List (List ℕ)) (status : ℕ) (numbers : List ℕ) (out out' notes notes' : Option (List ℕ)) (faults faults' : ℕ) : Type 0 where
+pub record EndedBy (given : Option (Result Verdict Reason)) (status : ℕ) (numbers : List ℕ) (out out' notes notes' : Option (List ℕ)) (faults faults' : ℕ) : Type 0 where
   pub text : List ℕ
   pub note : List ℕ
-  pub answer : MayEnd told words status numbers text note
+  pub answer : MayEnd given status numbers text note
   pub taken : Appends out out' text
-  pub noted : MayBeNoted told words notes notes' faults faults' note
+  pub noted : MayBeNoted given notes notes' faults faults' note
 
 -- the run broke off, and this note was taken
-pub record BrokenOff (told : Option Files) (words : List (List ℕ)) (numbers : List ℕ) (out out' notes notes' : Option (List ℕ)) (faults faults' : ℕ) (note : List ℕ) : Type 0 where
+pub record BrokenOffBy (given : Option (Result Verdict Reason)) (numbers : List ℕ) (out out' notes notes' : Option (List ℕ)) (faults faults' : ℕ) (note : List ℕ) : Type 0 where
   pub text : List ℕ
-  pub answer : MayBreakOff told words numbers text
+  pub answer : MayBreakOff given numbers text
   pub taken : Appends out out' text
   pub noted : TakesNote notes notes' faults faults' note
 
@@ -87,9 +103,20 @@ pub record TextEnds (out out' notes notes' : Option (List ℕ)) (out_faults out_
   pub taken : TakesFront out out' text
   pub noted : TakesNote notes notes' faults faults' write_fault_note ⊎ (Rose faults faults' × TakesFront notes notes' report)
 
--- the same of the text that the words ask for
-pub record WriteFaulted (told : Option Files) (words : List (List ℕ)) (numbers : List ℕ) (out out' notes notes' : Option (List ℕ)) (out_faults out_faults' faults faults' : ℕ) : Type 0 where
+-- the same of the text that is asked for
+pub record WriteFaultedBy (given : Option (Result Verdict Reason)) (numbers : List ℕ) (out out' notes notes' : Option (List ℕ)) (out_faults out_faults' faults faults' : ℕ) : Type 0 where
   pub text : List ℕ
   pub report : List ℕ
-  pub answer : MayBeCut told words numbers text report
+  pub answer : MayBeCut given numbers text report
   pub ends : TextEnds out out' notes notes' out_faults out_faults' faults faults' text report
+
+-- ---- the same of what the words ask of the files
+
+abbrev pub Ended : Option Files → List (List ℕ) → ℕ → List ℕ → Option (List ℕ) → Option (List ℕ) → Option (List ℕ) → Option (List ℕ) → ℕ → ℕ → Type 0
+Ended told words = EndedBy (told_verdict told words)
+
+abbrev pub BrokenOff : Option Files → List (List ℕ) → List ℕ → Option (List ℕ) → Option (List ℕ) → Option (List ℕ) → Option (List ℕ) → ℕ → ℕ → List ℕ → Type 0
+BrokenOff told words = BrokenOffBy (told_verdict told words)
+
+abbrev pub WriteFaulted : Option Files → List (List ℕ) → List ℕ → Option (List ℕ) → Option (List ℕ) → Option (List ℕ) → Option (List ℕ) → ℕ → ℕ → ℕ → ℕ → Type 0
+WriteFaulted told words = WriteFaultedBy (told_verdict told words)

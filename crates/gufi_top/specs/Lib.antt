@@ -2,6 +2,7 @@ pub mod Reasons
 pub mod Asks
 pub mod Verdict
 pub mod Ends
+pub mod Endings
 pub mod Calls
 pub mod Views
 pub mod Fed

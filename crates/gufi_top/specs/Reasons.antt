@@ -3,10 +3,8 @@ use Rattle.std.specs.Prelude.{ℕ, ◌+◌, nat_lt, Bool, true, false, List, [],
 use Rattle.std.specs.Bool.{nat_eq}
 use Rattle.std.specs.List.{starts_with}
 use Rattle.gufi_io.specs.Files.{Files}
-use Rattle.gufi_base.specs.Limits.{max_trace, max_image, max_users}
+use Rattle.gufi_base.specs.Limits.{max_trace, max_image, max_users, max_script}
 use Rattle.gufi_base.specs.Words.{line, capped_number, ◌>>=◌, ◌>>◌, refuse, result_map_err}
-use Rattle.gufi_access.specs.declared.class.Class.{Class}
-use Rattle.gufi_access.specs.declared.class.Class.TheVariants.{Owner, Group, Other}
 use Rattle.gufi_tree.specs.Tree.{Directory}
 use Rattle.gufi_snap.specs.Snap.{Snap}
 use Rattle.gufi_image.specs.Bytes.{magic}
@@ -18,6 +16,7 @@ use Rattle.gufi_image.specs.declared.fault.ImageError.{ImageError}
 use Rattle.gufi_image.specs.declared.fault.ImageError.TheVariants as image_errors
 use Rattle.gufi_walk.specs.declared.refusal.Refusal.{Refusal}
 use Rattle.gufi_walk.specs.declared.refusal.Refusal.TheVariants as refusals
+use Rattle.gufi_walk.specs.Refusals.{refusal_text}
 use Rattle.gufi_trace.specs.declared.fault.TraceKind.{TraceKind}
 use Rattle.gufi_trace.specs.declared.fault.TraceKind.TheVariants as kinds
 use Rattle.gufi_trace.specs.declared.fault.TraceError.TheVariants as errors
@@ -35,6 +34,13 @@ use Rattle.gufi_select.specs.declared.fault.SelectError.TheVariants as select_er
 use Rattle.gufi_select.specs.Faults.{select_kind_text}
 use Rattle.gufi_words.specs.declared.word.WordError.{WordError}
 use Rattle.gufi_words.specs.declared.word.WordError.TheVariants as word_errors
+use Rattle.gufi_script.specs.declared.fault.ScriptKind.{ScriptKind}
+use Rattle.gufi_script.specs.declared.fault.ScriptKind.TheVariants as scripts
+use Rattle.gufi_script.specs.declared.fault.ScriptError.{ScriptError}
+use Rattle.gufi_script.specs.declared.fault.ScriptError.TheVariants as script_errors
+use Rattle.gufi_script.specs.ScriptText.{PlacedAct, read_script, script_kind_text}
+use Rattle.gufi_phases.specs.declared.load.Stop.{Stop}
+use Rattle.gufi_phases.specs.declared.load.Stop.TheVariants as stops
 use Rattle.gufi_trace.specs.TraceText.{trace_means, TraceFailure, of_line, of_tree, failure_text}
 
 -- a status other than 0, and its note
@@ -82,6 +88,30 @@ user_limit (users.TooMany limit) = Some limit
 unfoldable pub user_reason : List ℕ → UserError → Reason
 user_reason file (user_errors.Fault number kind) = limit_or file (line_refused file (decimal number ++ codes " " ++ user_kind_text kind)) (user_limit kind)
 user_reason file user_errors.Memory = no_memory
+
+-- ---- the faults of a session's script, and of the files of its phases
+
+abbrev pub script_limit : ScriptKind → Option ℕ
+script_limit scripts.Escape = None
+script_limit scripts.Verb = None
+script_limit scripts.Count = None
+script_limit scripts.Number = None
+script_limit scripts.Lane = None
+script_limit scripts.Path = None
+script_limit scripts.File = None
+script_limit scripts.Form = None
+script_limit scripts.User = None
+script_limit scripts.Query = None
+script_limit (scripts.TooMany limit) = Some limit
+
+unfoldable pub script_reason : List ℕ → ScriptError → Reason
+script_reason file (script_errors.Fault number kind) = limit_or file (line_refused file (decimal number ++ codes " " ++ script_kind_text kind)) (script_limit kind)
+script_reason file script_errors.Memory = no_memory
+
+-- why a session ends at a file of a phase
+abbrev pub stop_reason : Stop → Reason
+stop_reason (stops.NoFile file) = not_found file
+stop_reason (stops.TooLong file) = past_limit file max_trace
 
 -- ---- a trace's faults
 
@@ -144,24 +174,13 @@ select_reason user_at select_errors.Memory = no_memory
 
 -- ---- a start that can't be walked from
 
-abbrev pub class_text : Class → List ℕ
-class_text Owner = codes "owner"
-class_text Group = codes "group"
-class_text Other = codes "other"
-
-abbrev pub denied : ℕ → Class → Reason
-denied depth class = reason 1 (codes "denied at depth " ++ decimal depth ++ codes " class " ++ class_text class)
-
-abbrev pub no_such : ℕ → Reason
-no_such depth = reason 1 (codes "no such at depth " ++ decimal depth)
-
-abbrev pub not_dir : ℕ → Reason
-not_dir depth = reason 1 (codes "not a directory at depth " ++ decimal depth)
+abbrev pub start_refused : Refusal → Reason
+start_refused refusal = reason 1 (refusal_text refusal)
 
 abbrev pub start_reason : Refusal → Reason
-start_reason (refusals.Denied depth class) = denied depth class
-start_reason (refusals.NoSuch depth) = no_such depth
-start_reason (refusals.NotDir depth) = not_dir depth
+start_reason (refusals.Denied depth class) = start_refused (refusals.Denied depth class)
+start_reason (refusals.NoSuch depth) = start_refused (refusals.NoSuch depth)
+start_reason (refusals.NotDir depth) = start_refused (refusals.NotDir depth)
 start_reason refusals.Memory = no_memory
 
 -- ---- files
@@ -202,6 +221,13 @@ tables_beside users group files = group_in group files >>= tables_with users
 
 unfoldable pub tables_in : Option (List ℕ) → Option (List ℕ) → Files → Result UserTables Reason
 tables_in passwd group files = passwd_in passwd files >>= λ users. tables_beside users group files
+
+-- the acts of a script, each with its line
+abbrev pub acts_within : List ℕ → List ℕ → Result (List PlacedAct) Reason
+acts_within script bytes = result_map_err (script_reason script) (read_script bytes)
+
+unfoldable pub acts_in : List ℕ → Files → Result (List PlacedAct) Reason
+acts_in script files = file_in max_script script files >>= acts_within script
 
 -- the tree that the bytes of a trace mean
 unfoldable pub tree_within : ℕ → List ℕ → List ℕ → Result (List Directory) Reason

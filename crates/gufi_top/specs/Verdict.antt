@@ -1,4 +1,4 @@
--- What the words and the files come to: a reason with its status and note, or a text.
+-- What the words and the files come to: a reason with its status and note, a text, or the run of a session.
 use Rattle.std.specs.Prelude.{ℕ, ℤ, Bool, true, false, List, [], ◌∷◌, ◌++◌, Option, ok_or, Result, Ok, Err, if◌then◌else◌, codes}
 use Rattle.gufi_io.specs.Files.{Files}
 use Rattle.gufi_base.specs.Words.{◌>>=◌, result_map_err}
@@ -19,13 +19,16 @@ use Rattle.gufi_gen.specs.Generated.{gen_text}
 use Rattle.gufi_roll.specs.CanRoll.{roll_flags, roll_report, report_text}
 use Rattle.gufi_image.specs.Image.{image_text}
 use Rattle.gufi_walk.specs.declared.refusal.Refusal.{Refusal}
+use Rattle.gufi_script.specs.ScriptText.{PlacedAct}
+use Rattle.gufi_plan.specs.Plan.{Setting, Plan, plan}
+use Rattle.gufi_session.specs.Run.{Run, run_of}
 use Rattle.gufi_words.specs.CommandWords.{read_words}
 use Rattle.gufi_words.specs.declared.command.ReportWord.{ReportWord}
 use Rattle.gufi_words.specs.declared.command.ReportWord.TheVariants as report_words
 use Rattle.gufi_words.specs.declared.command.Common.{Common}
 use Rattle.gufi_words.specs.declared.command.Command.{Command}
 use Rattle.gufi_words.specs.declared.command.Command.TheVariants as commands
-use Rattle.gufi_top.specs.Reasons.{Reason, word_refused, words_reason, find_reason, select_reason, start_reason, tables_in, trace_in, tree_within, index_in}
+use Rattle.gufi_top.specs.Reasons.{Reason, word_refused, words_reason, find_reason, select_reason, script_reason, start_reason, tables_in, acts_in, trace_in, tree_within, index_in}
 use Rattle.gufi_top.specs.Asks.{Ask, walk_ask, find_ask, ls_ask, stat_ask, stats_ask, total_ask, query_ask, ask_reply}
 
 -- what goes to the output, and the note of status 0
@@ -33,8 +36,10 @@ pub record Written : Type 0 where
   pub out : List ℕ
   pub notes : List ℕ
 
+-- a text, or the run of a session over the files
 pub data Verdict : Type 0 where
   writes : Written → Verdict
+  runs : Files → Run → Verdict
 
 abbrev pub writes_only : List ℕ → Result Verdict Reason
 writes_only text = Ok (writes (record { out = text; notes = [] }))
@@ -118,6 +123,24 @@ rolled_up limit tree = Ok (writes (record { out = image_text tree limit; notes =
 unfoldable pub rollup_over : List ℕ → ℕ → ℕ → Files → Result Verdict Reason
 rollup_over index delim limit files = index_in delim limit index files >>= λ snap. rolled_up limit snap.tree
 
+-- ---- session: the phases of a script, whose users and queries are judged, in line order, behind its own faults
+
+abbrev pub plan_with : Setting → List ℕ → List PlacedAct → Result Plan Reason
+plan_with setting script acts = result_map_err (script_reason script) (plan setting acts)
+
+unfoldable pub script_plan : Setting → List ℕ → Files → Result Plan Reason
+script_plan setting script files = acts_in script files >>= plan_with setting script
+
+unfoldable pub session_plan : Option (List ℕ) → Option (List ℕ) → ℕ → Option ℤ → List ℕ → Files → Result Plan Reason
+session_plan passwd group delim now script files =
+    tables_in passwd group files >>= λ tables. script_plan (record { tables = tables; now = now; delim = delim }) script files
+
+abbrev pub run_over : Plan → Files → Result Verdict Reason
+run_over planned files = Ok (runs files (run_of files planned))
+
+unfoldable pub session_over : Option (List ℕ) → Option (List ℕ) → ℕ → Option ℤ → List ℕ → Files → Result Verdict Reason
+session_over passwd group delim now script files = session_plan passwd group delim now script files >>= λ planned. run_over planned files
+
 -- ---- gen: the trace of n directories, or what a run over it comes to
 
 -- the total of all that a principal lists, behind his name
@@ -146,10 +169,7 @@ gen_verdict n delim summary = if summary then summary_over n delim else writes_o
 abbrev pub gen_over : ℕ → ℕ → Bool → Files → Result Verdict Reason
 gen_over n delim summary files = gen_verdict n delim summary
 
--- ---- each command; one whose work hasn't come is refused at its name
-
-abbrev pub not_open : Files → Result Verdict Reason
-not_open files = Err (word_refused 1)
+-- ---- each command
 
 unfoldable pub command_over : Command → Files → Result Verdict Reason
 command_over (commands.Walk trace uid gids delim) = walk_over trace (principal uid gids) delim
@@ -160,8 +180,21 @@ command_over (commands.Find common now words) = ask_over common (find_asking com
 command_over (commands.Ls common long all) = ask_over common (ls_asking long all)
 command_over (commands.Stat common) = ask_over common stat_asking
 command_over (commands.Stats common report) = ask_over common (stats_asking (report_of report))
-command_over (commands.Session passwd group delim workers now script) = not_open
+command_over (commands.Session passwd group delim workers now script) = session_over passwd group delim now script
 command_over (commands.Gen n delim workers summary) = gen_over n delim summary
+
+-- a command whose whole text is made before it is written
+abbrev pub is_one_shot : Command → Bool
+is_one_shot (commands.Walk trace uid gids delim) = true
+is_one_shot (commands.Trace2index trace delim) = true
+is_one_shot (commands.Rollup index delim limit) = true
+is_one_shot (commands.Query common text) = true
+is_one_shot (commands.Find common now words) = true
+is_one_shot (commands.Ls common long all) = true
+is_one_shot (commands.Stat common) = true
+is_one_shot (commands.Stats common report) = true
+is_one_shot (commands.Session passwd group delim workers now script) = false
+is_one_shot (commands.Gen n delim workers summary) = true
 
 -- ---- the verdict
 
@@ -172,7 +205,7 @@ command_in words = result_map_err words_reason (read_words words)
 unfoldable pub verdict : List (List ℕ) → Files → Result Verdict Reason
 verdict words files = command_in words >>= λ command. command_over command files
 
--- The words may be refused: they are no command, or one that isn't open, or one that has a USER.
+-- The words may be refused: they are no command, or one that has a USER.
 abbrev pub may_refuse : Command → Bool
 may_refuse (commands.Walk trace uid gids delim) = false
 may_refuse (commands.Trace2index trace delim) = false
@@ -182,7 +215,7 @@ may_refuse (commands.Find common now words) = true
 may_refuse (commands.Ls common long all) = true
 may_refuse (commands.Stat common) = true
 may_refuse (commands.Stats common report) = true
-may_refuse (commands.Session passwd group delim workers now script) = true
+may_refuse (commands.Session passwd group delim workers now script) = false
 may_refuse (commands.Gen n delim workers summary) = false
 
 abbrev pub may_refuse_read : Result Command Reason → Bool

@@ -1,76 +1,24 @@
 //! What a command asks of one tree, and what it writes of the answer.
-ghost use Rattle.std.specs.Prelude.{◌≡◌, ◌≢◌, ◌<◌, ◌++◌, true, length, slice_index_or, Ok, Err, Some, None, IfOk, IfErr, OnOk};
-ghost use Rattle.gufi_base.specs.PathLines.{path_lines};
-ghost use Rattle.gufi_sums.specs.Total.{total};
-ghost use Rattle.gufi_tree.specs.Tree.{Directory, HasTreeShape, dir_row};
+ghost use Rattle.std.specs.Prelude.{◌≡◌, ◌≢◌, ◌<◌, length, slice_index_or, Some, IfOk, IfErr};
+ghost use Rattle.gufi_tree.specs.Tree.{Directory, dir_row};
 ghost use Rattle.gufi_tree.specs.Resolve.{resolve};
-ghost use Rattle.gufi_walk.specs.Answer.{answer, refusal_of};
+ghost use Rattle.gufi_walk.specs.Answer.{refusal_of};
 ghost use Rattle.gufi_top.specs.Asks.{walk_ask, find_ask, ls_ask, stat_ask, stats_ask, total_ask, query_ask, total_line, ask_reply};
 ghost use Rattle.gufi_top.specs.Calls.{Replies};
 ghost use Rattle.gufi_top.specs.Starts.{StartsWithRow};
 
 use gufi_access::Principal;
-use gufi_base::{Always, Bytes, Memory, Path, PathList, Pred, Rec, Row, RowList};
+use gufi_base::{Always, Bytes, Memory, Path, Rec, Row};
 use gufi_find::FindExpr;
 use gufi_list::{OneBelow, ls_text, stat_text, total_text};
 use gufi_select::{Select, select_text};
 use gufi_snap::Snapshot;
 use gufi_stats::{Report, stats_text};
-use gufi_sums::{NoSkip, Summary};
+use gufi_sums::Summary;
 use gufi_tree::{DirId, Resolved, Tree};
 use gufi_users::Users;
-use gufi_walk::{Refusal, answer_uncounted};
+use gufi_walk::{Refusal, answer_lines, answer_rows, answer_sum};
 use std::alloc::{AllocError, Global};
-
-/// The paths of the rows that the principal lists from the start and that meet the question, a line each, in path order.
-fn paths_text<P: Pred>(
-    alloc: Global,
-    snap: &Snapshot,
-    who: &Principal,
-    start: &Path,
-    pred: &P,
-) -> Result<Vec<u8>, Refusal>
-    ensures text { IfOk result (λ text. text.items ≡ path_lines (answer snap.now.tree who.now start.now (P.sat pred.now))) }
-    ensures found { OnOk result (refusal_of (resolve snap.now.tree who.now start.now) ≡ None) }
-    ensures refusal { IfErr result (λ refusal. refusal ≢ Refusal.Memory → refusal_of (resolve snap.now.tree who.now start.now) ≡ Some refusal) }
-{
-    let _tree = snap.tree();
-    match answer_uncounted::<P, PathList, NoSkip>(alloc, snap, who, start, pred, &NoSkip) {
-        Ok(paths) => Ok(paths.lines(alloc)?),
-        Err(refusal) => Err(refusal),
-    }
-}
-
-/// The rows that the principal lists from the start and that meet the question, in path order.
-fn rows_of<P: Pred>(
-    alloc: Global,
-    snap: &Snapshot,
-    who: &Principal,
-    start: &Path,
-    pred: &P,
-) -> Result<Vec<Row>, Refusal>
-    ensures rows { IfOk result (λ rows. rows.items ≡ answer snap.now.tree who.now start.now (P.sat pred.now)) }
-    ensures found { OnOk result (refusal_of (resolve snap.now.tree who.now start.now) ≡ None) }
-    ensures refusal { IfErr result (λ refusal. refusal ≢ Refusal.Memory → refusal_of (resolve snap.now.tree who.now start.now) ≡ Some refusal) }
-{
-    let _tree = snap.tree();
-    match answer_uncounted::<P, RowList, NoSkip>(alloc, snap, who, start, pred, &NoSkip) {
-        Ok(rows) => Ok(rows.sorted(alloc)?),
-        Err(refusal) => Err(refusal),
-    }
-}
-
-/// The sum of all rows that the principal lists from the start.
-fn sum_of(alloc: Global, snap: &Snapshot, who: &Principal, start: &Path) -> Result<Summary, Refusal>
-    ensures sum { IfOk result (λ sum. sum ≡ total (answer snap.now.tree who.now start.now (λ row depth. true))) }
-    ensures found { OnOk result (refusal_of (resolve snap.now.tree who.now start.now) ≡ None) }
-    ensures refusal { IfErr result (λ refusal. refusal ≢ Refusal.Memory → refusal_of (resolve snap.now.tree who.now start.now) ≡ Some refusal) }
-{
-    match answer_uncounted::<Always, Summary, NoSkip>(alloc, snap, who, start, &Always, &NoSkip) {
-        Ok(sum) => Ok(sum),
-        Err(refusal) => Err(refusal),
-    }
-}
 
 /// The paths of all rows that the principal lists from the start.
 pub(crate) fn walk_text(
@@ -81,7 +29,10 @@ pub(crate) fn walk_text(
 ) -> Result<Vec<u8>, Refusal>
     ensures { Replies result (ask_reply snap.now.tree who.now start.now walk_ask) }
 {
-    paths_text(alloc, snap, who, start, &Always)
+    match answer_lines(alloc, snap, who, start, &Always) {
+        Ok(lines) => Ok(lines.text),
+        Err(refusal) => Err(refusal),
+    }
 }
 
 /// The paths of the rows that the principal lists from the start and for which an expression is true.
@@ -94,7 +45,10 @@ pub(crate) fn find_text(
 ) -> Result<Vec<u8>, Refusal>
     ensures { Replies result (ask_reply snap.now.tree who.now start.now (find_ask expression.now)) }
 {
-    paths_text(alloc, snap, who, start, expression)
+    match answer_lines(alloc, snap, who, start, expression) {
+        Ok(lines) => Ok(lines.text),
+        Err(refusal) => Err(refusal),
+    }
 }
 
 /// The lines of `ls`: the rows one level below the start.
@@ -109,7 +63,7 @@ pub(crate) fn listing_text(
 ) -> Result<Vec<u8>, Refusal>
     ensures { Replies result (ask_reply snap.now.tree who.now start.now (ls_ask users.now long all)) }
 {
-    match rows_of(alloc, snap, who, start, &OneBelow { all }) {
+    match answer_rows(alloc, snap, who, start, &OneBelow { all }) {
         Ok(rows) => Ok(ls_text(alloc, &rows, users, long, all)?),
         Err(refusal) => Err(refusal),
     }
@@ -126,7 +80,7 @@ pub(crate) fn report_text(
     ensures { Replies result (ask_reply snap.now.tree who.now start.now (stats_ask report)) }
 {
     let _tree = snap.tree();
-    match rows_of(alloc, snap, who, start, &Always) {
+    match answer_rows(alloc, snap, who, start, &Always) {
         Ok(rows) => Ok(stats_text(alloc, &rows, start, report)?),
         Err(refusal) => Err(refusal),
     }
@@ -154,7 +108,7 @@ pub(crate) fn total_for(
 ) -> Result<Vec<u8>, Refusal>
     ensures { Replies result (ask_reply snap.now.tree who.now start.now (total_ask name.now)) }
 {
-    match sum_of(alloc, snap, who, start) {
+    match answer_sum(alloc, snap, who, start, &Always) {
         Ok(sum) => Ok(named_total(alloc, name, &sum)?),
         Err(refusal) => Err(refusal),
     }
@@ -223,7 +177,7 @@ fn record_with(
     requires { StartsWithRow snap.now.tree who.now start.now row.now }
     ensures { Replies result (ask_reply snap.now.tree who.now start.now stat_ask) }
 {
-    match sum_of(alloc, snap, who, start) {
+    match answer_sum(alloc, snap, who, start, &Always) {
         Ok(sum) => Ok(stat_text(alloc, row, &sum)?),
         Err(refusal) => Err(refusal),
     }
@@ -254,7 +208,7 @@ pub(crate) fn query_text(
 ) -> Result<Vec<u8>, Refusal>
     ensures { Replies result (ask_reply snap.now.tree who.now start.now (query_ask select.now)) }
 {
-    match rows_of(alloc, snap, who, start, select) {
+    match answer_rows(alloc, snap, who, start, select) {
         Ok(rows) => Ok(select_text(alloc, select, &rows, start)?),
         Err(refusal) => Err(refusal),
     }

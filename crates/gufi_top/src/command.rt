@@ -1,14 +1,12 @@
 //! Commands.
-ghost use Rattle.std.specs.Prelude.{◌≡◌, Err, IfErr, IfOk, IsTrue};
+ghost use Rattle.std.specs.Prelude.{◌≡◌, IfErr, IfOk, IsTrue};
 ghost use Rattle.gufi_top.specs.Views.{text_view};
 ghost use Rattle.gufi_access.specs.Access.{principal};
-ghost use Rattle.gufi_top.specs.Reasons.{word_refused};
-ghost use Rattle.gufi_top.specs.Verdict.{walk_over, command_over, may_refuse, report_of};
-ghost use Rattle.gufi_top.specs.Calls.{Gives, GivesOver, OfWordsOnlyIf, IsOfBytes, IsPastWords, HaltHasCause};
+ghost use Rattle.gufi_top.specs.Verdict.{walk_over, command_over, is_one_shot, may_refuse};
+ghost use Rattle.gufi_top.specs.Calls.{GivesOver, OfWordsOnlyIf, IsPastWords, HaltHasCause};
 
 use crate::generate::generate;
-use crate::halt::{Halt, Text, refused};
-use crate::note;
+use crate::halt::{Halt, Text};
 use crate::query::ask;
 use crate::question::{Find, Ls, Query, Stat, Stats};
 use crate::rollup::{rollup, trace2index};
@@ -16,8 +14,7 @@ use crate::walk::walk;
 use gufi_access::{Groups, Principal};
 use gufi_base::Nums;
 use gufi_io::Shelf;
-use gufi_stats::Report;
-use gufi_words::{Command, ReportWord};
+use gufi_words::Command;
 use std::alloc::{AllocError, Global};
 
 fn principal_of(alloc: Global, uid: u32, gids: &Nums) -> Result<Principal, AllocError>
@@ -49,32 +46,14 @@ fn walk_as<F: Shelf>(
     }
 }
 
-fn report_of(word: ReportWord) -> Report
-    ensures { result ≡ report_of word }
-{
-    match word {
-        ReportWord::Levels => Report::Levels,
-        ReportWord::Uids => Report::Uids,
-        ReportWord::Gids => Report::Gids,
-        ReportWord::Leaves => Report::Leaves,
-    }
-}
-
-// A command whose work hasn't come.
-fn not_open(alloc: Global) -> Result<Text, Halt>
-    ensures text { Gives text_view result (Err (word_refused 1)) }
-    ensures of_bytes { IfErr result IsOfBytes }
-{
-    refused(2, note::word_refused(alloc, 1)?)
-}
-
-/// What a command writes. One whose work hasn't come is refused at its name.
+/// What a command writes of which the whole text is made first.
 #[tactic(auto, using(crate::proofs::StepLemmas::given_over, crate::proofs::StepLemmas::cause_of_bytes), unfolding(crate::specs::Verdict::command_over))]
 pub(crate) fn answer_command<F: Shelf>(
     alloc: Global,
     command: &Command,
     shelf: &mut F,
 ) -> Result<Text, Halt>
+    requires { IsTrue (is_one_shot command.now) }
     ensures text { GivesOver (F.files shelf.old) text_view result (command_over command.now) }
     ensures words { IfErr result (OfWordsOnlyIf (IsTrue (may_refuse command.now))) }
     ensures cause { IfErr result (HaltHasCause (F.faults shelf.old) (F.faults shelf.new) (F.absents shelf.old) (F.absents shelf.new)) }
@@ -94,49 +73,19 @@ pub(crate) fn answer_command<F: Shelf>(
             delim,
             limit,
         } => rollup(alloc, shelf, index.as_str(), *delim, *limit),
-        Command::Find { common, now, words } => ask(
-            alloc,
-            shelf,
-            common,
-            &Find {
-                user_at: common.user_at,
-                moment: *now,
-                words: words.as_slice(),
-            },
-        ),
-        Command::Query { common, text } => ask(
-            alloc,
-            shelf,
-            common,
-            &Query {
-                user_at: common.user_at,
-                text: text.as_str().as_bytes(),
-            },
-        ),
-        Command::Ls { common, long, all } => ask(
-            alloc,
-            shelf,
-            common,
-            &Ls {
-                long: *long,
-                all: *all,
-            },
-        ),
+        Command::Find { common, now, words } => {
+            ask(alloc, shelf, common, &Find::of(common, *now, words))
+        }
+        Command::Query { common, text } => ask(alloc, shelf, common, &Query::of(common, text)),
+        Command::Ls { common, long, all } => ask(alloc, shelf, common, &Ls::of(*long, *all)),
         Command::Stat { common } => ask(alloc, shelf, common, &Stat),
-        Command::Stats { common, report } => ask(
-            alloc,
-            shelf,
-            common,
-            &Stats {
-                report: report_of(*report),
-            },
-        ),
+        Command::Stats { common, report } => ask(alloc, shelf, common, &Stats::of(*report)),
         Command::Gen {
             n,
             delim,
             summary,
             ..
         } => generate(alloc, *n, *delim, *summary),
-        _ => not_open(alloc),
+        Command::Session { .. } => unreachable!(),
     }
 }

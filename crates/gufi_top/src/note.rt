@@ -1,35 +1,28 @@
 //! The notes of refusals.
 ghost use Rattle.std.specs.Prelude.{◌≡◌, IfOk};
-ghost use Rattle.gufi_top.specs.Reasons.{word_refused, word_fault, text_fault, not_found, past_limit, line_refused, offset_refused, denied, no_such, not_dir, class_text};
+ghost use Rattle.gufi_top.specs.Reasons.{word_refused, word_fault, text_fault, not_found, past_limit, line_refused, offset_refused, start_refused};
 ghost use Rattle.gufi_top.specs.Ends.{read_fault_note, write_fault_note, memory_note};
 ghost use Rattle.gufi_trace.specs.TraceText.{fault_text, failure_text, of_tree};
 ghost use Rattle.std.specs.Prelude.{◌++◌, codes, decimal};
 ghost use Rattle.gufi_users.specs.Users.{user_kind_text};
+ghost use Rattle.gufi_script.specs.ScriptText.{script_kind_text};
 ghost use Rattle.gufi_roll.specs.CanRoll.{report_text};
 ghost use Rattle.gufi_image.specs.Kinds.{image_kind_text};
 ghost use Rattle.gufi_find.specs.Faults.{find_kind_text};
 ghost use Rattle.gufi_select.specs.Faults.{select_kind_text};
 ghost use Rattle.gufi_base.specs.Words.{line};
 
-use gufi_access::Class;
+use gufi_base::Memory;
 use gufi_find::FindKind;
 use gufi_image::ImageKind;
 use gufi_roll::RollReport;
+use gufi_script::ScriptKind;
 use gufi_select::SelectKind;
 use gufi_trace::{TraceFault, put_tree_fault};
 use gufi_tree::TreeFault;
 use gufi_users::UserKind;
+use gufi_walk::{Refusal, put_refusal};
 use std::alloc::{AllocError, Global};
-
-fn class_word(class: Class) -> &'static [u8]
-    ensures { result.now ≡ class_text class }
-{
-    match class {
-        Class::Owner => b"owner",
-        Class::Group => b"group",
-        Class::Other => b"other",
-    }
-}
 
 pub(crate) fn not_found(alloc: Global, file: &str) -> Result<Vec<u8>, AllocError>
     ensures { IfOk result (λ note. note.items ≡ (not_found file.now).note) }
@@ -43,25 +36,14 @@ pub(crate) fn past_limit(alloc: Global, file: &str, limit: u32) -> Result<Vec<u8
     Ok(format!(in alloc; "gufi: {file} limit {limit}\n")?.into_bytes())
 }
 
-pub(crate) fn denied(alloc: Global, depth: u32, class: Class) -> Result<Vec<u8>, AllocError>
-    ensures { IfOk result (λ note. note.items ≡ (denied depth class).note) }
+/// Why a start can't be walked from.
+pub(crate) fn start_refused(alloc: Global, refusal: Refusal) -> Result<Vec<u8>, Memory>
+    ensures { IfOk result (λ note. note.items ≡ (start_refused refusal).note) }
 {
-    let mut note = format!(in alloc; "gufi: denied at depth {depth} class ")?.into_bytes();
-    note.extend_from_slice(class_word(class))?;
+    let mut note = Vec::from_slice(alloc, b"gufi: ")?;
+    put_refusal(&mut note, refusal)?;
     note.push(b'\n')?;
     Ok(note)
-}
-
-pub(crate) fn no_such(alloc: Global, depth: u32) -> Result<Vec<u8>, AllocError>
-    ensures { IfOk result (λ note. note.items ≡ (no_such depth).note) }
-{
-    Ok(format!(in alloc; "gufi: no such at depth {depth}\n")?.into_bytes())
-}
-
-pub(crate) fn not_dir(alloc: Global, depth: u32) -> Result<Vec<u8>, AllocError>
-    ensures { IfOk result (λ note. note.items ≡ (not_dir depth).note) }
-{
-    Ok(format!(in alloc; "gufi: not a directory at depth {depth}\n")?.into_bytes())
 }
 
 pub(crate) fn word_refused(alloc: Global, word: u32) -> Result<Vec<u8>, AllocError>
@@ -134,6 +116,20 @@ pub(crate) fn user_line(
     kind: UserKind,
 ) -> Result<Vec<u8>, AllocError>
     ensures { IfOk result (λ note. note.items ≡ (line_refused file.now (decimal number ++ codes " " ++ user_kind_text kind)).note) }
+{
+    let mut note = format!(in alloc; "gufi: {file} line {number} {kind}")?.into_bytes();
+    note.push(b'\n')?;
+    Ok(note)
+}
+
+/// The line of a script that is at fault, and its fault.
+pub(crate) fn script_line(
+    alloc: Global,
+    file: &str,
+    number: u32,
+    kind: ScriptKind,
+) -> Result<Vec<u8>, AllocError>
+    ensures { IfOk result (λ note. note.items ≡ (line_refused file.now (decimal number ++ codes " " ++ script_kind_text kind)).note) }
 {
     let mut note = format!(in alloc; "gufi: {file} line {number} {kind}")?.into_bytes();
     note.push(b'\n')?;

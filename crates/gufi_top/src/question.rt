@@ -9,7 +9,7 @@ ghost use Rattle.gufi_users.specs.Entries.{UserTables};
 ghost use Rattle.gufi_top.specs.Asks.{Ask, find_ask, query_ask};
 ghost use Rattle.gufi_top.specs.Reasons.{Reason, word_fault, text_fault};
 ghost use Rattle.gufi_top.specs.Views.{text_view};
-ghost use Rattle.gufi_top.specs.Verdict.{asked, asked_if, expression_in, find_asking, ls_asking, stat_asking, stats_asking, select_in, query_asking};
+ghost use Rattle.gufi_top.specs.Verdict.{asked, asked_if, expression_in, find_asking, ls_asking, stat_asking, stats_asking, report_of, select_in, query_asking};
 ghost use Rattle.gufi_top.specs.Calls.{Gives, IsOfBytes};
 
 use crate::ask::{find_text, listing_text, query_text, record_text, report_text};
@@ -17,12 +17,13 @@ use crate::halt::{Halt, Text as Written, refused};
 use crate::note;
 use crate::start::written;
 use gufi_access::Principal;
-use gufi_base::{Bytes, Path, Text};
+use gufi_base::{Bytes, Items, Path, Text};
 use gufi_find::{FindError, FindExpr, FindKind, read_find};
 use gufi_select::{Select, SelectError, SelectKind, read_select};
 use gufi_snap::Snapshot;
 use gufi_stats::Report;
 use gufi_users::Users;
+use gufi_words::{Common, ReportWord};
 use std::alloc::{AllocError, Global};
 
 /// What a command asks of an index for a principal from a start on.
@@ -68,10 +69,10 @@ impl Question for Stat {
 #[derive(Clone, Copy)]
 pub(crate) struct Find<'a> {
     /// The number of the word USER, behind which START and the expression stand.
-    pub(crate) user_at: u32,
+    user_at: u32,
     /// From which times count back, in seconds.
-    pub(crate) moment: Option<i64>,
-    pub(crate) words: &'a [Text],
+    moment: Option<i64>,
+    words: &'a [Text],
 }
 
 // The number of a word of an expression; the last that can be told stands for all above it.
@@ -98,6 +99,18 @@ fn bytes_of(alloc: Global, words: &[Text]) -> Result<Vec<Bytes>, AllocError>
         copies.push(Bytes::from_slice(alloc, word.as_str().as_bytes())?)?;
     }
     Ok(copies)
+}
+
+impl<'a> Find<'a> {
+    pub(crate) fn of(common: &Common, moment: Option<i64>, words: &'a Items<Text>) -> Find<'a>
+        ensures { find_asking result.user_at result.moment result.words.now ≡ find_asking common.now.user_at moment words.now }
+    {
+        Find {
+            user_at: common.user_at,
+            moment,
+            words: words.as_slice(),
+        }
+    }
 }
 
 impl Find<'_> {
@@ -155,8 +168,16 @@ impl Question for Find<'_> {
 /// The rows one level below the start.
 #[derive(Clone, Copy)]
 pub(crate) struct Ls {
-    pub(crate) long: bool,
-    pub(crate) all: bool,
+    long: bool,
+    all: bool,
+}
+
+impl Ls {
+    pub(crate) fn of(long: bool, all: bool) -> Ls
+        ensures { result ≡ record { long = long; all = all } }
+    {
+        Ls { long, all }
+    }
 }
 
 impl Question for Ls {
@@ -179,7 +200,29 @@ impl Question for Ls {
 /// A report over all rows that the user lists from the start.
 #[derive(Clone, Copy)]
 pub(crate) struct Stats {
-    pub(crate) report: Report,
+    report: Report,
+}
+
+// The report that the word asks for.
+fn report_of(word: ReportWord) -> Report
+    ensures { result ≡ report_of word }
+{
+    match word {
+        ReportWord::Levels => Report::Levels,
+        ReportWord::Uids => Report::Uids,
+        ReportWord::Gids => Report::Gids,
+        ReportWord::Leaves => Report::Leaves,
+    }
+}
+
+impl Stats {
+    pub(crate) fn of(word: ReportWord) -> Stats
+        ensures { result.report ≡ report_of word }
+    {
+        Stats {
+            report: report_of(word),
+        }
+    }
 }
 
 impl Question for Stats {
@@ -203,8 +246,8 @@ impl Question for Stats {
 #[derive(Clone, Copy)]
 pub(crate) struct Query<'a> {
     /// The number of the word USER, behind which START and the text stand.
-    pub(crate) user_at: u32,
-    pub(crate) text: &'a [u8],
+    user_at: u32,
+    text: &'a [u8],
 }
 
 // The number of the word that is a query's text; the last that can be told stands for all above it.
@@ -220,6 +263,17 @@ fn refuse_text<T>(alloc: Global, word: u32, offset: u32, kind: SelectKind) -> Re
     ensures of_bytes { IfErr result IsOfBytes }
 {
     refused(2, note::select_word(alloc, word, offset, kind)?)
+}
+
+impl<'a> Query<'a> {
+    pub(crate) fn of(common: &Common, text: &'a Text) -> Query<'a>
+        ensures { query_asking result.user_at result.text.now ≡ query_asking common.now.user_at text.now }
+    {
+        Query {
+            user_at: common.user_at,
+            text: text.as_str().as_bytes(),
+        }
+    }
 }
 
 impl Query<'_> {

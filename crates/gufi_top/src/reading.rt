@@ -21,7 +21,7 @@ use gufi_tree::{Stanzas, Tree, TreeFault, build_stanzas};
 use std::alloc::{AllocError, Global};
 
 /// How many bytes a trace may have.
-const MAX_TRACE: u32 = 536_870_912;
+pub(crate) const MAX_TRACE: u32 = 536_870_912;
 
 /// How many bytes of a trace are read at once.
 const PIECE: usize = 65536;

@@ -1,48 +1,23 @@
 //! One run of the program.
-ghost use Rattle.std.specs.Prelude.{◌≡◌, ◌≢◌, ◌⊎◌, ◌≤◌, [], ◌∷◌, length, IfErr, IsTrue};
+ghost use Rattle.std.specs.Prelude.{◌≡◌, ◌≢◌, ◌⊎◌, [], IsTrue, option_map};
 ghost use Rattle.std.specs.Io.KnownBytes.{Appends};
 ghost use Rattle.gufi_io.specs.Causes.{Rose};
 ghost use Rattle.gufi_words.specs.WordTexts.{texts};
-ghost use Rattle.gufi_top.specs.Views.{text_view};
-ghost use Rattle.gufi_top.specs.Verdict.{may_refuse_words, verdict};
-ghost use Rattle.gufi_top.specs.Calls.{Gives, GivesOver, IsOfBytes, IsPastWords, OfWordsOnlyIf, HaltHasCause};
-ghost use Rattle.gufi_top.specs.Ends.{IsVerdictStatus, Ended, WriteFaulted, BrokenOff, TakesNote, TextEnds, read_fault_note, memory_note};
+ghost use Rattle.gufi_top.specs.Verdict.{is_one_shot, may_refuse, may_refuse_words, command_over};
+ghost use Rattle.gufi_top.specs.Ends.{IsVerdictStatus, Ended, WriteFaulted, BrokenOff, TextEnds, read_fault_note, memory_note};
+ghost use Rattle.gufi_top.specs.Endings.{HasRun};
 
 use crate::command::answer_command;
-use crate::halt::{Halt, Text};
+use crate::ending::{Outcome, halted, tell};
+use crate::halt::Text;
 use crate::note;
+use crate::session::{self, Session};
 use crate::words::read_command;
 use gufi_io::{Gate, Shelf, Sink, write_whole};
+use gufi_words::Command;
 use std::alloc::Global;
 use std::sync::Wait;
 use std::thread::Threads;
-
-/// How a run ended: its exit status, and for a session the number that each ask's reply bears.
-#[derive(Debug, Drop)]
-pub struct Outcome {
-    pub status: u8,
-    pub numbers: Vec<u64>,
-}
-
-// What the words ask of the files.
-#[tactic(auto, using(crate::proofs::RunLemmas::chaining))]
-fn answer<F: Shelf>(alloc: Global, words: &[String], shelf: &mut F) -> Result<Text, Halt>
-    ensures text { GivesOver (F.files shelf.old) text_view result (verdict (texts words.now)) }
-    ensures words { IfErr result (OfWordsOnlyIf (IsTrue (may_refuse_words (texts words.now)))) }
-    ensures cause { IfErr result (HaltHasCause (F.faults shelf.old) (F.faults shelf.new) (F.absents shelf.old) (F.absents shelf.new)) }
-{
-    match read_command(alloc, words) {
-        Ok(command) => answer_command(alloc, &command, shelf),
-        Err(halt) => Err(halt),
-    }
-}
-
-// Writes a note. A fault of that changes nothing.
-fn tell<K: Sink>(notes: &mut K, note: &[u8])
-    ensures { TakesNote (K.taken notes.old) (K.taken notes.new) (K.faults notes.old) (K.faults notes.new) note.now }
-{
-    let _ = write_whole(notes, note);
-}
 
 // Writes the text, and then its note.
 fn write_text<K: Sink>(text: &Text, out: &mut K, notes: &mut K) -> u8
@@ -60,27 +35,91 @@ fn write_text<K: Sink>(text: &Text, out: &mut K, notes: &mut K) -> u8
     0
 }
 
+// Makes the whole text of a command, and writes it.
+fn run_one_shot<F: Shelf, K: Sink>(
+    alloc: Global,
+    command: &Command,
+    shelf: &mut F,
+    out: &mut K,
+    notes: &mut K,
+) -> Outcome
+    requires { IsTrue (is_one_shot command.now) }
+    ensures run { HasRun (option_map (command_over command.now) (F.files shelf.old)) result.status result.numbers.items
+        (K.taken out.old) (K.taken out.new) (K.taken notes.old) (K.taken notes.new)
+        (K.faults out.old) (K.faults out.new) (K.faults notes.old) (K.faults notes.new)
+        (F.faults shelf.old) (F.faults shelf.new) (F.absents shelf.old) (F.absents shelf.new) }
+    ensures words { result.status ≡ 2 → IsTrue (may_refuse command.now) }
+{
+    match answer_command(alloc, command, shelf) {
+        Ok(text) => {
+            let status = write_text(&text, out, notes);
+            let numbers = Vec::new(alloc);
+            Outcome { status, numbers }
+        }
+        Err(halt) => halted(alloc, halt, notes),
+    }
+}
+
+// Does all that a command asks: a session writes as it goes.
+fn run_command<R: Threads + Wait + Sync, F: Shelf, K: Sink, G: Gate>(
+    rt: &R,
+    alloc: Global,
+    command: &Command,
+    shelf: &mut F,
+    out: &mut K,
+    notes: &mut K,
+    gate: &G,
+) -> Outcome
+    ensures run { HasRun (option_map (command_over command.now) (F.files shelf.old)) result.status result.numbers.items
+        (K.taken out.old) (K.taken out.new) (K.taken notes.old) (K.taken notes.new)
+        (K.faults out.old) (K.faults out.new) (K.faults notes.old) (K.faults notes.new)
+        (F.faults shelf.old) (F.faults shelf.new) (F.absents shelf.old) (F.absents shelf.new) }
+    ensures words { result.status ≡ 2 → IsTrue (may_refuse command.now) }
+{
+    match command {
+        Command::Session {
+            passwd,
+            group,
+            delim,
+            now,
+            script,
+            ..
+        } => {
+            let session = Session {
+                passwd,
+                group,
+                delim: *delim,
+                moment: *now,
+                script,
+            };
+            session::run(rt, alloc, &session, shelf, out, notes, gate)
+        }
+        _ => run_one_shot(alloc, command, shelf, out, notes),
+    }
+}
+
 /// Does all that the words ask: reads the files, and writes the text or the refusal's note.
 ///
 /// The words are those after the program's name. The text goes to `out`; a refusal's note, ended by a
-/// newline, to `notes`. The exit status is 0 where the whole text was written, 1 where the start can't be
-/// listed, 2 for words that are no command, 3 for a fault of reading, 4 for one of writing, 5 for a damaged
-/// file, 6 for a limit that is passed, 7 for want of memory and 8 for a file that isn't there.
-#[tactic(auto, using(crate::proofs::RunLemmas::ending))]
-pub fn gufi_run<R: Threads + Wait, F: Shelf, K: Sink, G: Gate>(
-    _rt: &R,
+/// newline, to `notes`. A session runs its lanes and its publishing commands in threads of `rt`, tells `gate` of each
+/// before it begins, and writes phase by phase; each other command writes once its whole text is made. The exit status is 0
+/// where the whole text was written, 1 where the start can't be listed, 2 for words that are no command, 3 for a fault of
+/// reading, 4 for one of writing, 5 for a damaged file, 6 for a limit that is passed, 7 for want of memory and 8 for a file
+/// that isn't there.
+pub fn gufi_run<R: Threads + Wait + Sync, F: Shelf, K: Sink, G: Gate>(
+    rt: &R,
     alloc: Global,
     words: &[String],
     shelf: &mut F,
     out: &mut K,
     notes: &mut K,
-    _gate: &G,
+    gate: &G,
 ) -> Outcome
     // Without a fault or want of memory, the status, the text and the note are those of the words over the files.
     ensures ended { IsVerdictStatus result.status → Ended (F.files shelf.old) (texts words.now) result.status result.numbers.items
         (K.taken out.old) (K.taken out.new) (K.taken notes.old) (K.taken notes.new) (K.faults notes.old) (K.faults notes.new) }
 
-    // A refusal of the words comes only where they are no open command, or one with a USER, whatever the shelf.
+    // A refusal of the words comes only where they are no command, or one with a USER, whatever the shelf.
     ensures words { result.status ≡ 2 → IsTrue (may_refuse_words (texts words.now)) }
 
     // A missing file is answered only where the shelf lacked one.
@@ -100,23 +139,8 @@ pub fn gufi_run<R: Threads + Wait, F: Shelf, K: Sink, G: Gate>(
     ensures memory { result.status ≡ 7 → BrokenOff (F.files shelf.old) (texts words.now) result.numbers.items
         (K.taken out.old) (K.taken out.new) (K.taken notes.old) (K.taken notes.new) (K.faults notes.old) (K.faults notes.new) memory_note }
 {
-    let numbers = Vec::new(alloc);
-    match answer(alloc, words, shelf) {
-        Ok(text) => {
-            let status = write_text(&text, out, notes);
-            Outcome { status, numbers }
-        }
-        Err(Halt::Refused { status, note }) => {
-            tell(notes, &note);
-            Outcome { status, numbers }
-        }
-        Err(Halt::ReadFault) => {
-            tell(notes, note::read_fault());
-            Outcome { status: 3, numbers }
-        }
-        Err(Halt::Memory) => {
-            tell(notes, note::memory());
-            Outcome { status: 7, numbers }
-        }
+    match read_command(alloc, words) {
+        Ok(command) => run_command(rt, alloc, &command, shelf, out, notes, gate),
+        Err(halt) => halted(alloc, halt, notes),
     }
 }

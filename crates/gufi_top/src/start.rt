@@ -21,10 +21,8 @@ fn refuse_start<T>(alloc: Global, refusal: Refusal) -> Result<T, Halt>
     ensures past_words { IfErr result IsPastWords }
 {
     match refusal {
-        Refusal::Denied { depth, class } => refused(1, note::denied(alloc, depth, class)?),
-        Refusal::NoSuch { depth } => refused(1, note::no_such(alloc, depth)?),
-        Refusal::NotDir { depth } => refused(1, note::not_dir(alloc, depth)?),
         Refusal::Memory => Err(Halt::Memory),
+        _ => refused(1, note::start_refused(alloc, refusal)?),
     }
 }
 

@@ -1,3 +1,4 @@
 pub mod Answer
 pub mod Folds
 pub mod Walk
+pub mod Refusals

@@ -7,10 +7,12 @@
 mod descent;
 mod laws;
 mod refusal;
+mod reply;
 
 pub use descent::{answer_alone, answer_uncounted};
 pub use laws::{answers_are_private, folds_hold_the_answer};
 pub use refusal::Refusal;
+pub use reply::{PathLines, answer_lines, answer_rows, answer_sum, put_refusal};
 
 #[cfg(test)]
 mod tests;

@@ -7,8 +7,8 @@ use Rattle.gufi_top.proofs.AskLemmas.{replies_found, replies_refused}
 use Rattle.gufi_top.proofs.ask.query_text.Goals as goal
 
 -- a SELECT may be asked from many threads
-pub rows_of-requires-sync-P : goal.rows_of-requires-sync-P
-rows_of-requires-sync-P c κs = search (select_sync, sendable) depth 10
+pub answer_rows-requires-sync-P : goal.answer_rows-requires-sync-P
+answer_rows-requires-sync-P c κs = search (select_sync, sendable) depth 10
 
 pub returns-in_ok-select_text-in-Ok : goal.returns-in_ok-select_text-in-Ok
 returns-in_ok-select_text-in-Ok c =

@@ -1,0 +1,238 @@
+-- How far a run has come over the files that a shelf tells, and what is meant by numbers where it tells none.
+use Rattle.std.proofs.Common.{◌≡◌, ℕ, ◌+◌, ◌<◌, ◌≤◌, true, false, List, [], ◌∷◌, ◌++◌, length, take, drop, get_or, length-append, append_assoc, append-nil, le_refl, take_all, refl, sym, ap, ◌∙◌, subst, arith, drop_of_length-le}
+use Rattle.std.specs.Prelude.{Option, Some, None, Result, Ok, Err, IfOk, OnOk, option_map}
+use Rattle.std.specs.Arc.{arc_value}
+use Rattle.std.proofs.Math.Logic.{∥∥₁_map}
+use Rattle.std.proofs.lemmas.Bool.{false≢true}
+use Rattle.std.proofs.lemmas.List.{drop_more}
+use Rattle.std.specs.Io.KnownBytes.{Appends}
+use Rattle.std.proofs.KnownBytes.{Appends-trans}
+use Rattle.gufi_io.specs.Files.{Files, TakesFront}
+use Rattle.gufi_phases.specs.declared.act.Act.{Act}
+use Rattle.gufi_phases.specs.declared.load.Stop.{Stop}
+use Rattle.gufi_phases.specs.declared.load.LoadFault.{LoadFault}
+use Rattle.gufi_phases.specs.declared.load.LoadFault.TheVariants as load
+use Rattle.gufi_phases.specs.declared.phase.Phase.{Phase}
+use Rattle.gufi_phases.specs.Phases.{EachMeans, item_at, made, last_of_acts, command_lines, command_count, ask_count, acts_text, lanes, NumbersFit}
+use Rattle.gufi_phases.specs.Sessions.{all_made, IsSession, Answered}
+use Rattle.gufi_phases.specs.Lanes.{HasMeant}
+use Rattle.gufi_phases.specs.Loads.{phases_over, stop_over, total_size, with_loaded, stop_behind, LoadsAs, EndsWith, TakesText, end_of}
+use Rattle.gufi_phases.proofs.Sessions.{IsReached, none_done, answered, phase_more, this_phase, this_list, each_of_all}
+
+take_front : {A : Type 0} (xs ys : List A) → take (length xs) (xs ++ ys) ≡ xs
+take_front [] ys = refl
+take_front (x ∷ xs) ys = ap (λ l. x ∷ l) (take_front xs ys)
+
+from_some : {A : Type 0} → A → Option A → A
+from_some a (Some b) = b
+from_some a None = a
+
+some_same : {A : Type 0} (a b : A) → Some a ≡ Some b → a ≡ b
+unfolding from_some
+some_same a b is = ap (λ o. from_some a o) is
+
+none_is_some : {A : Type 0} {B : Type 0} (a : A) → None ≡ Some a → B
+none_is_some a is = cc
+
+-- ---- how a phase that isn't loaded ends a session
+
+-- text that was taken, and then a front of more
+pub takes_more : (a b c : Option (List ℕ)) (text begin : List ℕ) → Appends a b text → TakesFront b c begin → TakesFront a c (text ++ begin)
+takes_more a b c text begin taken front = (
+  front.0,
+  record {
+    front = text ++ front.1.front;
+    parts = ap (λ l. text ++ l) front.1.parts ∙ sym (append_assoc text front.1.front front.0);
+    taken = Appends-trans a b c text front.1.front taken front.1.taken;
+  },
+)
+
+pub takes_fault : (out out' : Option (List ℕ)) (text : List ℕ) (fault : LoadFault) → Appends out out' text → TakesText (end_of fault) out out' text
+takes_fault out out' text (load.Stopped stop) taken = taken
+takes_fault out out' text load.ReadFault taken = taken
+takes_fault out out' text load.Memory taken = taken
+
+-- ---- what is meant by numbers
+
+module _ {T : Type 0} where
+  each_mapped : (A B : ℕ → T → Type 0) → ((n : ℕ) (x : T) → A n x → B n x) → (count : ℕ) (items : List T) → EachMeans A count items → EachMeans B count items
+  unfolding EachMeans
+  each_mapped A B f count [] each = tt
+  each_mapped A B f count (x ∷ items) each = (∥∥₁_map each.0 (f (count + 1) x), each_mapped A B f (count + 1) items each.1)
+
+  -- where everything is meant by each number
+  each_blind : (means : ℕ → T → Type 0) → ((n : ℕ) (x : T) → ∥ means n x ∥₁) → (count : ℕ) (items : List T) → EachMeans means count items
+  unfolding EachMeans
+  each_blind means blind count [] = tt
+  each_blind means blind count (x ∷ items) = (blind (count + 1) x, each_blind means blind (count + 1) items)
+
+  -- what the numbers mean over the files of a shelf
+  abbrev pub MeansOver : Option Files → (Files → List T) → ℕ → T → Type 0
+  MeansOver told pubs n x = (files : Files) → told ≡ Some files → item_at (pubs files) n ≡ Some x
+
+  pub means_blind : (told : Option Files) (pubs : Files → List T) → told ≡ None → (n : ℕ) (x : T) → ∥ MeansOver told pubs n x ∥₁
+  means_blind told pubs none n x = ∣ (λ files is. none_is_some files (sym none ∙ is)) ∣₁
+
+  pub means_told : (told : Option Files) (pubs : Files → List T) (files : Files) → told ≡ Some files → EachMeans (MeansOver told pubs) 0 (pubs files)
+  means_told told pubs files is =
+      each_mapped (λ n x. item_at (pubs files) n ≡ Some x) (MeansOver told pubs)
+      (λ n x here others are. ap (λ f. item_at (pubs f) n) (some_same others files (sym are ∙ is)) ∙ here) 0 (pubs files) (each_of_all (pubs files))
+
+-- ---- a plan over files, from one of its phases on
+
+-- the phase at a place is the first of the rest
+rest_here : {P : Type 0} (plan : List P) (at : ℕ) (p : P) → at < length plan → p ≡ get_or plan at p → drop at plan ≡ p ∷ drop (at + 1) plan
+rest_here plan at p inside here = drop_more plan at p inside ∙ ap (λ x. x ∷ drop (at + 1) plan) (sym here)
+
+pub total_here : {P : Type 0} (size : P → ℕ) (plan : List P) (at : ℕ) (p : P) → at < length plan → p ≡ get_or plan at p → total_size size (drop at plan) ≡ size p + total_size size (drop (at + 1) plan)
+unfolding total_size
+total_here size plan at p inside here = ap (λ l. total_size size l) (rest_here plan at p inside here)
+
+module _ {P C Q : Type 0} (loaded : P → Files → Result (List (Act C Q)) Stop) (files : Files) where
+  phases_none : phases_over loaded files [] ≡ []
+  unfolding phases_over
+  phases_none = refl
+
+  stop_none : stop_over loaded files [] ≡ None
+  unfolding stop_over
+  stop_none = refl
+
+  module _ (plan : List P) (at : ℕ) (p : P) (inside : at < length plan) (here : p ≡ get_or plan at p) where
+    phases_here : phases_over loaded files (drop at plan) ≡ with_loaded (loaded p files) (phases_over loaded files (drop (at + 1) plan))
+    unfolding phases_over
+    phases_here = ap (λ l. phases_over loaded files l) (rest_here plan at p inside here)
+
+    stop_here : stop_over loaded files (drop at plan) ≡ stop_behind (loaded p files) (stop_over loaded files (drop (at + 1) plan))
+    unfolding stop_over
+    stop_here = ap (λ l. stop_over loaded files l) (rest_here plan at p inside here)
+
+-- ---- how a run ends
+
+module _ {T C Q : Type 0} (outcome : C → Option T → Result T (List ℕ)) (line : C → ℕ → Result ℕ (List ℕ) → List ℕ) (reply : Q → ℕ → ℕ → Option T → List ℕ) where
+  answered_whole : (phases done : List (List (Act C Q))) (numbers text : List ℕ) → phases ≡ done ++ [] → IsSession outcome line reply [] None 1 1 done numbers text → Answered outcome line reply phases true numbers text
+  answered_whole phases done numbers text is session = record {
+    count = length phases;
+    within = le_refl (length phases);
+    all = λ whole. refl;
+    session = subst (λ x. IsSession outcome line reply [] None 1 1 x numbers text) (sym (take_all (length phases) phases (le_refl (length phases)) ∙ (is ∙ append-nil done))) session;
+  }
+
+  answered_front : (phases done rest : List (List (Act C Q))) (numbers text : List ℕ) → phases ≡ done ++ rest → IsSession outcome line reply [] None 1 1 done numbers text → Answered outcome line reply phases false numbers text
+  answered_front phases done rest numbers text is session =
+      let long : length phases ≡ length done + length rest = ap length is ∙ length-append done rest in
+      record {
+        count = length done;
+        within = omega arith;
+        all = λ whole. absurd (false≢true whole);
+        session = subst (λ x. IsSession outcome line reply [] None 1 1 x numbers text) (sym (ap (λ l. take (length done) l) is ∙ take_front done rest)) session;
+      }
+
+  pub answered_none : (phases : List (List (Act C Q))) (numbers : List ℕ) → numbers ≡ [] → Answered outcome line reply phases false numbers []
+  unfolding IsSession
+  answered_none phases numbers none = answered_front phases [] phases numbers [] refl (none, refl)
+
+module _ {P T C Q : Type 0} (outcome : C → Option T → Result T (List ℕ)) (line : C → ℕ → Result ℕ (List ℕ) → List ℕ) (reply : Q → ℕ → ℕ → Option T → List ℕ) (means : ℕ → T → Type 0) (loaded : P → Files → Result (List (Act C Q)) Stop) (files : Files) (plan : List P) where
+  -- With so many publications the phases before a place of the plan are done, over the files.
+  pub record IsOver (at count : ℕ) (last : Option T) (k i : ℕ) (numbers text : List ℕ) : Type 0 where
+    pub pubs : List T
+    pub done : List (List (Act C Q))
+    pub counted : count ≡ length pubs
+    pub parts : phases_over loaded files plan ≡ done ++ phases_over loaded files (drop at plan)
+    pub stop : stop_over loaded files plan ≡ stop_over loaded files (drop at plan)
+    pub reached : IsReached outcome line reply means (phases_over loaded files plan) done (phases_over loaded files (drop at plan)) pubs last k i numbers text
+
+  pub over_start : (count : ℕ) (numbers : List ℕ) → count ≡ 0 → numbers ≡ [] → EachMeans means 0 (all_made outcome None (phases_over loaded files plan)) → IsOver 0 count None 1 1 numbers []
+  over_start count numbers c none are = record {
+    pubs = [];
+    done = [];
+    counted = c;
+    parts = refl;
+    stop = refl;
+    reached = none_done outcome line reply means (phases_over loaded files plan) numbers [] none refl are;
+  }
+
+module _
+    {P T C Q : Type 0} {outcome : C → Option T → Result T (List ℕ)} {line : C → ℕ → Result ℕ (List ℕ) → List ℕ} {reply : Q → ℕ → ℕ → Option T → List ℕ} {means : ℕ → T → Type 0} {loaded : P → Files → Result (List (Act C Q)) Stop}
+    {files : Files} {plan : List P} {at count : ℕ} {last : Option T} {k i : ℕ} {numbers text : List ℕ} (is : IsOver outcome line reply means loaded files plan at count last k i numbers text) where
+  over_session : ((n : ℕ) → HasMeant means (all_made outcome None (phases_over loaded files plan)) n) → IsSession outcome line reply [] None 1 1 is.done numbers text
+  over_session has = answered outcome line reply means (phases_over loaded files plan) is.done (phases_over loaded files (drop at plan)) is.pubs last k i numbers text is.reached has
+
+  pub over_front : ((n : ℕ) → HasMeant means (all_made outcome None (phases_over loaded files plan)) n) → Answered outcome line reply (phases_over loaded files plan) false numbers text
+  over_front has = answered_front outcome line reply (phases_over loaded files plan) is.done (phases_over loaded files (drop at plan)) numbers text is.parts (over_session has)
+
+  over_whole : ((n : ℕ) → HasMeant means (all_made outcome None (phases_over loaded files plan)) n) → phases_over loaded files (drop at plan) ≡ [] → Answered outcome line reply (phases_over loaded files plan) true numbers text
+  over_whole has none = answered_whole outcome line reply (phases_over loaded files plan) is.done numbers text (is.parts ∙ ap (λ l. is.done ++ l) none) (over_session has)
+
+  -- behind the last phase
+  pub done_ends : ((n : ℕ) → HasMeant means (all_made outcome None (phases_over loaded files plan)) n) → length plan ≤ at → (stop_over loaded files plan ≡ None) × Answered outcome line reply (phases_over loaded files plan) true numbers text
+  done_ends has past =
+      let none : drop at plan ≡ [] = drop_of_length-le plan past in
+      (is.stop ∙ (ap (λ l. stop_over loaded files l) none ∙ stop_none loaded files), over_whole has (ap (λ l. phases_over loaded files l) none ∙ phases_none loaded files))
+
+  module _ (p : P) (inside : at < length plan) (here : p ≡ get_or plan at p) where
+    -- where the next phase isn't loaded
+    pub fault_ends : ((n : ℕ) → HasMeant means (all_made outcome None (phases_over loaded files plan)) n) → (fault : LoadFault) → LoadsAs (loaded p files) (Err fault)
+        → EndsWith outcome line reply (phases_over loaded files plan) (stop_over loaded files plan) (end_of fault) numbers text
+    fault_ends has (load.Stopped stop) loads = (
+      is.stop ∙ (stop_here loaded files plan at p inside here ∙ ap (λ r. stop_behind r (stop_over loaded files (drop (at + 1) plan))) loads),
+      over_whole has (phases_here loaded files plan at p inside here ∙ ap (λ r. with_loaded r (phases_over loaded files (drop (at + 1) plan))) loads),
+    )
+    fault_ends has load.ReadFault loads = over_front has
+    fault_ends has load.Memory loads = over_front has
+
+    module _ (acts : List (Act C Q)) (loads : loaded p files ≡ Ok acts) where
+      -- its acts stand before those of the rest
+      acts_here : phases_over loaded files (drop at plan) ≡ acts ∷ phases_over loaded files (drop (at + 1) plan)
+      acts_here = phases_here loaded files plan at p inside here ∙ ap (λ r. with_loaded r (phases_over loaded files (drop (at + 1) plan))) loads
+
+      reached_here : IsReached outcome line reply means (phases_over loaded files plan) is.done (acts ∷ phases_over loaded files (drop (at + 1) plan)) is.pubs last k i numbers text
+      reached_here = subst (λ l. IsReached outcome line reply means (phases_over loaded files plan) is.done l is.pubs last k i numbers text) acts_here is.reached
+
+      pub over_means : EachMeans means count (made outcome last acts)
+      over_means =
+          subst (λ n. EachMeans means n (made outcome last acts)) (sym is.counted)
+          (this_phase outcome line reply means (phases_over loaded files plan) is.done acts (phases_over loaded files (drop (at + 1) plan)) is.pubs last k i numbers text reached_here)
+
+      -- one phase further
+      over_more : (high : ℕ) (own begin : List ℕ) → high ≡ count + length (made outcome last acts) → NumbersFit count high (lanes acts) own
+          → ((every : List T) → ((n : ℕ) → n ≤ high → HasMeant means every n) → begin ≡ acts_text reply every i own (command_lines outcome line k count last acts) acts)
+          → IsOver outcome line reply means loaded files plan (at + 1) high (last_of_acts outcome last acts) (k + command_count acts) (i + ask_count acts) (numbers ++ own) (text ++ begin)
+      over_more high own begin highs fit told =
+          let all = phases_over loaded files plan in let rest = phases_over loaded files (drop (at + 1) plan) in
+          let now = is.pubs ++ made outcome last acts in let counted = is.counted in
+          let long : high ≡ length now = (let e = length-append is.pubs (made outcome last acts) in omega arith) in
+          let fits : NumbersFit (length is.pubs) (length now) (lanes acts) own = subst (λ n. NumbersFit (length is.pubs) n (lanes acts) own) long (subst (λ n. NumbersFit n high (lanes acts) own) counted fit) in
+          record {
+            pubs = now;
+            done = is.done ++ acts ∷ [];
+            counted = long;
+            parts = is.parts ∙ (ap (λ l. is.done ++ l) acts_here ∙ sym (append_assoc is.done (acts ∷ []) rest));
+            stop = is.stop ∙ (stop_here loaded files plan at p inside here ∙ ap (λ r. stop_behind r (stop_over loaded files (drop (at + 1) plan))) loads);
+            reached = phase_more outcome line reply means all is.done acts rest is.pubs last k i numbers text own begin reached_here fits
+                (λ has. told now (λ n below. this_list outcome line reply means all is.done acts rest is.pubs last k i numbers text reached_here has n (subst (λ m. n ≤ m) long below))
+                ∙ ap (λ n. acts_text reply now i own (command_lines outcome line k n last acts) acts) counted);
+          }
+
+      -- the same by what carrying out the phase came to
+      pub over_ran : {E : Type 0} (r : Result (Phase T) E) (phase : Phase T) (high : ℕ) → r ≡ Ok phase
+          → OnOk r (high ≡ count + length (made outcome last acts)) → IfOk r (λ p. option_map arc_value p.last ≡ last_of_acts outcome last acts) → IfOk r (λ p. NumbersFit count high (lanes acts) p.numbers.items)
+          → IfOk r (λ p. (every : List T) → ((n : ℕ) → n ≤ high → HasMeant means every n) → p.text.items ≡ acts_text reply every i p.numbers.items (command_lines outcome line k count last acts) acts)
+          → (k' i' : ℕ) (numbers' : List ℕ) → k' ≡ k + command_count acts → i' ≡ i + ask_count acts → numbers' ≡ numbers ++ phase.numbers.items
+          → IsOver outcome line reply means loaded files plan (at + 1) high (option_map arc_value phase.last) k' i' numbers' (text ++ phase.text.items)
+      over_ran r phase high ok highs lasts fit told k' i' numbers' ks ies ns =
+          let more = over_more high phase.numbers.items phase.text.items
+          (subst (λ r. OnOk r (high ≡ count + length (made outcome last acts))) ok highs)
+          (subst (λ r. IfOk r (λ p. NumbersFit count high (lanes acts) p.numbers.items)) ok fit)
+          (subst (λ r. IfOk r (λ p. (every : List T) → ((n : ℕ) → n ≤ high → HasMeant means every n) → p.text.items ≡ acts_text reply every i p.numbers.items (command_lines outcome line k count last acts) acts)) ok told) in
+          let next : option_map arc_value phase.last ≡ last_of_acts outcome last acts = subst (λ r. IfOk r (λ p. option_map arc_value p.last ≡ last_of_acts outcome last acts)) ok lasts in
+          subst (λ x. IsOver outcome line reply means loaded files plan (at + 1) high x k' i' numbers' (text ++ phase.text.items)) (sym next)
+          (subst (λ x. IsOver outcome line reply means loaded files plan (at + 1) high (last_of_acts outcome last acts) x i' numbers' (text ++ phase.text.items)) (sym ks)
+          (subst (λ x. IsOver outcome line reply means loaded files plan (at + 1) high (last_of_acts outcome last acts) (k + command_count acts) x numbers' (text ++ phase.text.items)) (sym ies)
+          (subst (λ x. IsOver outcome line reply means loaded files plan (at + 1) high (last_of_acts outcome last acts) (k + command_count acts) (i + ask_count acts) x (text ++ phase.text.items)) (sym ns) more)))
+
+-- each publication of the next phase is meant by its number, whether the shelf tells its files or not
+pub next_means : {P T C Q : Type 0} (outcome : C → Option T → Result T (List ℕ)) (line : C → ℕ → Result ℕ (List ℕ) → List ℕ) (reply : Q → ℕ → ℕ → Option T → List ℕ) (means : ℕ → T → Type 0) (loaded : P → Files → Result (List (Act C Q)) Stop)
+    → (told : Option Files) → (told ≡ None → (n : ℕ) (x : T) → ∥ means n x ∥₁) → (plan : List P) (at : ℕ) (p : P) → at < length plan → p ≡ get_or plan at p → (acts : List (Act C Q)) (count : ℕ) (last : Option T) (k i : ℕ) (numbers text : List ℕ)
+    → ((files : Files) → told ≡ Some files → loaded p files ≡ Ok acts) → ((files : Files) → told ≡ Some files → IsOver outcome line reply means loaded files plan at count last k i numbers text) → EachMeans means count (made outcome last acts)
+next_means outcome line reply means loaded None blind plan at p inside here acts count last k i numbers text loads is = each_blind means (blind refl) count (made outcome last acts)
+next_means outcome line reply means loaded (Some files) blind plan at p inside here acts count last k i numbers text loads is = over_means (is files refl) p inside here acts (loads files refl)

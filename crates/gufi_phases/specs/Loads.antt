@@ -1,0 +1,90 @@
+-- What a plan comes to over the files of a shelf, and how a run of it ends.
+use Rattle.std.specs.Prelude.{◌≡◌, ℕ, ◌+◌, ⊤, List, [], ◌∷◌, true, false, Option, Some, None, Result, Ok, Err, Vec}
+use Rattle.std.specs.declared.alloc.Global.{Global}
+use Rattle.std.specs.Io.KnownBytes.{Appends}
+use Rattle.gufi_io.specs.Causes.{Rose}
+use Rattle.gufi_io.specs.Files.{Files, TakesFront}
+use Rattle.gufi_phases.specs.declared.act.Act.{Act}
+use Rattle.gufi_phases.specs.Sessions.{Answered}
+use Rattle.gufi_phases.specs.declared.load.Stop.{Stop}
+use Rattle.gufi_phases.specs.declared.load.Stop.TheVariants as stops
+use Rattle.gufi_phases.specs.declared.load.LoadFault.{LoadFault}
+use Rattle.gufi_phases.specs.declared.load.LoadFault.TheVariants as load
+use Rattle.gufi_phases.specs.declared.session.End.{End}
+use Rattle.gufi_phases.specs.declared.session.End.TheVariants as ends
+
+module _ {C Q : Type 0} where
+  -- the acts that were loaded are those over the files, and where the files end the session, so they do
+  abbrev pub LoadsAs : Result (List (Act C Q)) Stop → Result (Vec (Act C Q) Global) LoadFault → Type 0
+  LoadsAs is (Ok acts) = is ≡ Ok acts.items
+  LoadsAs is (Err (load.Stopped stop)) = is ≡ Err stop
+  LoadsAs is (Err load.ReadFault) = ⊤
+  LoadsAs is (Err load.Memory) = ⊤
+
+  abbrev pub with_loaded : Result (List (Act C Q)) Stop → List (List (Act C Q)) → List (List (Act C Q))
+  with_loaded (Ok acts) phases = acts ∷ phases
+  with_loaded (Err stop) phases = []
+
+  abbrev pub stop_behind : Result (List (Act C Q)) Stop → Option Stop → Option Stop
+  stop_behind (Ok acts) stop = stop
+  stop_behind (Err stop) later = Some stop
+
+module _ {P C Q : Type 0} (loaded : P → Files → Result (List (Act C Q)) Stop) (files : Files) where
+  -- the acts of the phases before the first at which the files end the session, and why they end it there
+  unfoldable pub phases_over : List P → List (List (Act C Q))
+  phases_over [] = []
+  phases_over (p ∷ plan) = with_loaded (loaded p files) (phases_over plan)
+
+  unfoldable pub stop_over : List P → Option Stop
+  stop_over [] = None
+  stop_over (p ∷ plan) = stop_behind (loaded p files) (stop_over plan)
+
+-- how many acts there are
+unfoldable pub total_size : {P : Type 0} → (P → ℕ) → List P → ℕ
+total_size size [] = 0
+total_size size (p ∷ plan) = size p + total_size size plan
+
+-- ---- causes: each end comes only where its count rose
+
+abbrev pub StopHasCause : ℕ → ℕ → Stop → Type 0
+StopHasCause absents absents' (stops.NoFile file) = Rose absents absents'
+StopHasCause absents absents' (stops.TooLong file) = ⊤
+
+abbrev pub LoadFaultHasCause : ℕ → ℕ → ℕ → ℕ → LoadFault → Type 0
+LoadFaultHasCause faults faults' absents absents' (load.Stopped stop) = StopHasCause absents absents' stop
+LoadFaultHasCause faults faults' absents absents' load.ReadFault = Rose faults faults'
+LoadFaultHasCause faults faults' absents absents' load.Memory = ⊤
+
+abbrev pub EndHasCause : ℕ → ℕ → ℕ → ℕ → ℕ → ℕ → End → Type 0
+EndHasCause faults faults' absents absents' out_faults out_faults' ends.Done = ⊤
+EndHasCause faults faults' absents absents' out_faults out_faults' (ends.Stopped stop) = StopHasCause absents absents' stop
+EndHasCause faults faults' absents absents' out_faults out_faults' ends.ReadFault = Rose faults faults'
+EndHasCause faults faults' absents absents' out_faults out_faults' ends.WriteFault = Rose out_faults out_faults'
+EndHasCause faults faults' absents absents' out_faults out_faults' ends.Memory = ⊤
+
+-- how a phase that isn't loaded ends a session
+abbrev pub end_of : LoadFault → End
+end_of (load.Stopped stop) = ends.Stopped stop
+end_of load.ReadFault = ends.ReadFault
+end_of load.Memory = ends.Memory
+
+-- ---- what was written
+
+-- the text was taken, or a front of it where a write failed
+abbrev pub TakesText : End → Option (List ℕ) → Option (List ℕ) → List ℕ → Type 0
+TakesText ends.WriteFault out out' text = TakesFront out out' text
+TakesText end out out' text = Appends out out' text
+
+module _ {T C Q : Type 0} (outcome : C → Option T → Result T (List ℕ)) (line : C → ℕ → Result ℕ (List ℕ) → List ℕ) (reply : Q → ℕ → ℕ → Option T → List ℕ) where
+  -- Where nothing failed, all phases are answered, up to that at which the files end the session; else some of the first.
+  abbrev pub EndsWith : List (List (Act C Q)) → Option Stop → End → List ℕ → List ℕ → Type 0
+  EndsWith phases stop ends.Done numbers text = (stop ≡ None) × Answered outcome line reply phases true numbers text
+  EndsWith phases stop (ends.Stopped why) numbers text = (stop ≡ Some why) × Answered outcome line reply phases true numbers text
+  EndsWith phases stop end numbers text = Answered outcome line reply phases false numbers text
+
+module _ {P T C Q : Type 0} (outcome : C → Option T → Result T (List ℕ)) (line : C → ℕ → Result ℕ (List ℕ) → List ℕ) (reply : Q → ℕ → ℕ → Option T → List ℕ) (loaded : P → Files → Result (List (Act C Q)) Stop) where
+  -- A run over what a shelf tells: the output took its text, and where the files are told it is that of the phases over them.
+  pub record Ran (told : Option Files) (plan : List P) (end : End) (numbers : List ℕ) (out out' : Option (List ℕ)) : Type 0 where
+    pub text : List ℕ
+    pub answer : (files : Files) → told ≡ Some files → EndsWith outcome line reply (phases_over loaded files plan) (stop_over loaded files plan) end numbers text
+    pub taken : TakesText end out out' text

@@ -1,0 +1,38 @@
+use Rattle.std.proofs.Common.{rules, arith, ap, sym, ◌≡◌, ◌∙◌, [], ◌∷◌, length, Ok, Err}
+use Rattle.std.proofs.lemmas.Grind.{common_steps}
+use Rattle.gufi_plan.specs.Settings.{setting_of}
+use Rattle.gufi_plan.proofs.PlanLemmas.{plan_first, few_first, plan_more, plan_stops, plan_ends}
+use Rattle.gufi_plan.proofs.planning.plan_session.Goals as goal
+
+pub acts-init : goal.acts-init
+acts-init c =
+    let rest : c.into_iter-line-iterator.result.rest.items ≡ c.args.script = (first_of (search rules, grind (arith, common_steps))) in
+    record {
+      whole = plan_first (setting_of c.args.setup.now) c.new.result.items c.new-2.result.items c.into_iter-line-iterator.result.rest.items c.args.script c.new.ensures.items c.new-2.ensures.items rest;
+      few = few_first c.new.result.items c.new-2.result.items c.into_iter-line-iterator.result.rest.items c.args.script c.new.ensures.items c.new-2.ensures.items rest c.requires;
+    }
+
+pub acts-preserved : goal.acts-preserved
+acts-preserved c =
+    let l = c.acts in let added = c.in_ok-add-in-Ok.ensures in
+    let rest : l.line-iterator.rest.items ≡ (c.in-Some.line, c.in-Some.act) ∷ c.next.new.self.rest.items = (first_of (search rules, grind (arith, common_steps))) in
+    record {
+      whole = sym (plan_more (setting_of c.args.setup.now) l.phases.done.items c.add.new.self.done.items l.phases.current.items c.add.new.self.current.items c.in-Some.line c.in-Some.act
+          l.line-iterator.rest.items c.next.new.self.rest.items c.in-Ok.planned rest c.in-Ok.ensures added.phases) ∙ l.invariant.whole;
+      few = omega (arith, added.few, l.invariant.few, ap length rest);
+    }
+
+pub returns-in-Err : goal.returns-in-Err
+returns-in-Err c = λ told.
+    let l = c.acts in
+    let rest : l.line-iterator.rest.items ≡ (c.in-Some.line, c.in-Some.act) ∷ c.next.new.self.rest.items = (first_of (search rules, grind (arith, common_steps))) in
+    sym l.invariant.whole
+    ∙ plan_stops (setting_of c.args.setup.now) l.phases.done.items l.phases.current.items c.in-Some.line c.in-Some.act l.line-iterator.rest.items c.next.new.self.rest.items c.in-Err.fault
+    rest c.in-Err.ensures (λ e. told (c.error_at.ensures ∙ e))
+    ∙ ap Err (sym c.error_at.ensures)
+
+pub returns : goal.returns
+returns c =
+    let l = c.acts in
+    let none : l.line-iterator.rest.items ≡ [] = (first_of (search rules, grind (arith, common_steps))) in
+    sym l.invariant.whole ∙ plan_ends (setting_of c.args.setup.now) l.phases.done.items l.phases.current.items l.line-iterator.rest.items none ∙ ap Ok (sym c.in_ok-ended.ensures)

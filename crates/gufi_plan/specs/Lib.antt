@@ -1,0 +1,4 @@
+pub mod Plan
+pub mod Faults
+pub mod Settings
+pub mod Phases

@@ -1,0 +1,58 @@
+//! What is carried out, phase by phase.
+ghost use Rattle.std.specs.Prelude.{◌≡◌, ◌≤◌};
+ghost use Rattle.gufi_base.specs.Limits.{max_script_lines};
+ghost use Rattle.gufi_plan.specs.Plan.{act_count};
+
+use crate::search::SharedSearch;
+use gufi_base::{Items, Text};
+use std::marker::Model;
+
+/// One act of a phase.
+#[derive(Drop)]
+pub enum PlannedAct {
+    /// Publishes the tree of a trace, whose fields the byte parts, rolled up under a limit on rows.
+    Publish { delim: u8, limit: u64, file: Text },
+    /// Publishes the last published tree under another limit.
+    Rollup { limit: u64 },
+    /// Searches in a lane, from 1.
+    Ask { lane: u32, search: SharedSearch },
+}
+
+/// The phases of a script. Together they have at most as many acts as a script may have lines.
+#[derive(Drop)]
+pub struct SessionPlan {
+    phases: Vec<Items<PlannedAct>>,
+}
+
+impl Model for SessionPlan {
+    ghost use Rattle.std.specs.Prelude.{◌≤◌};
+    ghost use Rattle.gufi_base.specs.Limits.{max_script_lines};
+    ghost use Rattle.std.specs.Coded.{codes};
+    ghost use Rattle.gufi_formula.specs.FormulaCodes.{formula_coded};
+    ghost use Rattle.gufi_plan.specs.Plan.{Plan, act_count};
+
+    ghost Value = { Plan };
+
+    ghost coded = { Prim.hlevel (codes, formula_coded) };
+
+    ghost view = { λ p. p.phases.items };
+
+    ghost invariant = { λ p. act_count p.phases.items ≤ max_script_lines };
+}
+
+impl SessionPlan {
+    pub(crate) fn of(phases: Vec<Items<PlannedAct>>) -> SessionPlan
+        requires { act_count phases.items ≤ max_script_lines }
+        ensures { result ≡ phases.items }
+    {
+        SessionPlan { phases }
+    }
+
+    /// The phases in their order.
+    pub fn phases(&self) -> &[Items<PlannedAct>]
+        ensures phases { result.now ≡ self.now }
+        ensures few { act_count self.now ≤ max_script_lines }
+    {
+        self.phases.as_slice()
+    }
+}

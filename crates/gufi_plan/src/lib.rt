@@ -1,0 +1,18 @@
+//! Plans of sessions: the acts of a script, whose users and queries are read, phase by phase.
+//!
+//! Contracts see a plan as the list of its phases. It stands on scripts, users and the languages of queries; sessions stand on it.
+#![tactic(auto)]
+
+mod act;
+mod fault;
+mod planning;
+mod reading;
+mod search;
+
+pub use act::{PlannedAct, SessionPlan};
+pub use planning::plan_session;
+pub use reading::Setup;
+pub use search::{Query, Search, SharedSearch};
+
+#[cfg(test)]
+mod tests;

@@ -1,0 +1,360 @@
+//! Worked runs of `session`.
+use crate::tests::{A, B, D, sink_of, words_of};
+use gufi_io::{Gate, GateKind, MemShelf, MemSink, NoGate, names_differ};
+use gufi_top::{Outcome, gufi_run};
+use std::alloc::{AllocError, Global};
+use std::process::Abort;
+use std::sync::Wait;
+use std::sync::atomic::{AtomicBool, Ordering};
+use std::test::Fail;
+use std::thread::{Threads, yield_now};
+
+// A with a file.
+const X: &[u8] = b"/r|d|1|493|2|101|100|4096|4096|8|10|20|30|
+/r/x|f|2|420|1|101|100|0|4096|0|10|20|30|
+";
+
+const USERS: &[u8] = b"ana:x:103:7:::\n";
+
+// A trace whose line 17 has a size that is no number.
+fn damaged(alloc: Global) -> Result<Vec<u8>, AllocError> {
+    let mut trace = A.to_vec(alloc)?;
+    for name in b"bcdefghijklmnop" {
+        trace.extend_from_slice(b"/r/")?;
+        trace.push(*name)?;
+        trace.extend_from_slice(b"|f|2|420|1|101|100|0|4096|0|10|20|30|\n")?;
+    }
+    trace.extend_from_slice(b"/r/q|f|2|420|1|101|100|x|4096|0|10|20|30|\n")?;
+    trace.extend_from_slice(b"/r/r|f|2|420|1|101|100|0|4096|0|10|20|30|\n")?;
+    Ok(trace)
+}
+
+fn shelf_of<R: AllocGlobal + Abort>(rt: &R, script: &[u8]) -> Result<MemShelf, Fail> {
+    let alloc = rt.alloc();
+    let mut files = Vec::new(alloc);
+    for (name, bytes) in [
+        ("s", script),
+        ("p", USERS),
+        ("a", A),
+        ("b", B),
+        ("d", D),
+        ("x", X),
+    ] {
+        files.push((String::from_str(alloc, name)?, bytes.to_vec(alloc)?))?;
+    }
+    files.push((String::from_str(alloc, "w")?, damaged(alloc)?))?;
+    assert!(rt; names_differ(&files));
+    Ok(MemShelf::new(files, 65_536, Vec::new(alloc), Vec::new(alloc)))
+}
+
+#[derive(Drop)]
+struct Ran {
+    outcome: Outcome,
+    out: MemSink,
+    notes: MemSink,
+}
+
+// Runs the script s.
+fn run<R: AllocGlobal + Abort + Threads + Wait + Sync, G: Gate>(
+    rt: &R,
+    gate: &G,
+    script: &[u8],
+) -> Result<Ran, Fail> {
+    let alloc = rt.alloc();
+    let words = words_of(alloc, &["session", "--passwd=p", "--delim=|", "s"])?;
+    let mut shelf = shelf_of(rt, script)?;
+    let mut out = sink_of(alloc, &[])?;
+    let mut notes = sink_of(alloc, &[])?;
+    let outcome = gufi_run(rt, alloc, &words, &mut shelf, &mut out, &mut notes, gate);
+    Ok(Ran {
+        outcome,
+        out,
+        notes,
+    })
+}
+
+#[derive(Clone, Copy)]
+struct Case<'a> {
+    script: &'a [u8],
+    status: u8,
+    text: &'a [u8],
+    note: &'a [u8],
+    numbers: &'a [u64],
+}
+
+fn check<R: AllocGlobal + Abort + Threads + Wait + Sync>(
+    rt: &R,
+    case: &Case<'_>,
+) -> Result<(), Fail> {
+    let ran = run(rt, &NoGate, case.script)?;
+    assert_eq!(rt; ran.notes.taken(), case.note);
+    assert_eq!(rt; ran.out.taken(), case.text);
+    assert_eq!(rt; ran.outcome.status, case.status);
+    assert_eq!(rt; ran.outcome.numbers.as_slice(), case.numbers);
+    Ok(())
+}
+
+#[test]
+fn replies_stand_in_the_order_of_the_script(rt: HostRuntime) -> Result<(), Fail> {
+    let damaged_trace = Case {
+        script: b"publish 0 a
+publish 0 w
+barrier
+ask 1 102 / find
+",
+        status: 0,
+        text: b"publish 1 number 1
+publish 2 refused 17 BadNumber 8
+reply 1 at 1 rows 1
+/
+",
+        note: b"",
+        numbers: &[1],
+    };
+    let nothing_published = Case {
+        script: b"ask 1 102 / find",
+        status: 0,
+        text: b"reply 1 at 0 no index\n",
+        note: b"",
+        numbers: &[0],
+    };
+    let rolled_up = Case {
+        script: b"rollup 5
+publish 0 b
+rollup 100
+barrier
+ask 1 103 / total
+",
+        status: 0,
+        text: b"rollup 1 refused nothing
+publish 2 number 1
+rollup 3 number 2
+reply 1 at 2 total dirs 2 files 1 links 0 others 0 bytes 7 size 7 7 mtime 20 22 uid 101 102 gid 100 200
+",
+        note: b"",
+        numbers: &[2],
+    };
+    let asked_with_words = Case {
+        script: b"publish 100 d
+rollup 0
+barrier
+ask 2 102 / find -maxdepth 1
+ask 2 102 /a/b total
+",
+        status: 0,
+        text: b"publish 1 number 1
+rollup 2 number 2
+reply 1 at 2 rows 2
+/
+/a
+reply 2 at 2 total dirs 1 files 0 links 0 others 0 bytes 0 size - - mtime 20 20 uid 101 101 gid 100 100
+",
+        note: b"",
+        numbers: &[2, 2],
+    };
+    let each_form_and_refusal = Case {
+        script: b"publish 0 b
+barrier
+ask 1 103 / query SELECT path, size FROM entries WHERE size > 5
+ask 2 ana /%63 find
+ask 1 102 /c find
+ask 2 103 /zz total
+ask 1 103 /c/x find
+",
+        status: 0,
+        text: b"publish 1 number 1
+reply 1 at 1 rows 1
+/c/x\t7
+reply 2 at 1 rows 2
+/c
+/c/x
+reply 3 at 1 denied at depth 1 class owner
+reply 4 at 1 no such at depth 1
+reply 5 at 1 not a directory at depth 2
+",
+        note: b"",
+        numbers: &[1, 1, 1, 1, 1],
+    };
+    let no_file_in_the_second_phase = Case {
+        script: b"ask 1 102 / find
+rollup 0
+barrier
+publish 0 z
+ask 1 102 / find
+",
+        status: 8,
+        text: b"reply 1 at 0 no index
+rollup 1 refused nothing
+",
+        note: b"gufi: z not found\n",
+        numbers: &[0],
+    };
+    for case in [
+        damaged_trace,
+        nothing_published,
+        rolled_up,
+        asked_with_words,
+        each_form_and_refusal,
+        no_file_in_the_second_phase,
+    ] {
+        check(&rt, &case)?;
+    }
+    Ok(())
+}
+
+fn check_fault<R: AllocGlobal + Abort + Threads + Wait + Sync>(
+    rt: &R,
+    script: &[u8],
+    status: u8,
+    note: &[u8],
+) -> Result<(), Fail> {
+    let case = Case {
+        script,
+        status,
+        text: b"",
+        note,
+        numbers: &[],
+    };
+    check(rt, &case)
+}
+
+fn repeated(alloc: Global, line: &[u8], count: u32) -> Result<Vec<u8>, AllocError> {
+    let mut script = Vec::new(alloc);
+    for _ in 0..count {
+        script.extend_from_slice(line)?;
+    }
+    Ok(script)
+}
+
+// A line's own faults come before users and queries, also those of earlier lines, and a user before his query.
+#[test]
+fn faulty_scripts_are_told_by_line(rt: HostRuntime) -> Result<(), Fail> {
+    for (script, note) in [
+        (
+            b"barrier\nask 17 102 / find\n".as_slice(),
+            b"gufi: s line 2 Lane\n".as_slice(),
+        ),
+        (
+            b"ask 1 nobody / find\nask 0 102 / find\n",
+            b"gufi: s line 2 Lane\n",
+        ),
+        (b"# %\n\nbarrier %2\n", b"gufi: s line 3 Escape\n"),
+        (b"find 0 a\n", b"gufi: s line 1 Verb\n"),
+        (b"publish 0\n", b"gufi: s line 1 Count\n"),
+        (b"ask 1 102 / query\n", b"gufi: s line 1 Count\n"),
+        (b"rollup -1\n", b"gufi: s line 1 Number\n"),
+        (b"ask 1 102 /.. find\n", b"gufi: s line 1 Path\n"),
+        (b"publish 0 %ff\n", b"gufi: s line 1 File\n"),
+        (b"ask 1 102 / list\n", b"gufi: s line 1 Form\n"),
+        (b"ask 1 nobody / find -size\n", b"gufi: s line 1 User\n"),
+        (b"ask 1 102 / find -size\n", b"gufi: s line 1 Query\n"),
+    ] {
+        check_fault(&rt, script, 5, note)?;
+    }
+    for (line, count, note) in [
+        (
+            b"barrier\n".as_slice(),
+            4097,
+            b"gufi: s limit 4096\n".as_slice(),
+        ),
+        (b"rollup 0\n", 1001, b"gufi: s limit 1000\n"),
+    ] {
+        let script = repeated(rt.alloc(), line, count)?;
+        check_fault(&rt, &script, 6, note)?;
+    }
+    Ok(())
+}
+
+// The reply to a search of all that A or X holds.
+fn put_reply(text: &mut Vec<u8>, ask: &[u8], number: u64) -> Result<(), AllocError> {
+    text.extend_from_slice(b"reply ")?;
+    text.extend_from_slice(ask)?;
+    if number == 1 {
+        text.extend_from_slice(b" at 1 rows 1\n/\n")
+    } else {
+        text.extend_from_slice(b" at 2 rows 2\n/\n/x\n")
+    }
+}
+
+#[test]
+fn numbers_never_fall(rt: HostRuntime) -> Result<(), Fail> {
+    let script = b"publish 100 a
+barrier
+ask 1 102 / find
+ask 1 102 / find
+ask 1 102 / find
+publish 100 x
+barrier
+ask 1 102 / find
+";
+    for _ in 0..10u32 {
+        let ran = run(&rt, &NoGate, script)?;
+        assert_eq!(rt; ran.outcome.status, 0);
+        let numbers = ran.outcome.numbers.as_slice();
+        assert_eq!(rt; numbers.len(), 4);
+        assert!(rt; 1 <= numbers[0] && numbers[0] <= numbers[1]);
+        assert!(rt; numbers[1] <= numbers[2] && numbers[2] <= 2 && numbers[3] == 2);
+        let mut text = b"publish 1 number 1\n".to_vec(rt.alloc())?;
+        put_reply(&mut text, b"1", numbers[0])?;
+        put_reply(&mut text, b"2", numbers[1])?;
+        put_reply(&mut text, b"3", numbers[2])?;
+        text.extend_from_slice(b"publish 2 number 2\n")?;
+        put_reply(&mut text, b"4", numbers[3])?;
+        assert_eq!(rt; ran.out.taken(), text.as_slice());
+        assert_eq!(rt; ran.notes.taken(), b"".as_slice());
+    }
+    Ok(())
+}
+
+// How often the first ask looks whether the second has begun.
+const TURNS: u32 = 10_000_000;
+
+// Holds the first ask until the second has begun.
+#[derive(Drop)]
+struct Beside {
+    second_began: AtomicBool,
+    first_met_it: AtomicBool,
+}
+
+impl Gate for Beside {
+    fn begin(&self, kind: GateKind, number: u32) {
+        if kind != GateKind::Ask {
+            return;
+        }
+        if number == 2 {
+            self.second_began.store(true, Ordering::SeqCst);
+            return;
+        }
+        for _ in 0..TURNS {
+            if self.second_began.load(Ordering::SeqCst) {
+                self.first_met_it.store(true, Ordering::SeqCst);
+                return;
+            }
+            yield_now();
+        }
+    }
+}
+
+#[test]
+fn lanes_run_beside_one_another(rt: HostRuntime) -> Result<(), Fail> {
+    let gate = Beside {
+        second_began: AtomicBool::new(false),
+        first_met_it: AtomicBool::new(false),
+    };
+    let script = b"publish 0 a
+barrier
+ask 1 102 / find
+ask 2 102 / find
+";
+    let ran = run(&rt, &gate, script)?;
+    assert!(rt; gate.first_met_it.load(Ordering::SeqCst));
+    let text = b"publish 1 number 1
+reply 1 at 1 rows 1
+/
+reply 2 at 1 rows 1
+/
+";
+    assert_eq!(rt; ran.out.taken(), text.as_slice());
+    assert_eq!(rt; ran.outcome.status, 0);
+    Ok(())
+}

@@ -1,0 +1,5 @@
+pub mod Session
+pub mod Loaded
+pub mod Loading
+pub mod Run
+pub mod Ends

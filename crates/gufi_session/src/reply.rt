@@ -1,0 +1,164 @@
+//! Replies to searches.
+ghost use Rattle.std.specs.Prelude.{◌≡◌, ◌≢◌, ◌++◌, IfOk, OnOk, codes, decimal};
+ghost use Rattle.gufi_base.specs.Words.{line};
+ghost use Rattle.gufi_find.specs.Expressions.{find_holds};
+ghost use Rattle.gufi_select.specs.Columns.{select_holds};
+ghost use Rattle.gufi_walk.specs.Answer.{reply_rows};
+ghost use Rattle.gufi_walk.specs.Refusals.{refusal_text};
+ghost use Rattle.gufi_plan.specs.declared.search.Query.TheVariants.{Finds, Totals, Selects};
+ghost use Rattle.gufi_session.specs.Session.{answer_or, reply_body, reply_head};
+
+use gufi_access::Principal;
+use gufi_base::{Memory, Path, put_u64};
+use gufi_find::FindExpr;
+use gufi_list::total_text;
+use gufi_phases::Question;
+use gufi_plan::{Query, Search, SharedSearch};
+use gufi_select::{Select, select_text};
+use gufi_snap::Snapshot;
+use gufi_walk::{Refusal, answer_lines, answer_rows, answer_sum, put_refusal};
+use std::alloc::Global;
+
+/// A search of a running phase.
+#[derive(Drop)]
+pub(crate) struct Asking {
+    pub(crate) search: SharedSearch,
+}
+
+/// Appends why a start refuses, in words.
+fn put_refused(text: &mut Vec<u8>, refusal: Refusal) -> Result<(), Memory>
+    ensures text { OnOk result (text.new.items ≡ text.old.items ++ line (codes " " ++ refusal_text refusal)) }
+{
+    text.push(b' ')?;
+    put_refusal(text, refusal)?;
+    text.push(b'\n')?;
+    Ok(())
+}
+
+/// Appends how many rows there are, and their lines.
+fn put_rows(text: &mut Vec<u8>, count: usize, lines: &[u8]) -> Result<(), Memory>
+    ensures { OnOk result (text.new.items ≡ text.old.items ++ (line (codes " rows " ++ decimal count) ++ lines.now)) }
+{
+    text.extend_from_slice(b" rows ")?;
+    put_u64(text, count as u64)?;
+    text.push(b'\n')?;
+    text.extend_from_slice(lines)?;
+    Ok(())
+}
+
+/// Appends the paths of the rows that a principal lists from a start and for which an expression is true.
+fn put_found(
+    alloc: Global,
+    text: &mut Vec<u8>,
+    snap: &Snapshot,
+    who: &Principal,
+    start: &Path,
+    find: &FindExpr,
+) -> Result<(), Memory>
+    ensures { OnOk result (text.new.items ≡ text.old.items ++ answer_or (record { who = who.now; start = start.now; query = Finds find.now }) (reply_rows snap.now.tree who.now start.now (find_holds find.now))) }
+{
+    match answer_lines(alloc, snap, who, start, find) {
+        Ok(found) => put_rows(text, found.count, &found.text),
+        Err(Refusal::Memory) => Err(Memory),
+        Err(refusal) => put_refused(text, refusal),
+    }
+}
+
+/// Appends the sum of the rows that a principal lists from a start and for which an expression is true.
+fn put_total(
+    alloc: Global,
+    text: &mut Vec<u8>,
+    snap: &Snapshot,
+    who: &Principal,
+    start: &Path,
+    find: &FindExpr,
+) -> Result<(), Memory>
+    ensures { OnOk result (text.new.items ≡ text.old.items ++ answer_or (record { who = who.now; start = start.now; query = Totals find.now }) (reply_rows snap.now.tree who.now start.now (find_holds find.now))) }
+{
+    match answer_sum(alloc, snap, who, start, find) {
+        Ok(sum) => {
+            let total = total_text(alloc, &sum)?;
+            text.extend_from_slice(b" total ")?;
+            text.extend_from_slice(&total)?;
+            text.push(b'\n')?;
+            Ok(())
+        }
+        Err(Refusal::Memory) => Err(Memory),
+        Err(refusal) => put_refused(text, refusal),
+    }
+}
+
+/// Appends the columns of the rows that a principal lists from a start and for which a SELECT is true.
+fn put_selected(
+    alloc: Global,
+    text: &mut Vec<u8>,
+    snap: &Snapshot,
+    who: &Principal,
+    start: &Path,
+    select: &Select,
+) -> Result<(), Memory>
+    ensures { OnOk result (text.new.items ≡ text.old.items ++ answer_or (record { who = who.now; start = start.now; query = Selects select.now }) (reply_rows snap.now.tree who.now start.now (select_holds select.now))) }
+{
+    match answer_rows(alloc, snap, who, start, select) {
+        Ok(rows) => {
+            let lines = select_text(alloc, select, &rows, start)?;
+            put_rows(text, rows.len(), &lines)
+        }
+        Err(Refusal::Memory) => Err(Memory),
+        Err(refusal) => put_refused(text, refusal),
+    }
+}
+
+/// Appends the reply to a search from a snapshot, behind its head.
+#[tactic(auto, unfolding(crate::specs::Session::reply_body))]
+fn put_body(
+    alloc: Global,
+    text: &mut Vec<u8>,
+    snap: &Snapshot,
+    search: &Search,
+) -> Result<(), Memory>
+    ensures { OnOk result (text.new.items ≡ text.old.items ++ reply_body search.now snap.now.tree) }
+{
+    let (who, start) = (&search.who, &search.start);
+    match &search.query {
+        Query::Finds { find } => put_found(alloc, text, snap, who, start, find),
+        Query::Totals { find } => put_total(alloc, text, snap, who, start, find),
+        Query::Selects { select } => put_selected(alloc, text, snap, who, start, select),
+    }
+}
+
+/// The head of the reply to an ask at the number of a publication.
+fn reply_head(alloc: Global, ask: u32, number: u64) -> Result<Vec<u8>, Memory>
+    ensures { IfOk result (λ text. text.items ≡ reply_head ask number) }
+{
+    let mut text = Vec::new(alloc);
+    text.extend_from_slice(b"reply ")?;
+    put_u64(&mut text, u64::from(ask))?;
+    text.extend_from_slice(b" at ")?;
+    put_u64(&mut text, number)?;
+    Ok(text)
+}
+
+impl Question<Snapshot> for Asking {
+    ghost use Rattle.gufi_session.specs.Loaded.{search_reply};
+
+    ghost reply = { search_reply };
+
+    fn reply_at(
+        &self,
+        alloc: Global,
+        ask: u32,
+        number: u64,
+        item: &Snapshot,
+    ) -> Result<Vec<u8>, Memory> {
+        let mut text = reply_head(alloc, ask, number)?;
+        put_body(alloc, &mut text, item, self.search.get())?;
+        Ok(text)
+    }
+
+    fn reply_to_none(&self, alloc: Global, ask: u32) -> Result<Vec<u8>, Memory> {
+        let mut text = reply_head(alloc, ask, 0)?;
+        text.extend_from_slice(b" no index\n")?;
+        Ok(text)
+    }
+}

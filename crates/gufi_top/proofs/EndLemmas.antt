@@ -1,0 +1,225 @@
+-- Lemmas on how a run ends.
+use Rattle.std.proofs.Common.{◌≡◌, ◌≢◌, ◌≤◌, ◌⊎◌, ⊎_elim, ℕ, List, [], length, refl, sym, ◌∙◌, inl, inr, arith}
+use Rattle.std.specs.Prelude.{Option, Some, None, option_map, Result, Ok, Err, Vec}
+use Rattle.std.specs.declared.alloc.Global.{Global}
+use Rattle.std.specs.Io.KnownBytes.{Appends}
+use Rattle.std.proofs.KnownBytes.{Appends-nil}
+use Rattle.gufi_io.specs.Causes.{Rose}
+use Rattle.gufi_io.specs.Files.{Files, TakesFront}
+use Rattle.gufi_phases.specs.declared.load.Stop.{Stop}
+use Rattle.gufi_phases.specs.declared.load.Stop.TheVariants as stops
+use Rattle.gufi_phases.specs.declared.session.End.{End}
+use Rattle.gufi_phases.specs.declared.session.End.TheVariants as ends
+use Rattle.gufi_phases.specs.Loads.{StopHasCause, EndHasCause}
+use Rattle.gufi_plan.specs.Plan.{Plan}
+use Rattle.gufi_session.specs.Session.{fits, session_text, phases_text}
+use Rattle.gufi_session.specs.Run.{Run, run_of}
+use Rattle.gufi_session.specs.Ends.{Answered, AnsweredInPart, SessionEnded, MayEndSession}
+use Rattle.gufi_top.specs.Reasons.{Reason, stop_reason}
+use Rattle.gufi_top.specs.Verdict.{Verdict, writes, runs, run_over}
+use Rattle.gufi_top.specs.Calls.{GivesOver, OfWordsOnlyIf, IsPastWords, HaltHasCause}
+use Rattle.gufi_top.specs.Views.{text_view}
+use Rattle.gufi_top.specs.Ends.{IsVerdictStatus, BreaksOff, MayEnd, MayBreakOff, MayBeCut, MayBeNoted, TakesNote, EndedBy, BrokenOffBy, TextEnds, WriteFaultedBy, read_fault_note, write_fault_note, memory_note}
+use Rattle.gufi_top.specs.Endings.{HasRun, HaltTells, StopTells, EndTells}
+use Rattle.gufi_top.specs.declared.halt.Text.{Text}
+use Rattle.gufi_top.specs.declared.halt.Halt.{Halt}
+use Rattle.gufi_top.specs.declared.halt.Halt.TheVariants as halts
+
+-- ---- by its status
+
+module _ {given : Option (Result Verdict Reason)} {status : ℕ} {numbers : List ℕ} {out out' notes notes' : Option (List ℕ)} {out_faults out_faults' faults faults' shelf shelf' absents absents' : ℕ} where
+  as_ended : IsVerdictStatus status → (status ≡ 8 → Rose absents absents') → EndedBy given status numbers out out' notes notes' faults faults'
+      → HasRun given status numbers out out' notes notes' out_faults out_faults' faults faults' shelf shelf' absents absents'
+  as_ended good absent ended = record {
+    ended = λ _. ended;
+    absent = absent;
+    read_fault = λ e. absurd (good.0 e);
+    write_fault = λ e. absurd (good.1 e);
+    memory = λ e. absurd (good.2 e);
+  }
+
+  as_read_fault : status ≡ 3 → Rose shelf shelf' → BrokenOffBy given numbers out out' notes notes' faults faults' read_fault_note
+      → HasRun given status numbers out out' notes notes' out_faults out_faults' faults faults' shelf shelf' absents absents'
+  as_read_fault is rose broken = record {
+    ended = λ good. absurd (good.0 is);
+    absent = λ e. absurd (omega arith);
+    read_fault = λ _. (rose, broken);
+    write_fault = λ e. absurd (omega arith);
+    memory = λ e. absurd (omega arith);
+  }
+
+  as_write_fault : status ≡ 4 → WriteFaultedBy given numbers out out' notes notes' out_faults out_faults' faults faults'
+      → HasRun given status numbers out out' notes notes' out_faults out_faults' faults faults' shelf shelf' absents absents'
+  as_write_fault is cut = record {
+    ended = λ good. absurd (good.1 is);
+    absent = λ e. absurd (omega arith);
+    read_fault = λ e. absurd (omega arith);
+    write_fault = λ _. cut;
+    memory = λ e. absurd (omega arith);
+  }
+
+  as_memory : status ≡ 7 → BrokenOffBy given numbers out out' notes notes' faults faults' memory_note
+      → HasRun given status numbers out out' notes notes' out_faults out_faults' faults faults' shelf shelf' absents absents'
+  as_memory is broken = record {
+    ended = λ good. absurd (good.2 is);
+    absent = λ e. absurd (omega arith);
+    read_fault = λ e. absurd (omega arith);
+    write_fault = λ e. absurd (omega arith);
+    memory = λ _. broken;
+  }
+
+-- what was read before changes nothing
+pub run_later : {given : Option (Result Verdict Reason)} {status : ℕ} {numbers : List ℕ} {out out' notes notes' : Option (List ℕ)} {out_faults out_faults' faults faults' shelf shelf' shelf'' absents absents' absents'' : ℕ}
+    → shelf ≤ shelf' → absents ≤ absents' → HasRun given status numbers out out' notes notes' out_faults out_faults' faults faults' shelf' shelf'' absents' absents''
+    → HasRun given status numbers out out' notes notes' out_faults out_faults' faults faults' shelf shelf'' absents absents''
+run_later more further run = record {
+  ended = run.ended;
+  absent = λ e. let rose = run.absent e in omega arith;
+  read_fault = λ e. let fault = run.read_fault e in let rose = fault.0 in (omega arith, fault.1);
+  write_fault = run.write_fault;
+  memory = run.memory;
+}
+
+-- ---- where nothing is written
+
+nothing_answered : (files : Files) (run : Run) → AnsweredInPart files run [] []
+unfolding fits session_text phases_text
+nothing_answered files run = (0, record { within = omega arith; fit = refl; written = refl })
+
+breaks_off : (v : Result Verdict Reason) → BreaksOff v [] []
+breaks_off (Err why) = (refl, refl)
+breaks_off (Ok (writes whole)) = (refl, refl)
+breaks_off (Ok (runs files run)) = nothing_answered files run
+
+broken_off : (given : Option (Result Verdict Reason)) (numbers : List ℕ) (out notes notes' : Option (List ℕ)) (faults faults' : ℕ) (note : List ℕ)
+    → numbers ≡ [] → TakesNote notes notes' faults faults' note → BrokenOffBy given numbers out out notes notes' faults faults' note
+broken_off given numbers out notes notes' faults faults' note none noted = rw none (record { text = []; answer = nothing given; taken = Appends-nil out; noted = noted }) where
+  nothing : (given : Option (Result Verdict Reason)) → MayBreakOff given [] []
+  nothing None = tt
+  nothing (Some v) = breaks_off v
+
+module _ (step : Files → Result Verdict Reason) where
+  refused : (told : Option Files) (status : ℕ) (note : Vec ℕ Global) (out notes notes' : Option (List ℕ)) (faults faults' : ℕ)
+      → GivesOver told text_view (Err (halts.Refused status note)) step → TakesNote notes notes' faults faults' note.items
+      → EndedBy (option_map step told) status [] out out notes notes' faults faults'
+  refused None status note out notes notes' faults faults' given noted = record { text = []; note = note.items; answer = tt; taken = Appends-nil out; noted = noted }
+  refused (Some files) status note out notes notes' faults faults' given noted =
+      record { text = []; note = note.items; answer = rw given (refl, refl, refl, refl); taken = Appends-nil out; noted = rw given noted }
+
+  pub halted_run : (told : Option Files) (halt : Halt) {status : ℕ} {numbers : List ℕ} {out notes notes' : Option (List ℕ)} {out_faults out_faults' faults faults' shelf shelf' absents absents' : ℕ}
+      → GivesOver told text_view (Err halt) step → HaltHasCause shelf shelf' absents absents' halt → HaltTells halt status notes notes' faults faults' → numbers ≡ []
+      → HasRun (option_map step told) status numbers out out notes notes' out_faults out_faults' faults faults' shelf shelf' absents absents'
+  halted_run told (halts.Refused reason note) given cause told_by none =
+      rw (told_by.0, none) (as_ended cause.0 cause.1 (refused told reason note _ _ _ _ _ given told_by.1))
+  halted_run told halts.ReadFault given cause told_by none = as_read_fault told_by.0 cause (broken_off _ _ _ _ _ _ _ _ none told_by.1)
+  halted_run told halts.Memory given cause told_by none = as_memory told_by.0 (broken_off _ _ _ _ _ _ _ _ none told_by.1)
+
+  -- ---- a text that was written
+
+  whole : (told : Option Files) (text : Text) (out out' notes notes' : Option (List ℕ)) (faults faults' : ℕ)
+      → GivesOver told text_view (Ok text) step → Appends out out' text.out.items → Appends notes notes' text.notes.items
+      → EndedBy (option_map step told) 0 [] out out' notes notes' faults faults'
+  whole None text out out' notes notes' faults faults' given taken noted = record { text = text.out.items; note = text.notes.items; answer = tt; taken = taken; noted = inl noted }
+  whole (Some files) text out out' notes notes' faults faults' given taken noted =
+      record { text = text.out.items; note = text.notes.items; answer = rw given (refl, refl, refl, refl); taken = taken; noted = rw given noted }
+
+  cut : (told : Option Files) (text : Text) → GivesOver told text_view (Ok text) step → MayBeCut (option_map step told) [] text.out.items text.notes.items
+  cut None text given = tt
+  cut (Some files) text given = rw given (refl, refl, refl)
+
+  pub written_run : (told : Option Files) (text : Text) {status : ℕ} {numbers : List ℕ} {out out' notes notes' : Option (List ℕ)} {out_faults out_faults' faults faults' shelf shelf' absents absents' : ℕ}
+      → GivesOver told text_view (Ok text) step → numbers ≡ [] → (status ≡ 0) ⊎ (status ≡ 4)
+      → (status ≡ 0 → Appends out out' text.out.items × Appends notes notes' text.notes.items)
+      → (status ≡ 4 → TextEnds out out' notes notes' out_faults out_faults' faults faults' text.out.items text.notes.items)
+      → HasRun (option_map step told) status numbers out out' notes notes' out_faults out_faults' faults faults' shelf shelf' absents absents'
+  written_run told text given none which good fault = ⊎_elim
+      (λ is. let done = good is in rw (is, none) (as_ended (λ e. omega arith, λ e. omega arith, λ e. omega arith) (λ e. absurd (omega arith)) (whole told text _ _ _ _ _ _ given done.0 done.1)))
+      (λ is. rw none (as_write_fault is (record { text = text.out.items; report = text.notes.items; answer = cut told text given; ends = fault is })))
+      which
+
+-- ---- a session
+
+part : (files : Files) (run : Run) (numbers text : List ℕ) → Answered files run (length run.plan) numbers text → AnsweredInPart files run numbers text
+part files run numbers text whole = (length run.plan, whole)
+
+some_answered : (told : Option Files) (plan : Plan) (end : End) (numbers text : List ℕ) → MayEndSession told plan end numbers text → MayBreakOff (option_map (run_over plan) told) numbers text
+some_answered None plan end numbers text is = tt
+some_answered (Some files) plan ends.Done numbers text is = part files (run_of files plan) numbers text is.1
+some_answered (Some files) plan (ends.Stopped stop) numbers text is = part files (run_of files plan) numbers text is.1
+some_answered (Some files) plan ends.ReadFault numbers text is = is
+some_answered (Some files) plan ends.WriteFault numbers text is = is
+some_answered (Some files) plan ends.Memory numbers text is = is
+
+session_cut : (told : Option Files) (plan : Plan) (numbers text : List ℕ) → MayEndSession told plan ends.WriteFault numbers text → MayBeCut (option_map (run_over plan) told) numbers text []
+session_cut None plan numbers text is = tt
+session_cut (Some files) plan numbers text is = (is, refl)
+
+done : (told : Option Files) (plan : Plan) (numbers : List ℕ) (out out' notes notes' : Option (List ℕ)) (faults faults' : ℕ)
+    → SessionEnded told plan ends.Done numbers out out' → Appends notes notes' [] → EndedBy (option_map (run_over plan) told) 0 numbers out out' notes notes' faults faults'
+done None plan numbers out out' notes notes' faults faults' e noted = record { text = e.text; note = []; answer = tt; taken = e.taken; noted = inl noted }
+done (Some files) plan numbers out out' notes notes' faults faults' e noted =
+    record { text = e.text; note = []; answer = (e.answer.1, rw e.answer.0 (refl, refl)); taken = e.taken; noted = inl noted }
+
+stopped : (told : Option Files) (plan : Plan) (stop : Stop) (numbers : List ℕ) (out out' notes notes' : Option (List ℕ)) (faults faults' : ℕ)
+    → SessionEnded told plan (ends.Stopped stop) numbers out out' → TakesNote notes notes' faults faults' (stop_reason stop).note
+    → EndedBy (option_map (run_over plan) told) (stop_reason stop).status numbers out out' notes notes' faults faults'
+stopped None plan stop numbers out out' notes notes' faults faults' e noted = record { text = e.text; note = (stop_reason stop).note; answer = tt; taken = e.taken; noted = noted }
+stopped (Some files) plan stop numbers out out' notes notes' faults faults' e noted =
+    record { text = e.text; note = (stop_reason stop).note; answer = (e.answer.1, rw e.answer.0 (refl, refl)); taken = e.taken; noted = noted }
+
+session_broken : (told : Option Files) (plan : Plan) (end : End) (numbers : List ℕ) (out out' notes notes' : Option (List ℕ)) (faults faults' : ℕ) (note : List ℕ)
+    → (e : SessionEnded told plan end numbers out out') → Appends out out' e.text → TakesNote notes notes' faults faults' note
+    → BrokenOffBy (option_map (run_over plan) told) numbers out out' notes notes' faults faults' note
+session_broken told plan end numbers out out' notes notes' faults faults' note e taken noted =
+    record { text = e.text; answer = some_answered told plan end numbers e.text e.answer; taken = taken; noted = noted }
+
+-- the status of a stop, and where it comes from
+stop_good : (stop : Stop) → IsVerdictStatus (stop_reason stop).status
+stop_good (stops.NoFile file) = (λ e. omega arith, λ e. omega arith, λ e. omega arith)
+stop_good (stops.TooLong file) = (λ e. omega arith, λ e. omega arith, λ e. omega arith)
+
+stop_absent : (absents absents' : ℕ) (stop : Stop) → StopHasCause absents absents' stop → (stop_reason stop).status ≡ 8 → Rose absents absents'
+stop_absent absents absents' (stops.NoFile file) cause e = cause
+stop_absent absents absents' (stops.TooLong file) cause e = absurd (omega arith)
+
+pub session_run : (told : Option Files) (plan : Plan) (end : End) {status : ℕ} {numbers : List ℕ} {out out' notes notes' : Option (List ℕ)} {out_faults out_faults' faults faults' shelf shelf' absents absents' : ℕ}
+    → SessionEnded told plan end numbers out out' → EndHasCause shelf shelf' absents absents' out_faults out_faults' end → EndTells end status notes notes' faults faults'
+    → HasRun (option_map (run_over plan) told) status numbers out out' notes notes' out_faults out_faults' faults faults' shelf shelf' absents absents'
+session_run told plan ends.Done e cause tells =
+    rw tells.0 (as_ended (λ e. omega arith, λ e. omega arith, λ e. omega arith) (λ e. absurd (omega arith)) (done told plan _ _ _ _ _ _ _ e tells.1))
+session_run told plan (ends.Stopped stop) e cause tells = ⊎_elim
+    (λ is. rw is.0 (as_ended (stop_good stop) (stop_absent _ _ stop cause) (stopped told plan stop _ _ _ _ _ _ _ e is.1)))
+    (λ is. as_memory is.0 (session_broken told plan (ends.Stopped stop) _ _ _ _ _ _ _ memory_note e e.taken is.1))
+    tells
+session_run told plan ends.ReadFault e cause tells = as_read_fault tells.0 cause (session_broken told plan ends.ReadFault _ _ _ _ _ _ _ read_fault_note e e.taken tells.1)
+session_run told plan ends.WriteFault e cause tells = as_write_fault tells.0 (record {
+  text = e.text;
+  report = [];
+  answer = session_cut told plan _ e.text e.answer;
+  ends = record { cause = inl cause; taken = e.taken; noted = inl tells.1 };
+})
+session_run told plan ends.Memory e cause tells = as_memory tells.0 (session_broken told plan ends.Memory _ _ _ _ _ _ _ memory_note e e.taken tells.1)
+
+-- ---- the words
+
+pub halt_words : (P : Type 0) (halt : Halt) (status : ℕ) (notes notes' : Option (List ℕ)) (faults faults' : ℕ) → OfWordsOnlyIf P halt → HaltTells halt status notes notes' faults faults' → status ≡ 2 → P
+halt_words P (halts.Refused reason note) status notes notes' faults faults' words tells is = words (sym tells.0 ∙ is)
+halt_words P halts.ReadFault status notes notes' faults faults' words tells is = absurd (let e = tells.0 in omega arith)
+halt_words P halts.Memory status notes notes' faults faults' words tells is = absurd (let e = tells.0 in omega arith)
+
+pub halt_past_words : (halt : Halt) (status : ℕ) (notes notes' : Option (List ℕ)) (faults faults' : ℕ) → IsPastWords halt → HaltTells halt status notes notes' faults faults' → status ≢ 2
+halt_past_words (halts.Refused reason note) status notes notes' faults faults' past tells = λ is. past (sym tells.0 ∙ is)
+halt_past_words halts.ReadFault status notes notes' faults faults' past tells = λ is. let e = tells.0 in omega arith
+halt_past_words halts.Memory status notes notes' faults faults' past tells = λ is. let e = tells.0 in omega arith
+
+stop_past_words : (stop : Stop) → (stop_reason stop).status ≢ 2
+stop_past_words (stops.NoFile file) = λ e. omega arith
+stop_past_words (stops.TooLong file) = λ e. omega arith
+
+pub end_past_words : (end : End) (status : ℕ) (notes notes' : Option (List ℕ)) (faults faults' : ℕ) → EndTells end status notes notes' faults faults' → status ≢ 2
+end_past_words ends.Done status notes notes' faults faults' tells = λ is. let e = tells.0 in omega arith
+end_past_words (ends.Stopped stop) status notes notes' faults faults' tells =
+    λ is. ⊎_elim (λ t. stop_past_words stop (sym t.0 ∙ is)) (λ t. let e = t.0 in omega arith) tells
+end_past_words ends.ReadFault status notes notes' faults faults' tells = λ is. let e = tells.0 in omega arith
+end_past_words ends.WriteFault status notes notes' faults faults' tells = λ is. let e = tells.0 in omega arith
+end_past_words ends.Memory status notes notes' faults faults' tells = λ is. let e = tells.0 in omega arith

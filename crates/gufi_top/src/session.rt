@@ -1,0 +1,250 @@
+//! `session`: the phases of a script, over files that are read as they come.
+ghost use Rattle.std.specs.Prelude.{◌≡◌, ◌≢◌, ◌≤◌, List, Err, IfErr, IfOk, IsTrue, option_map};
+ghost use Rattle.gufi_script.specs.ScriptText.{PlacedAct, is_script};
+ghost use Rattle.gufi_plan.specs.Plan.{Plan};
+ghost use Rattle.gufi_top.specs.Reasons.{script_reason, stop_reason, acts_within, acts_in};
+ghost use Rattle.gufi_top.specs.Verdict.{plan_with, script_plan, session_plan, run_over, session_over};
+ghost use Rattle.gufi_top.specs.Calls.{Gives, GivesOver, IsOfBytes, IsPastWords, HaltHasCause};
+ghost use Rattle.gufi_top.specs.Endings.{HasRun, StopTells, EndTells};
+
+use crate::ending::{Outcome, halted, tell};
+use crate::halt::{Halt, refused};
+use crate::note;
+use crate::reading::{MAX_TRACE, read_file};
+use crate::users::read_users;
+use gufi_base::Text;
+use gufi_io::{Gate, Shelf, Sink};
+use gufi_phases::{End, Ended, Stop};
+use gufi_plan::{SessionPlan, Setup, plan_session};
+use gufi_script::{Script, ScriptError, ScriptKind, read_script};
+use gufi_session::run_session;
+use std::alloc::{AllocError, Global};
+use std::sync::Wait;
+use std::thread::Threads;
+
+/// How many bytes a script may have.
+const MAX_SCRIPT: u32 = 16_777_216;
+
+/// What the command names.
+#[derive(Clone, Copy)]
+pub(crate) struct Session<'a> {
+    pub(crate) passwd: &'a Option<Text>,
+    pub(crate) group: &'a Option<Text>,
+    /// The byte between the fields of a trace.
+    pub(crate) delim: u8,
+    /// From which times count back, in seconds.
+    pub(crate) moment: Option<i64>,
+    pub(crate) script: &'a Text,
+}
+
+// A script isn't taken: a line is faulty, or a limit is passed.
+#[tactic(auto, unfolding(crate::specs::Reasons::script_reason))]
+fn refuse_line<T>(alloc: Global, name: &str, line: u32, kind: ScriptKind) -> Result<T, Halt>
+    ensures reason { Gives (λ (x : T). x) result (Err (script_reason name.now (ScriptError.Fault line kind))) }
+    ensures of_bytes { IfErr result IsOfBytes }
+    ensures past_words { IfErr result IsPastWords }
+{
+    if let ScriptKind::TooMany { limit } = kind {
+        return refused(6, note::past_limit(alloc, name, limit)?);
+    }
+    refused(5, note::script_line(alloc, name, line, kind)?)
+}
+
+// The acts of a script.
+fn acts_of(alloc: Global, name: &str, bytes: &[u8]) -> Result<Script, Halt>
+    ensures acts { Gives (λ (acts : List PlacedAct). acts) result (acts_within name.now bytes.now) }
+    ensures sound { IfOk result (λ script. IsTrue (is_script script)) }
+    ensures of_bytes { IfErr result IsOfBytes }
+    ensures past_words { IfErr result IsPastWords }
+{
+    match read_script(alloc, bytes) {
+        Ok(script) => Ok(script),
+        Err(ScriptError::Fault { line, kind }) => refuse_line(alloc, name, line, kind),
+        Err(ScriptError::Memory) => Err(Halt::Memory),
+    }
+}
+
+// The acts of the script in a file.
+#[tactic(auto, using(crate::proofs::SessionLemmas::scripts, crate::proofs::StepLemmas::cause_later, crate::proofs::StepLemmas::cause_of_bytes))]
+fn read_acts<F: Shelf>(alloc: Global, shelf: &mut F, name: &str) -> Result<Script, Halt>
+    ensures acts { GivesOver (F.files shelf.old) (λ (acts : List PlacedAct). acts) result (acts_in name.now) }
+    ensures sound { IfOk result (λ script. IsTrue (is_script script)) }
+    ensures past_words { IfErr result IsPastWords }
+    ensures cause { IfErr result (HaltHasCause (F.faults shelf.old) (F.faults shelf.new) (F.absents shelf.old) (F.absents shelf.new)) }
+    ensures same { F.files shelf.new ≡ F.files shelf.old }
+    ensures faults { F.faults shelf.old ≤ F.faults shelf.new }
+    ensures absents { F.absents shelf.old ≤ F.absents shelf.new }
+{
+    match read_file(alloc, shelf, name, MAX_SCRIPT) {
+        Ok(bytes) => acts_of(alloc, name, &bytes),
+        Err(halt) => Err(halt),
+    }
+}
+
+// The plan of acts: a user and a query of each ask, in line order.
+fn plan_of(
+    alloc: Global,
+    name: &str,
+    script: Script,
+    setup: &Setup<'_>,
+) -> Result<SessionPlan, Halt>
+    requires { IsTrue (is_script script) }
+    ensures plan { Gives (λ (plan : Plan). plan) result (plan_with (record { tables = setup.entry.now.users.now; now = setup.entry.now.now; delim = setup.entry.now.delim }) name.now script) }
+    ensures of_bytes { IfErr result IsOfBytes }
+    ensures past_words { IfErr result IsPastWords }
+{
+    match plan_session(alloc, script, setup) {
+        Ok(plan) => Ok(plan),
+        Err(ScriptError::Fault { line, kind }) => refuse_line(alloc, name, line, kind),
+        Err(ScriptError::Memory) => Err(Halt::Memory),
+    }
+}
+
+// The plan of the script in a file.
+#[tactic(auto, using(crate::proofs::SessionLemmas::scripts, crate::proofs::StepLemmas::cause_later, crate::proofs::StepLemmas::cause_of_bytes))]
+fn read_script_plan<F: Shelf>(
+    alloc: Global,
+    shelf: &mut F,
+    name: &str,
+    setup: &Setup<'_>,
+) -> Result<SessionPlan, Halt>
+    ensures plan { GivesOver (F.files shelf.old) (λ (plan : Plan). plan) result (script_plan (record { tables = setup.entry.now.users.now; now = setup.entry.now.now; delim = setup.entry.now.delim }) name.now) }
+    ensures past_words { IfErr result IsPastWords }
+    ensures cause { IfErr result (HaltHasCause (F.faults shelf.old) (F.faults shelf.new) (F.absents shelf.old) (F.absents shelf.new)) }
+    ensures same { F.files shelf.new ≡ F.files shelf.old }
+    ensures faults { F.faults shelf.old ≤ F.faults shelf.new }
+    ensures absents { F.absents shelf.old ≤ F.absents shelf.new }
+{
+    match read_acts(alloc, shelf, name) {
+        Ok(script) => plan_of(alloc, name, script, setup),
+        Err(halt) => Err(halt),
+    }
+}
+
+// The plan that the command asks for: the files are read in the order passwd, group and script.
+#[tactic(auto, using(crate::proofs::SessionLemmas::scripts, crate::proofs::StepLemmas::cause_later))]
+fn read_plan<F: Shelf>(
+    alloc: Global,
+    shelf: &mut F,
+    session: &Session<'_>,
+) -> Result<SessionPlan, Halt>
+    ensures plan { GivesOver (F.files shelf.old) (λ (plan : Plan). plan) result
+        (session_plan session.entry.now.passwd.now session.entry.now.group.now session.entry.now.delim session.entry.now.moment session.entry.now.script.now) }
+    ensures past_words { IfErr result IsPastWords }
+    ensures cause { IfErr result (HaltHasCause (F.faults shelf.old) (F.faults shelf.new) (F.absents shelf.old) (F.absents shelf.new)) }
+    ensures same { F.files shelf.new ≡ F.files shelf.old }
+    ensures faults { F.faults shelf.old ≤ F.faults shelf.new }
+    ensures absents { F.absents shelf.old ≤ F.absents shelf.new }
+{
+    match read_users(alloc, shelf, session.passwd, session.group) {
+        Ok(users) => {
+            let setup = Setup {
+                users: &users,
+                now: session.moment,
+                delim: session.delim,
+            };
+            read_script_plan(alloc, shelf, session.script.as_str(), &setup)
+        }
+        Err(halt) => Err(halt),
+    }
+}
+
+fn stop_status(stop: &Stop) -> u8
+    ensures { result ≡ (stop_reason stop.now).status }
+{
+    match stop {
+        Stop::NoFile { .. } => 8,
+        Stop::TooLong { .. } => 6,
+    }
+}
+
+fn stop_note(alloc: Global, stop: &Stop) -> Result<Vec<u8>, AllocError>
+    ensures { IfOk result (λ note. note.items ≡ (stop_reason stop.now).note) }
+{
+    match stop {
+        Stop::NoFile { file } => note::not_found(alloc, file.as_str()),
+        Stop::TooLong { file } => note::past_limit(alloc, file.as_str(), MAX_TRACE),
+    }
+}
+
+// Writes the note of the file at which a session ends, and gives its status.
+fn tell_stop<K: Sink>(alloc: Global, stop: &Stop, notes: &mut K) -> u8
+    ensures { StopTells stop.now result (K.taken notes.old) (K.taken notes.new) (K.faults notes.old) (K.faults notes.new) }
+{
+    match stop_note(alloc, stop) {
+        Ok(note) => {
+            tell(notes, &note);
+            stop_status(stop)
+        }
+        Err(_) => {
+            tell(notes, note::memory());
+            7
+        }
+    }
+}
+
+// Writes the note of a session's end, and gives its status.
+fn tell_end<K: Sink>(alloc: Global, end: End, notes: &mut K) -> u8
+    ensures { EndTells end result (K.taken notes.old) (K.taken notes.new) (K.faults notes.old) (K.faults notes.new) }
+{
+    match end {
+        End::Done => 0,
+        End::Stopped { stop } => tell_stop(alloc, &stop, notes),
+        End::ReadFault => {
+            tell(notes, note::read_fault());
+            3
+        }
+        End::WriteFault => {
+            tell(notes, note::write_fault());
+            4
+        }
+        End::Memory => {
+            tell(notes, note::memory());
+            7
+        }
+    }
+}
+
+// Runs a plan.
+fn run_plan<R: Threads + Wait + Sync, F: Shelf, K: Sink, G: Gate>(
+    rt: &R,
+    alloc: Global,
+    plan: &SessionPlan,
+    shelf: &mut F,
+    out: &mut K,
+    notes: &mut K,
+    gate: &G,
+) -> Outcome
+    ensures run { HasRun (option_map (run_over plan.now) (F.files shelf.old)) result.status result.numbers.items
+        (K.taken out.old) (K.taken out.new) (K.taken notes.old) (K.taken notes.new)
+        (K.faults out.old) (K.faults out.new) (K.faults notes.old) (K.faults notes.new)
+        (F.faults shelf.old) (F.faults shelf.new) (F.absents shelf.old) (F.absents shelf.new) }
+    ensures past_words { result.status ≢ 2 }
+{
+    let Ended { end, numbers } = run_session(rt, alloc, plan, shelf, out, gate);
+    let status = tell_end(alloc, end, notes);
+    Outcome { status, numbers }
+}
+
+/// Does all that the command asks: reads the users and the script, and then runs it, phase by phase.
+pub(crate) fn run<R: Threads + Wait + Sync, F: Shelf, K: Sink, G: Gate>(
+    rt: &R,
+    alloc: Global,
+    session: &Session<'_>,
+    shelf: &mut F,
+    out: &mut K,
+    notes: &mut K,
+    gate: &G,
+) -> Outcome
+    ensures run { HasRun (option_map (session_over session.entry.now.passwd.now session.entry.now.group.now session.entry.now.delim session.entry.now.moment session.entry.now.script.now) (F.files shelf.old))
+        result.status result.numbers.items
+        (K.taken out.old) (K.taken out.new) (K.taken notes.old) (K.taken notes.new)
+        (K.faults out.old) (K.faults out.new) (K.faults notes.old) (K.faults notes.new)
+        (F.faults shelf.old) (F.faults shelf.new) (F.absents shelf.old) (F.absents shelf.new) }
+    ensures past_words { result.status ≢ 2 }
+{
+    match read_plan(alloc, shelf, session) {
+        Ok(plan) => run_plan(rt, alloc, &plan, shelf, out, notes, gate),
+        Err(halt) => halted(alloc, halt, notes),
+    }
+}

@@ -1,0 +1,116 @@
+//! What is made of an answer: its printed paths, its rows, their sum; and a refusal in words.
+
+ghost use Rattle.std.specs.Prelude.{◌≡◌, ◌≢◌, ◌++◌, length, Some, None, IfOk, IfErr, OnOk, decimal};
+ghost use Rattle.gufi_base.specs.PathLines.{path_lines};
+ghost use Rattle.gufi_sums.specs.Total.{total};
+ghost use Rattle.gufi_tree.specs.Resolve.{resolve};
+ghost use Rattle.gufi_walk.specs.Answer.{answer, refusal_of};
+ghost use Rattle.gufi_walk.specs.Refusals.{class_text, refusal_text};
+
+use crate::descent::answer_uncounted;
+use crate::refusal::Refusal;
+use gufi_access::{Class, Principal};
+use gufi_base::{Memory, Path, PathList, Pred, Row, RowList, put_u64};
+use gufi_snap::Snapshot;
+use gufi_sums::{NoSkip, Summary};
+use std::alloc::Global;
+
+/// Printed paths, a line each, and how many they are.
+#[derive(Drop)]
+pub struct PathLines {
+    pub count: usize,
+    pub text: Vec<u8>,
+}
+
+/// The paths of the rows that the principal lists from the start and that meet the question, in path order.
+pub fn answer_lines<P: Pred>(
+    alloc: Global,
+    snap: &Snapshot,
+    who: &Principal,
+    start: &Path,
+    pred: &P,
+) -> Result<PathLines, Refusal>
+    ensures text { IfOk result (λ lines. lines.text.items ≡ path_lines (answer snap.now.tree who.now start.now (P.sat pred.now))) }
+    ensures count { IfOk result (λ lines. lines.count ≡ length (answer snap.now.tree who.now start.now (P.sat pred.now))) }
+    ensures found { OnOk result (refusal_of (resolve snap.now.tree who.now start.now) ≡ None) }
+    ensures refusal { IfErr result (λ refusal. refusal ≢ Refusal.Memory → refusal_of (resolve snap.now.tree who.now start.now) ≡ Some refusal) }
+{
+    let _tree = snap.tree();
+    match answer_uncounted::<P, PathList, NoSkip>(alloc, snap, who, start, pred, &NoSkip) {
+        Ok(paths) => {
+            let count = paths.len();
+            let text = paths.lines(alloc)?;
+            Ok(PathLines { count, text })
+        }
+        Err(refusal) => Err(refusal),
+    }
+}
+
+/// The rows that the principal lists from the start and that meet the question, in path order.
+pub fn answer_rows<P: Pred>(
+    alloc: Global,
+    snap: &Snapshot,
+    who: &Principal,
+    start: &Path,
+    pred: &P,
+) -> Result<Vec<Row>, Refusal>
+    ensures rows { IfOk result (λ rows. rows.items ≡ answer snap.now.tree who.now start.now (P.sat pred.now)) }
+    ensures found { OnOk result (refusal_of (resolve snap.now.tree who.now start.now) ≡ None) }
+    ensures refusal { IfErr result (λ refusal. refusal ≢ Refusal.Memory → refusal_of (resolve snap.now.tree who.now start.now) ≡ Some refusal) }
+{
+    let _tree = snap.tree();
+    match answer_uncounted::<P, RowList, NoSkip>(alloc, snap, who, start, pred, &NoSkip) {
+        Ok(rows) => Ok(rows.sorted(alloc)?),
+        Err(refusal) => Err(refusal),
+    }
+}
+
+/// The sum of the rows that the principal lists from the start and that meet the question.
+pub fn answer_sum<P: Pred>(
+    alloc: Global,
+    snap: &Snapshot,
+    who: &Principal,
+    start: &Path,
+    pred: &P,
+) -> Result<Summary, Refusal>
+    ensures sum { IfOk result (λ sum. sum ≡ total (answer snap.now.tree who.now start.now (P.sat pred.now))) }
+    ensures found { OnOk result (refusal_of (resolve snap.now.tree who.now start.now) ≡ None) }
+    ensures refusal { IfErr result (λ refusal. refusal ≢ Refusal.Memory → refusal_of (resolve snap.now.tree who.now start.now) ≡ Some refusal) }
+{
+    answer_uncounted::<P, Summary, NoSkip>(alloc, snap, who, start, pred, &NoSkip)
+}
+
+fn class_word(class: Class) -> &'static [u8]
+    ensures { result.now ≡ class_text class }
+{
+    match class {
+        Class::Owner => b"owner",
+        Class::Group => b"group",
+        Class::Other => b"other",
+    }
+}
+
+/// Appends words and the depth that they speak of.
+fn put_depth(text: &mut Vec<u8>, words: &[u8], depth: u32) -> Result<(), Memory>
+    ensures { OnOk result (text.new.items ≡ text.old.items ++ (words.now ++ decimal depth)) }
+{
+    text.extend_from_slice(words)?;
+    put_u64(text, u64::from(depth))
+}
+
+/// Appends a refusal in words, without a newline. Of want of memory it appends nothing.
+pub fn put_refusal(text: &mut Vec<u8>, refusal: Refusal) -> Result<(), Memory>
+    ensures { OnOk result (text.new.items ≡ text.old.items ++ refusal_text refusal) }
+{
+    match refusal {
+        Refusal::Denied { depth, class } => {
+            put_depth(text, b"denied at depth ", depth)?;
+            text.extend_from_slice(b" class ")?;
+            text.extend_from_slice(class_word(class))?;
+            Ok(())
+        }
+        Refusal::NoSuch { depth } => put_depth(text, b"no such at depth ", depth),
+        Refusal::NotDir { depth } => put_depth(text, b"not a directory at depth ", depth),
+        Refusal::Memory => Ok(()),
+    }
+}
