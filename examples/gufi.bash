@@ -1,6 +1,6 @@
 # Completions of gufi for bash. Made by: gufi --completions
 _gufi() {
-    local names='walk find query ls stat stats trace2index rollup gen --help --version --man --completions '
+    local names='walk find query ls stat stats trace2index rollup session gen --help --version --man --completions '
     case $COMP_CWORD:${COMP_WORDS[1]} in
     1:*) ;;
     *:walk) names='--help' ;;
@@ -11,6 +11,7 @@ _gufi() {
     *:stats) names='--passwd --group --delim --limit --workers --help' ;;
     *:trace2index) names='--delim --help' ;;
     *:rollup) names='--limit --delim --help' ;;
+    *:session) names='--passwd --group --delim --workers --now --help' ;;
     *:gen) names='--summary --delim --workers --help' ;;
     *) names= ;;
     esac
