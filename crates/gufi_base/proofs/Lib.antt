@@ -1,3 +1,5 @@
+pub mod Arranged
+pub mod Behind
 pub mod Below
 pub mod Blocks
 pub mod Children
@@ -19,5 +21,6 @@ pub mod SortedOnce
 pub mod Sorting
 pub mod SplitParts
 pub mod Spots
+pub mod Stretches
 pub mod TextLines
 pub mod Texts

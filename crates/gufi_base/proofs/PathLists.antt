@@ -1,31 +1,29 @@
 -- Lists of paths: one more, the path at a place, and places in order.
-use Rattle.std.proofs.Common.{◌≡◌, ℕ, zero, suc, ◌+◌, ◌-◌, ◌<◌, ◌≤◌, true, false, cond, List, [], ◌∷◌, ◌++◌, length, get_or, take, refl, sym, ap, ◌∙◌, subst, arith, append_assoc, length-append, add-zero, zero-add, ⊎_elim}
-use Rattle.std.specs.Prelude.{Option, Some, None, IfSome, All, Result, Ok, Err, OnErr, OnOk}
+use Rattle.std.proofs.Common.{◌≡◌, ℕ, zero, suc, ◌-◌, ◌<◌, ◌≤◌, true, false, cond, List, [], ◌∷◌, ◌++◌, length, get_or, refl, sym, ap, ◌∙◌, subst, arith, append_assoc, length-append, ⊎_elim}
+use Rattle.std.specs.Prelude.{Option, Some, None, All, Result, Ok, Err, OnErr, OnOk}
 use Rattle.std.specs.Ordering.{is_lt}
 use Rattle.std.specs.List.{flat_map, range_with_len}
-use Rattle.std.specs.List.Sorted.{IsPermutation, IsSortedBy}
+use Rattle.std.specs.List.Sorted.{IsPermutation}
 use Rattle.std.specs.declared.cmp.Ordering.TheVariants.{Less}
 use Rattle.std.proofs.lemmas.Bool.{cases_lt}
 use Rattle.std.proofs.lemmas.Grind.{flat_map-append}
-use Rattle.std.proofs.lemmas.List.{append-nil, map-append, length-map, get_or-map, get_or_append_left, get_or_default, get_or_past, take_more}
+use Rattle.std.proofs.lemmas.List.{append-nil, map-append, get_or-map, get_or_append_left, get_or_default}
 use Rattle.std.proofs.lemmas.List.Elements.{All-append}
 use Rattle.std.proofs.lemmas.List.FromFn.{fill_by_all}
 use Rattle.std.proofs.lemmas.List.Folds.{flat_map-map}
-use Rattle.std.proofs.lemmas.List.Sorted.{IsPermutation-map, IsPermutation-trans, IsPermutation-sym, IsPermutation-append_right, IsPermutation-append_left, IsPermutation-append_comm, IsPermutation-append}
+use Rattle.std.proofs.lemmas.List.Sorted.{IsPermutation-map, IsPermutation-trans, IsPermutation-sym, IsPermutation-append_left, IsPermutation-append}
 use Rattle.std.proofs.Math.Seq.{get_or-append_seam}
 use Rattle.gufi_base.specs.declared.record.Row.{Row}
 use Rattle.gufi_base.specs.declared.spot.Spot.{Spot}
-use Rattle.gufi_base.specs.declared.tail.Tail.{Tail}
 use Rattle.gufi_base.specs.Words.{ascends}
 use Rattle.gufi_base.specs.Paths.{Components, path_cmp, path_text, slashed_text, parent_path, base_name, stem}
 use Rattle.gufi_base.specs.declared.record.RowRef.{RowRef}
 use Rattle.gufi_base.specs.Rows.{row_cmp, Stands}
 use Rattle.gufi_base.specs.PathLists.{ArePartsOf, AreSpots, Follow, Grows, IsLast, IsSpot, StandsBehind, InOrder, ArePlaces, path_in, paths_in, picked}
 use Rattle.gufi_base.specs.PathLines.{path_line, path_lines, row_paths, ArePathsOf}
-use Rattle.gufi_base.specs.PathPlaces.{places_between, waiting_places}
 use Rattle.gufi_base.proofs.Cuts.{all_but_last_and_last}
 use Rattle.gufi_base.proofs.Prefixes.{paths_total}
-use Rattle.gufi_base.proofs.SortedOnce.{less_turned, same_from_sorted}
+use Rattle.gufi_base.proofs.SortedOnce.{same_from_sorted}
 use Rattle.gufi_base.proofs.Spots.{path_in-grows, IsSpot-grows}
 
 -- a text that grows keeps its paths
@@ -46,10 +44,6 @@ AreSpots-grows text next spots g are = record {
             ∙ ap (path_cmp (path_in text (get_or spots (k - 1) d))) (path_in-grows text next _ g (are.each k d h)) ∙ old.1,
       );
 }
-
-pub IsSpot-last : (text : List ℕ) (spots : List Spot) (last : Option Spot) → IsLast spots last → AreSpots text spots → IfSome last (IsSpot text)
-IsSpot-last text spots None is are = tt
-IsSpot-last text spots (Some spot) is are = subst (IsSpot text) (sym is.1) (are.each (length spots - 1) spot (omega (arith, is.0)))
 
 behind_last : (text : List ℕ) (spots : List Spot) (last : Option Spot) (front name : List ℕ) (path : Components) (d : Spot) → IsLast spots last → ArePartsOf front name path
     → StandsBehind text last front name → (0 < length spots) × (path_cmp (path_in text (get_or spots (length spots - 1) d)) path ≡ Less)
@@ -90,69 +84,11 @@ pub parts_at : (text : List ℕ) (spots : List Spot) (k : ℕ) (spot : Spot) →
 parts_at text spots k spot are h e =
     (subst (IsSpot text) (sym e) (are.each k spot h), get_or-map (path_in text) spots k spot [] h ∙ ap (path_in text) (sym e))
 
-pub follows_at : (text : List ℕ) (spots : List Spot) (k : ℕ) (spot : Spot) → AreSpots text spots → k < length spots → spot ≡ get_or spots k spot → spot.follows ≡ true
-    → (0 < k) × (path_cmp (get_or (paths_in text spots) (k - 1) []) (get_or (paths_in text spots) k []) ≡ Less)
-follows_at text spots k spot are h e f =
-    let was = are.follow k spot h (sym (ap (λ (s : Spot). s.follows) e) ∙ f) in
-    (was.0, rw (get_or-map (path_in text) spots k spot [] h, get_or-map (path_in text) spots (k - 1) spot [] (omega (arith, h))) was.1)
-
-pub root_past : (paths : List Components) (k : ℕ) → length paths ≤ k → ArePartsOf [] (47 ∷ []) (get_or paths k [])
-root_past paths k h = rw (get_or_past paths k [] h) record { names = refl; stem = refl; base = refl }
-
 -- each place once gives each element once
 pub picked-IsPermutation : {A : Type 0} (xs : List A) (d : A) (places : List ℕ) → IsPermutation (range_with_len 0 (length xs)) places → IsPermutation xs (picked xs d places)
 picked-IsPermutation xs d places h =
     subst (λ l. IsPermutation l (picked xs d places)) (sym (fill_by_all (λ k. get_or xs k d) xs (length xs) d refl (λ k m. refl)))
     (IsPermutation-map (λ k. get_or xs k d) (range_with_len 0 (length xs)) places h)
-
-picked_at : (paths : List Components) (places : List ℕ) (d : Components) (k : ℕ) → k < length places → get_or (picked paths [] places) k d ≡ get_or paths (get_or places k 0) []
-picked_at paths places d k h = get_or-map (λ i. get_or paths i []) places k 0 d h
-
-pub InOrder-steps : (paths : List Components) (places : List ℕ)
-    → ((j : ℕ) → j + 1 < length places → path_cmp (get_or paths (get_or places j 0) []) (get_or paths (get_or places (j + 1) 0) []) ≡ Less) → InOrder (picked paths [] places)
-InOrder-steps paths places h = λ k d low high.
-    let within : k + 1 < length places = omega (arith, high, length-map places (λ i. get_or paths i [])) in
-    rw (picked_at paths places d (k + 1) within, picked_at paths places d k (omega (arith, within))) (ap is_lt (less_turned path_cmp paths_total (get_or paths (get_or places k 0) []) (get_or paths (get_or places (k + 1) 0) []) (h k within)))
-
-pub InOrder-sorted : (paths : List Components) (places : List ℕ) → IsSortedBy (λ i j. is_lt (path_cmp (get_or paths i []) (get_or paths j []))) places → InOrder (picked paths [] places)
-InOrder-sorted paths places h = λ k d low high.
-    let within : k + 1 < length places = omega (arith, high, length-map places (λ i. get_or paths i [])) in
-    rw (picked_at paths places d (k + 1) within, picked_at paths places d k (omega (arith, within))) (h k 0 low within)
-
--- places that are put out of a tail's front
-range-split : (a m n : ℕ) → range_with_len a (m + n) ≡ range_with_len a m ++ range_with_len (a + m) n
-range-split a zero n = rw (zero-add n, add-zero a) refl
-range-split a (suc m) n =
-    let e : suc m + n ≡ suc (m + n) = omega arith in
-    let f : a + 1 + m ≡ a + suc m = omega arith in
-    rw e (ap (λ l. a ∷ l) (range-split (a + 1) m n ∙ ap (λ k. range_with_len (a + 1) m ++ range_with_len k n) f))
-
-pub places-split : (from middle end : ℕ) → from ≤ middle → middle ≤ end → places_between from end ≡ places_between from middle ++ places_between middle end
-places-split from middle end h k =
-    let e : end - from ≡ (middle - from) + (end - middle) = omega arith in
-    let f : from + (middle - from) ≡ middle = omega arith in
-    ap (range_with_len from) e ∙ range-split from (middle - from) (end - middle) ∙ ap (λ i. places_between from middle ++ range_with_len i (end - middle)) f
-
-pub flushed : (all o w a b : List ℕ) → IsPermutation all (o ++ (w ++ (a ++ b))) → IsPermutation all ((o ++ a) ++ (w ++ b))
-flushed all o w a b h =
-    let turned : IsPermutation (w ++ (a ++ b)) (a ++ (w ++ b)) =
-    rw (← append_assoc w a b, ← append_assoc a w b) (IsPermutation-append_left b (w ++ a) (a ++ w) (IsPermutation-append_comm w a)) in
-    IsPermutation-trans all (o ++ (w ++ (a ++ b))) ((o ++ a) ++ (w ++ b)) h
-    (subst (λ l. IsPermutation (o ++ (w ++ (a ++ b))) l) (sym (append_assoc o a (w ++ b))) (IsPermutation-append_right o (w ++ (a ++ b)) (a ++ (w ++ b)) turned))
-
-pub waiting-push : (tails : List Tail) (tail : Tail) → waiting_places (tails ++ tail ∷ []) ≡ waiting_places tails ++ places_between tail.from tail.end
-waiting-push tails tail = flat_map-append (λ (t : Tail). places_between t.from t.end) tails (tail ∷ []) ∙ ap (λ l. waiting_places tails ++ l) (append-nil (places_between tail.from tail.end))
-
--- a loop's step: of the last tail the front is placed, and the rest waits or is nothing
-pub waiting-step : (all places done : List ℕ) (left : List Tail) (tails : List Tail) (tail rest : Tail) → left ≡ tails ++ tail ∷ []
-    → places_between tail.from tail.end ≡ done ++ places_between rest.from rest.end → IsPermutation all (places ++ waiting_places left)
-    → IsPermutation all ((places ++ done) ++ (waiting_places tails ++ places_between rest.from rest.end))
-waiting-step all places done left tails tail rest e split h =
-    flushed all places (waiting_places tails) done (places_between rest.from rest.end)
-    (subst (λ l. IsPermutation all (places ++ l)) (ap waiting_places e ∙ waiting-push tails tail ∙ ap (λ l. waiting_places tails ++ l) split) h)
-
-pub nothing_between : (from end : ℕ) → end ≤ from → places_between from end ≡ []
-nothing_between from end h = let e : end - from ≡ 0 = omega arith in ap (range_with_len from) e
 
 -- the printed text of a path is its two parts
 pub path_text-parts : (path : Components) → path_text path ≡ stem path ++ base_name path
@@ -168,15 +104,12 @@ line-parts front last text path parts =
     ap (λ (t : List ℕ). t ++ 10 ∷ []) (append_assoc text front last ∙ ap (λ (t : List ℕ). text ++ t) (ap (λ (t : List ℕ). t ++ last) parts.stem ∙ ap (λ (t : List ℕ). stem path ++ t) parts.base ∙ sym (path_text-parts path)))
     ∙ append_assoc text (path_text path) (10 ∷ [])
 
-pub lines_more : (paths : List Components) (places : List ℕ) (i place : ℕ) (text next : List ℕ) → i < length places → place ≡ get_or places i 0
-    → text ≡ flat_map path_line (take i (picked paths [] places)) → next ≡ text ++ path_line (get_or paths place []) → next ≡ flat_map path_line (take (i + 1) (picked paths [] places))
-lines_more paths places i place text next h p e f =
-    let at : get_or (picked paths [] places) i [] ≡ get_or paths place [] = picked_at paths places [] i h ∙ ap (λ k. get_or paths k []) (sym p) in
-    let more : take (i + 1) (picked paths [] places) ≡ take i (picked paths [] places) ++ get_or paths place [] ∷ [] =
-    take_more (picked paths [] places) i [] (omega (arith, h, length-map places (λ k. get_or paths k []))) ∙ ap (λ (x : Components). take i (picked paths [] places) ++ x ∷ []) at in
-    f ∙ ap (λ (t : List ℕ). t ++ path_line (get_or paths place [])) e
-    ∙ sym (ap (flat_map path_line) more ∙ flat_map-append path_line (take i (picked paths [] places)) (get_or paths place [] ∷ [])
-    ∙ ap (λ (t : List ℕ). flat_map path_line (take i (picked paths [] places)) ++ t) (append-nil (path_line (get_or paths place []))))
+-- the lines of the paths at the places
+abbrev pub lines_at : List Components → List ℕ → List ℕ
+lines_at paths places = flat_map path_line (picked paths [] places)
+
+pub lines-join : (paths : List Components) (ks js : List ℕ) → lines_at paths (ks ++ js) ≡ lines_at paths ks ++ lines_at paths js
+lines-join paths ks js = ap (flat_map path_line) (map-append (λ k. get_or paths k []) ks js) ∙ flat_map-append path_line (picked paths [] ks) (picked paths [] js)
 
 -- rows ascend as their paths do
 pub ascends-paths : (rows : List Row) → ascends path_cmp (row_paths rows) ≡ ascends row_cmp rows
@@ -193,38 +126,9 @@ picked-rows paths places rows are up of h =
 pub picked-lines : (rows : List Row) → flat_map path_line (row_paths rows) ≡ path_lines rows
 picked-lines rows = flat_map-map path_line (λ (row : Row). row.path) rows
 
--- one place more
-pub places-more : (from k : ℕ) → from ≤ k → places_between from (k + 1) ≡ places_between from k ++ k ∷ []
-places-more from k h =
-    let one : (k + 1) - k ≡ 1 = omega arith in
-    places-split from k (k + 1) h (omega arith) ∙ ap (λ n. places_between from k ++ range_with_len k n) one
-
--- one stretch more waits
-pub waiting-more : (from end : ℕ) (places : List ℕ) (tails next : List Tail) (tail : Tail) → from ≤ end → next ≡ tails ++ tail ∷ [] → tail.from ≡ from → tail.end ≡ end
-    → IsPermutation (range_with_len 0 from) (places ++ waiting_places tails) → IsPermutation (range_with_len 0 end) (places ++ waiting_places next)
-waiting-more from end places tails next tail h e f g are =
-    let b : List ℕ = places_between from end in
-    let tail_is : places_between tail.from tail.end ≡ b = ap (λ k. places_between k tail.end) f ∙ ap (places_between from) g in
-    let whole : end ≡ end - 0 = omega arith in
-    let front : from - 0 ≡ from = omega arith in
-    let all : range_with_len 0 end ≡ range_with_len 0 from ++ b = ap (range_with_len 0) whole ∙ places-split 0 from end (omega arith) h ∙ ap (λ k. range_with_len 0 k ++ b) front in
-    let wait : places ++ waiting_places next ≡ (places ++ waiting_places tails) ++ b =
-    ap (λ l. places ++ l) (ap waiting_places e ∙ waiting-push tails tail ∙ ap (λ l. waiting_places tails ++ l) tail_is) ∙ sym (append_assoc places (waiting_places tails) b) in
-    subst (λ l. IsPermutation l (places ++ waiting_places next)) (sym all)
-    (subst (λ l. IsPermutation (range_with_len 0 from ++ b) l) (sym wait) (IsPermutation-append_left b (range_with_len 0 from) (places ++ waiting_places tails) are))
-
 pub OnErr-always : {A E : Type 0} (r : Result A E) (P : Type 0) → P → OnErr r P
 OnErr-always (Ok x) P h = tt
 OnErr-always (Err e) P h = h
-
--- all of the last tail is placed
-pub waiting-whole : (all places : List ℕ) (left : List Tail) (tails : List Tail) (tail : Tail) → left ≡ tails ++ tail ∷ [] → IsPermutation all (places ++ waiting_places left)
-    → IsPermutation all ((places ++ places_between tail.from tail.end) ++ waiting_places tails)
-waiting-whole all places left tails tail e h =
-    let w : List ℕ = waiting_places tails in
-    let done : List ℕ = places_between tail.from tail.end in
-    subst (λ l. IsPermutation all ((places ++ done) ++ l)) (append-nil w)
-    (flushed all places w done [] (subst (λ l. IsPermutation all (places ++ l)) (ap waiting_places e ∙ waiting-push tails tail ∙ ap (λ l. w ++ l) (sym (append-nil done))) h))
 
 -- what a list of paths stands for, with one row more and with those of another list
 module _ {E : Type 0} where

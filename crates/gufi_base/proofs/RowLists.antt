@@ -1,11 +1,10 @@
 -- Lists of rows: one more, the row at a place, and rows in order.
-use Rattle.std.proofs.Common.{◌≡◌, ℕ, zero, suc, ◌+◌, ◌<◌, true, List, [], ◌∷◌, ◌++◌, length, get_or, take, refl, sym, ap, ◌∙◌, subst, arith, length-append}
+use Rattle.std.proofs.Common.{◌≡◌, ℕ, zero, suc, ◌+◌, ◌<◌, true, List, [], ◌∷◌, ◌++◌, length, get_or, refl, sym, ap, ◌∙◌, subst, arith}
 use Rattle.std.specs.Prelude.{All, Result, Ok, Err, OnOk}
 use Rattle.std.specs.Ordering.{is_lt}
 use Rattle.std.specs.List.{range_with_len}
 use Rattle.std.specs.List.Sorted.{IsPermutation, IsSortedBy}
-use Rattle.std.proofs.lemmas.List.{length-map, get_or-map, take_more}
-use Rattle.std.proofs.lemmas.List.Elements.{All-append}
+use Rattle.std.proofs.lemmas.List.{length-map, get_or-map}
 use Rattle.std.proofs.lemmas.List.FromFn.{get_or-range_with_len, length-range_with_len}
 use Rattle.std.proofs.lemmas.List.Sorted.{All-permutation, IsPermutation-append, IsPermutation-append_left, IsPermutation-sym, IsPermutation-trans}
 use Rattle.gufi_base.specs.declared.record.Rec.{Rec}
@@ -13,7 +12,7 @@ use Rattle.gufi_base.specs.declared.record.Row.{Row}
 use Rattle.gufi_base.specs.declared.record.RowRef.{RowRef}
 use Rattle.gufi_base.specs.declared.kept.Kept.{Kept}
 use Rattle.gufi_base.specs.Words.{ascends}
-use Rattle.gufi_base.specs.Paths.{Components, slashed_text, parent_path}
+use Rattle.gufi_base.specs.Paths.{Components}
 use Rattle.gufi_base.specs.PathTexts.{kept_text, names, IsText}
 use Rattle.gufi_base.specs.Rows.{Stands, row_cmp}
 use Rattle.gufi_base.specs.PathLists.{ArePartsOf, Grows, InOrder, IsSpan, picked}
@@ -29,11 +28,6 @@ pub IsText-parts : (front last text : List ℕ) (path : Components) → AreParts
 IsText-parts front last text path parts some e =
     let whole : text ≡ kept_text path = e ∙ (IsCut-parts front last path parts some).whole in
     (subst IsText (sym whole) (IsText-kept_text path parts.names), ap names whole ∙ names-kept_text path parts.names)
-
-pub root-parts : (front last : List ℕ) (path : Components) → ArePartsOf front last path → length front ≡ 0 → [] ≡ path
-root-parts front last [] parts e = refl
-root-parts front last (name ∷ path) parts e =
-    absurd (omega (arith, e, ap length parts.stem, length-append (slashed_text (parent_path (name ∷ path))) (47 ∷ [])))
 
 -- links that grow keep the rows
 pub AreRecords-grows : (links next : List ℕ) (paths : List Components) (records : List Kept) → Grows links next → AreRecords links paths records → AreRecords next paths records
@@ -63,17 +57,6 @@ rows_in-push links (p ∷ paths) [] path kept e = absurd (omega (arith, e))
 rows_in-push links (p ∷ paths) (k ∷ records) path kept e =
     let row : Row = record { path = p; rec = rec_in links k } in
     ap (λ l. row ∷ l) (rows_in-push links paths records path kept (omega (arith, e)))
-
-one_linked : (links : List ℕ) (kept : Kept) → IsSpan links kept.link → All (λ (kept : Kept). IsSpan links kept.link) (kept ∷ [])
-one_linked links kept is zero d h = is
-one_linked links kept is (suc k) d h = absurd (omega arith)
-
-pub AreRecords-push : (links : List ℕ) (paths : List Components) (records : List Kept) (path : Components) (kept : Kept) → AreRecords links paths records → IsSpan links kept.link
-    → AreRecords links (paths ++ path ∷ []) (records ++ kept ∷ [])
-AreRecords-push links paths records path kept are is = record {
-  alike = omega (arith, are.alike, length-append paths (path ∷ []), length-append records (kept ∷ []));
-  each = All-append (λ (kept : Kept). IsSpan links kept.link) records (kept ∷ []) are.each (one_linked links kept is);
-}
 
 -- the row at a place
 pub row_in : (links : List ℕ) (paths : List Components) (records : List Kept) (k : ℕ) (kept : Kept) → length paths ≡ length records → k < length records → kept ≡ get_or records k kept
@@ -126,12 +109,3 @@ module _ {E : Type 0} where
       → OnOk r ((rows more : List Row) → IsPermutation old rows → IsPermutation other more → IsPermutation new (rows ++ more))
   OnOk-rows_append (Ok x) old new other h = λ rows more are also. subst (λ l. IsPermutation l (rows ++ more)) (sym h) (IsPermutation-append old rows other more are also)
   OnOk-rows_append (Err e) old new other h = tt
-
-pub rows_more : (rows : List Row) (places : List ℕ) (i : ℕ) (done next : List Row) (row : Row) → i < length places → row ≡ get_or rows (get_or places i 0) no_row
-    → done ≡ take i (picked rows no_row places) → next ≡ done ++ row ∷ [] → next ≡ take (i + 1) (picked rows no_row places)
-rows_more rows places i done next row h is e f =
-    let all : List Row = picked rows no_row places in
-    let at : get_or all i no_row ≡ row = get_or-map (λ k. get_or rows k no_row) places i 0 no_row h ∙ sym is in
-    let more : take (i + 1) all ≡ take i all ++ row ∷ [] =
-    take_more all i no_row (omega (arith, h, length-map places (λ k. get_or rows k no_row))) ∙ ap (λ (r : Row). take i all ++ r ∷ []) at in
-    f ∙ ap (λ l. l ++ row ∷ []) e ∙ sym more

@@ -1,22 +1,16 @@
 -- Texts that grow, and the paths that stand in them.
-use Rattle.std.proofs.Common.{◌≡◌, ℕ, ◌≤◌, List, [], ◌++◌, length, take, drop, sym, ap, ◌∙◌, subst, arith, length-append, append_assoc}
+use Rattle.std.proofs.Common.{◌≡◌, ℕ, ◌≤◌, List, length, take, drop, sym, ap, ◌∙◌, subst, arith, length-append}
 use Rattle.std.specs.Prelude.{Option, Some, None, IfSome}
 use Rattle.std.specs.Ordering.{nat_cmp}
 use Rattle.std.specs.Cmp.Lexicographic.{slice_cmp}
 use Rattle.std.specs.declared.cmp.Ordering.TheVariants.{Less}
-use Rattle.std.proofs.lemmas.List.{append-nil, take-append-le}
+use Rattle.std.proofs.lemmas.List.{take-append-le}
 use Rattle.gufi_base.specs.declared.spot.Span.{Span}
 use Rattle.gufi_base.specs.declared.spot.Spot.{Spot}
 use Rattle.gufi_base.specs.Paths.{Components, path_cmp, stem}
 use Rattle.gufi_base.specs.PathLists.{ArePartsOf, Grows, IsSpan, IsSpot, StandsBehind, bytes_in, path_in, path_of_parts}
 use Rattle.gufi_base.proofs.SameRow.{parts_again}
 use Rattle.gufi_base.proofs.PartOrders.{one_directory}
-
-pub Grows-refl : (text : List ℕ) → Grows text text
-Grows-refl text = ([], sym (append-nil text))
-
-pub Grows-trans : (a b c : List ℕ) → Grows a b → Grows b c → Grows a c
-Grows-trans a b c g h = (g.0 ++ h.0, h.1 ∙ ap (λ (t : List ℕ). t ++ h.0) g.1 ∙ append_assoc a g.0 h.0)
 
 Grows-length : (text next : List ℕ) → Grows text next → length text ≤ length next
 Grows-length text next g = omega (arith, ap length g.1, length-append text g.0)
@@ -43,7 +37,7 @@ IsSpot-grows text next spot g is = record {
 }
 
 -- the path that parts have
-pub path_of-parts : (front last : List ℕ) (path : Components) → ArePartsOf front last path → path_of_parts front last ≡ path
+path_of-parts : (front last : List ℕ) (path : Components) → ArePartsOf front last path → path_of_parts front last ≡ path
 path_of-parts front last path parts =
     ap (λ (s : List ℕ). path_of_parts s last) parts.stem ∙ ap (path_of_parts (stem path)) parts.base ∙ parts_again path parts.names
 

@@ -1,5 +1,5 @@
 -- Lists of paths whose bytes stand in one text: of each path, the stem and the base name.
-use Rattle.std.specs.Prelude.{◌≡◌, ℕ, ◌-◌, ◌≤◌, ◌<◌, true, List, [], ◌∷◌, ◌++◌, length, take, drop, map, IsTrue, if◌then◌else◌, slice_index_or, All, Option, Some, None}
+use Rattle.std.specs.Prelude.{◌≡◌, ℕ, ◌+◌, ◌-◌, ◌^◌, ◌≤◌, ◌<◌, Bool, true, nat_lt, List, [], ◌∷◌, ◌++◌, length, take, drop, map, IsTrue, if◌then◌else◌, slice_index_or, All, Option, Some, None}
 use Rattle.std.specs.List.{list_all, range_with_len}
 use Rattle.std.specs.List.Sorted.{IsPermutation, IsSortedBy}
 use Rattle.std.specs.Ordering.{is_lt}
@@ -41,6 +41,24 @@ pub record IsSpot (text : List ℕ) (spot : Spot) : Type 0 where
   pub base_in : IsSpan text spot.base
   pub parts : ArePartsOf (bytes_in text spot.stem) (bytes_in text spot.base) (path_in text spot)
 
+-- a span of a text, where that text stands behind another of so many bytes
+abbrev pub span_behind : ℕ → Span → Span
+span_behind by span = record { from = by + span.from; end = by + span.end }
+
+abbrev pub spot_behind : ℕ → Spot → Spot
+spot_behind by spot = record { stem = span_behind by spot.stem; base = span_behind by spot.base; follows = spot.follows }
+
+-- a spot that is said to follow, or isn't
+abbrev pub follower : Bool → Spot → Spot
+follower said spot = record { stem = spot.stem; base = spot.base; follows = said }
+
+-- its places are numbers of 32 bits then
+abbrev pub FitsBehind : ℕ → Span → Type 0
+FitsBehind by span = (span.from ≤ span.end) × (by + span.end < 2 ^ 32)
+
+abbrev pub SpotFitsBehind : ℕ → Spot → Type 0
+SpotFitsBehind by spot = FitsBehind by spot.stem × FitsBehind by spot.base
+
 -- a spot that is said to follow stands behind the one before it
 abbrev pub Follow : List ℕ → List Spot → Type 0
 Follow text spots =
@@ -55,6 +73,11 @@ IsLast spots (Some spot) = (0 < length spots) × (spot ≡ slice_index_or spots 
 pub record AreSpots (text : List ℕ) (spots : List Spot) : Type 0 where
   pub each : All (IsSpot text) spots
   pub follow : Follow text spots
+
+-- the same spots, each but the first marked as one that follows
+abbrev pub AreMarked : List Spot → List Spot → Type 0
+AreMarked spots marked =
+    (length marked ≡ length spots) × ((k : ℕ) (d : Spot) → k < length spots → slice_index_or marked k d ≡ follower (nat_lt 0 k) (slice_index_or spots k d))
 
 -- the elements at the places, in their order
 abbrev pub picked : {A : Type 0} → List A → A → List ℕ → List A

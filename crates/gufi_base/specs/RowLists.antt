@@ -5,10 +5,14 @@ use Rattle.gufi_base.specs.declared.record.Row.{Row}
 use Rattle.gufi_base.specs.declared.record.Kind.TheVariants.{Dir}
 use Rattle.gufi_base.specs.declared.kept.Kept.{Kept}
 use Rattle.gufi_base.specs.Paths.{Components}
-use Rattle.gufi_base.specs.PathLists.{IsSpan, bytes_in}
+use Rattle.gufi_base.specs.PathLists.{IsSpan, bytes_in, span_behind}
 
 abbrev pub rec_in : List ℕ → Kept → Rec
 rec_in links kept = record { meta = kept.meta; link = bytes_in links kept.link }
+
+-- a record, where its text stands behind another of so many bytes
+abbrev pub kept_behind : ℕ → Kept → Kept
+kept_behind by kept = record { meta = kept.meta; link = span_behind by kept.link }
 
 abbrev pub rows_in : List ℕ → List Components → List Kept → List Row
 rows_in links [] records = []

@@ -24,7 +24,7 @@ mod record;
 mod row_list;
 mod spot;
 mod steps;
-mod tail;
+mod stretch;
 mod yields;
 
 pub use lines::lines_of;
@@ -35,7 +35,7 @@ pub use order::{path_cmp, text_cmp};
 pub use path::{Path, PathFault, path_text};
 pub use path_list::PathList;
 pub use piece::{Pieces, pieces_of};
-pub use predicate::{Always, Pred};
+pub use predicate::{Always, Pred, Tester};
 pub use record::{Kind, Line, Meta, Rec, Row, RowRef, read_kind};
 pub use row_list::RowList;
 use std::alloc::{AllocError, AllocFailed};

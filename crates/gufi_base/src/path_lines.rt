@@ -7,12 +7,14 @@ ghost use Rattle.gufi_base.specs.Words.{ascends};
 ghost use Rattle.gufi_base.specs.Paths.{Components};
 ghost use Rattle.gufi_base.specs.Rows.{row_cmp};
 ghost use Rattle.gufi_base.specs.PathLists.{ArePartsOf, picked};
+ghost use Rattle.gufi_base.specs.PathPlaces.{places_between, places_of};
 ghost use Rattle.gufi_base.specs.PathLines.{path_line, path_lines, ArePathsOf};
 
 use crate::Memory;
 use crate::path_list::PathList;
 use crate::path_order::order;
 use crate::spot::Parts;
+use crate::stretch::Stretch;
 use std::alloc::{AllocError, Global};
 
 fn put_line(text: &mut Vec<u8>, parts: Parts<'_>) -> Result<(), AllocError>
@@ -24,12 +26,22 @@ fn put_line(text: &mut Vec<u8>, parts: Parts<'_>) -> Result<(), AllocError>
     Ok(())
 }
 
-fn lines_at(list: &PathList, alloc: Global, places: &[usize]) -> Result<Vec<u8>, AllocError>
-    ensures { IfOk result (λ text. text.items ≡ flat_map path_line (picked list.now [] places.now)) }
+/// Adds the lines of a stretch.
+fn put_lines(text: &mut Vec<u8>, list: &PathList, stretch: Stretch) -> Result<(), AllocError>
+    ensures { OnOk result (text.new.items ≡ text.old.items ++ flat_map path_line (picked list.now [] (places_between stretch.from stretch.end))) }
+{
+    for place in stretch.from..stretch.end {
+        put_line(text, list.parts(place))?;
+    }
+    Ok(())
+}
+
+fn lines_at(list: &PathList, alloc: Global, stretches: &[Stretch]) -> Result<Vec<u8>, AllocError>
+    ensures { IfOk result (λ text. text.items ≡ flat_map path_line (picked list.now [] (places_of stretches.now))) }
 {
     let mut text = Vec::with_capacity(alloc, list.line_bytes())?;
-    for place in places {
-        put_line(&mut text, list.parts(*place))?;
+    for stretch in stretches {
+        put_lines(&mut text, list, *stretch)?;
     }
     Ok(text)
 }
@@ -41,8 +53,8 @@ impl PathList {
     pub fn lines(self, alloc: Global) -> Result<Vec<u8>, Memory>
         ensures { IfOk result (λ text. (rows : List Row) → ArePathsOf self rows → IsTrue (ascends row_cmp rows) → text.items ≡ path_lines rows) }
     {
-        let places = order(&self, alloc)?;
-        let text = lines_at(&self, alloc, places.as_slice())?;
+        let stretches = order(&self, alloc)?;
+        let text = lines_at(&self, alloc, stretches.as_slice())?;
         Ok(text)
     }
 }

@@ -1,13 +1,16 @@
 //! Lists of paths in one text.
 
-ghost use Rattle.std.specs.Prelude.{◌≡◌, ℕ, ◌++◌, ◌∷◌, [], ◌<◌, ◌-◌, true, length, OnOk, OnErr, slice_index_or};
+ghost use Rattle.std.specs.Prelude.{◌≡◌, ℕ, ◌++◌, ◌∷◌, [], ◌<◌, ◌≤◌, ◌-◌, true, length, take, map, All, OnOk, OnErr, slice_index_or};
 ghost use Rattle.gufi_base.specs.Paths.{Components, path_cmp};
 ghost use Rattle.gufi_base.specs.PathLines.{ArePathsOf, ArePathsOf-counted, ArePathsOf-reordered};
-ghost use Rattle.gufi_base.specs.PathLists.{ArePartsOf, IsLast};
+ghost use Rattle.gufi_base.specs.PathLists.{AreMarked, ArePartsOf, IsLast, SpotFitsBehind, picked, spot_behind};
+ghost use Rattle.gufi_base.specs.PathPlaces.{places_of, Ascend};
 
 use crate::Memory;
+use crate::path_order::{are_in_order, arranged, merged};
 use crate::record::RowRef;
-use crate::spot::{Parts, Spot, bytes_at, keep};
+use crate::spot::{Parts, Spot, bytes_at, keep, put_text, spot_behind};
+use crate::stretch::Stretch;
 use crate::yields::Yield;
 use std::alloc::Global;
 use std::cmp::Ordering;
@@ -42,6 +45,28 @@ fn last_of(spots: &[Spot]) -> Option<Spot>
     Some(spots[spots.len() - 1])
 }
 
+/// Puts the spots of another text behind others.
+fn put_spots(spots: &mut Vec<Spot>, more: &[Spot], by: u32) -> Result<(), Memory>
+    requires { All (SpotFitsBehind by) more.now }
+    ensures put { OnOk result (spots.new.items ≡ spots.old.items ++ map (spot_behind by) more.now) }
+    ensures begun { OnErr result (take (length spots.old.items) spots.new.items ≡ spots.old.items) }
+{
+    spots.reserve(more.len())?;
+    for spot in more {
+        spots.push(spot_behind(*spot, by))?;
+    }
+    Ok(())
+}
+
+/// Marks each spot but the first as one that follows.
+fn mark(spots: &mut Vec<Spot>)
+    ensures { AreMarked spots.old.items spots.new.items }
+{
+    for k in 0..spots.len() {
+        spots[k].follows = k > 0;
+    }
+}
+
 impl PathList {
     /// No path.
     pub(crate) fn new(alloc: Global) -> PathList
@@ -72,18 +97,24 @@ impl PathList {
         Ok(())
     }
 
-    /// Adds the paths of another list.
-    fn append(&mut self, other: PathList) -> Result<(), Memory>
-        ensures { OnOk result (self.new ≡ self.old ++ other) }
+    /// Adds the paths of another list: its text stands behind this one's, and its spots are moved with it.
+    pub(crate) fn append(&mut self, other: PathList) -> Result<(), Memory>
+        ensures appended { OnOk result (self.new ≡ self.old ++ other) }
+        ensures unchanged { OnErr result (self.new ≡ self.old) }
     {
         if self.len() == 0 {
             *self = other;
             return Ok(());
         }
-        for place in 0..other.len() {
-            self.push(other.parts(place))?;
+        let count = self.spots.len();
+        let by = put_text(&mut self.text, other.text.as_slice())?;
+        match put_spots(&mut self.spots, other.spots.as_slice(), by) {
+            Ok(()) => Ok(()),
+            Err(Memory) => {
+                self.spots.truncate(count);
+                Err(Memory)
+            }
         }
-        Ok(())
     }
 
     /// The parts of the path at a place; past the end they are those of the root.
@@ -112,6 +143,19 @@ impl PathList {
         }
         let spot = self.spots[place];
         spot.follows
+    }
+
+    /// Puts the paths at the places of stretches, where they ascend. The text stays.
+    pub(crate) fn arrange(&mut self, alloc: Global, stretches: &[Stretch]) -> Result<(), Memory>
+        requires within { All (λ stretch. stretch.end ≤ length self.old) stretches.now }
+        requires ascend { Ascend (picked self.old [] (places_of stretches.now)) }
+        ensures arranged { OnOk result (self.new ≡ picked self.old [] (places_of stretches.entry.now)) }
+        ensures unchanged { OnErr result (self.new ≡ self.old) }
+    {
+        let mut spots = arranged(alloc, self.spots.as_slice(), stretches)?;
+        mark(&mut spots);
+        self.spots = spots;
+        Ok(())
     }
 
     /// How many bytes the paths have as lines, where that is a number of 64 bits.
@@ -147,6 +191,16 @@ impl Yield for PathList {
 
     fn merge(&mut self, _alloc: Global, other: PathList) -> Result<(), Memory> {
         self.append(other)
+    }
+
+    fn settle(&mut self, alloc: Global) -> Result<(), Memory> {
+        let merged = merged(self, alloc)?;
+        let stretches = merged.as_slice();
+        if stretches.len() < 2 || !are_in_order(self, stretches) {
+            return Ok(());
+        }
+        self.arrange(alloc, stretches)?;
+        Ok(())
     }
 }
 

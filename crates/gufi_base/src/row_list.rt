@@ -1,23 +1,25 @@
 //! Lists of rows in two texts.
 
-ghost use Rattle.std.specs.Prelude.{◌≡◌, ◌<◌, ◌++◌, ◌∷◌, [], List, length, All, IsTrue, IfOk, OnOk, slice_index_or};
+ghost use Rattle.std.specs.Prelude.{◌≡◌, ◌<◌, ◌≤◌, ◌++◌, ◌∷◌, [], List, length, take, map, All, IsTrue, IfOk, OnOk, OnErr, slice_index_or};
 ghost use Rattle.std.specs.Ordering.{is_lt};
 ghost use Rattle.std.specs.List.Sorted.{IsPermutation, IsSortedBy};
 ghost use Rattle.std.proofs.lemmas.List.Sorted.{length_permutation, IsPermutation-trans};
 ghost use Rattle.gufi_base.specs.declared.record.Row.{Row as SeenRow};
 ghost use Rattle.gufi_base.specs.Words.{ascends};
 ghost use Rattle.gufi_base.specs.Rows.{Stands, StandsForSome, row_cmp};
-ghost use Rattle.gufi_base.specs.PathLists.{picked};
-ghost use Rattle.gufi_base.specs.RowLists.{no_row};
+ghost use Rattle.gufi_base.specs.PathLists.{FitsBehind, picked};
+ghost use Rattle.gufi_base.specs.PathPlaces.{places_between, places_of};
+ghost use Rattle.gufi_base.specs.RowLists.{kept_behind, no_row};
 
 use crate::Memory;
 use crate::kept::Kept;
 use crate::list::Bytes;
 use crate::path::Path;
 use crate::path_list::PathList;
-use crate::path_order::order;
+use crate::path_order::{are_in_order, arranged, merged, order};
 use crate::record::{Rec, Row, RowRef};
-use crate::spot::{Parts, bytes_at, put};
+use crate::spot::{Parts, bytes_at, put, put_text, span_behind};
+use crate::stretch::Stretch;
 use crate::yields::Yield;
 use std::alloc::Global;
 use std::marker::Model;
@@ -55,6 +57,21 @@ fn owned(alloc: Global, row: RowRef<'_>) -> Result<Row, Memory>
         path,
         rec: Rec { meta, link },
     })
+}
+
+/// Puts the records of another text behind others.
+fn put_records(records: &mut Vec<Kept>, more: &[Kept], by: u32) -> Result<(), Memory>
+    requires { All (λ kept. FitsBehind by kept.link) more.now }
+    ensures put { OnOk result (records.new.items ≡ records.old.items ++ map (kept_behind by) more.now) }
+    ensures begun { OnErr result (take (length records.old.items) records.new.items ≡ records.old.items) }
+{
+    records.reserve(more.len())?;
+    for kept in more {
+        let meta = kept.meta;
+        let link = span_behind(kept.link, by);
+        records.push(Kept { meta, link })?;
+    }
+    Ok(())
 }
 
 impl RowList {
@@ -111,6 +128,7 @@ impl RowList {
         }
     }
 
+    /// Adds the rows of another list: its texts stand behind this one's.
     fn append(&mut self, other: RowList) -> Result<(), Memory>
         ensures { OnOk result (self.new ≡ self.old ++ other) }
     {
@@ -118,20 +136,45 @@ impl RowList {
             *self = other;
             return Ok(());
         }
-        for place in 0..other.len() {
-            self.push(other.row_at(place))?;
+        let count = self.records.len();
+        let RowList {
+            paths,
+            records,
+            links,
+        } = other;
+        let by = put_text(&mut self.links, links.as_slice())?;
+        if let Err(Memory) = put_records(&mut self.records, records.as_slice(), by) {
+            self.records.truncate(count);
+            return Err(Memory);
+        }
+        match self.paths.append(paths) {
+            Ok(()) => Ok(()),
+            Err(Memory) => {
+                self.records.truncate(count);
+                Err(Memory)
+            }
+        }
+    }
+
+    /// Adds the rows of a stretch.
+    fn put_rows(&self, alloc: Global, rows: &mut Vec<Row>, stretch: Stretch) -> Result<(), Memory>
+        requires { stretch.end ≤ length self.now }
+        ensures { OnOk result (rows.new.items ≡ rows.old.items ++ picked self.now no_row (places_between stretch.from stretch.end)) }
+    {
+        for place in stretch.from..stretch.end {
+            let row = owned(alloc, self.row_at(place))?;
+            rows.push(row)?;
         }
         Ok(())
     }
 
-    fn rows_at(&self, alloc: Global, places: &[usize]) -> Result<Vec<Row>, Memory>
-        requires { All (λ k. k < length self.now) places.now }
-        ensures { IfOk result (λ rows. rows.items ≡ picked self.now no_row places.now) }
+    fn rows_at(&self, alloc: Global, stretches: &[Stretch]) -> Result<Vec<Row>, Memory>
+        requires { All (λ stretch. stretch.end ≤ length self.now) stretches.now }
+        ensures { IfOk result (λ rows. rows.items ≡ picked self.now no_row (places_of stretches.now)) }
     {
-        let mut rows = Vec::with_capacity(alloc, places.len())?;
-        for place in places {
-            let row = owned(alloc, self.row_at(*place))?;
-            rows.push(row)?;
+        let mut rows = Vec::with_capacity(alloc, self.len())?;
+        for stretch in stretches {
+            self.put_rows(alloc, &mut rows, *stretch)?;
         }
         Ok(rows)
     }
@@ -146,8 +189,8 @@ impl RowList {
         // Of the lists that it stands for one at most ascends, and this is it.
         ensures only { IfOk result (λ rows. (other : List SeenRow) → IsPermutation self other → IsTrue (ascends row_cmp other) → rows.items ≡ other) }
     {
-        let places = order(&self.paths, alloc)?;
-        let rows = self.rows_at(alloc, places.as_slice())?;
+        let stretches = order(&self.paths, alloc)?;
+        let rows = self.rows_at(alloc, stretches.as_slice())?;
         Ok(rows)
     }
 }
@@ -171,5 +214,17 @@ impl Yield for RowList {
 
     fn merge(&mut self, _alloc: Global, other: RowList) -> Result<(), Memory> {
         self.append(other)
+    }
+
+    fn settle(&mut self, alloc: Global) -> Result<(), Memory> {
+        let merged = merged(&self.paths, alloc)?;
+        let stretches = merged.as_slice();
+        if stretches.len() < 2 || !are_in_order(&self.paths, stretches) {
+            return Ok(());
+        }
+        let records = arranged(alloc, self.records.as_slice(), stretches)?;
+        self.paths.arrange(alloc, stretches)?;
+        self.records = records;
+        Ok(())
     }
 }

@@ -1,10 +1,10 @@
 //! Rows' texts in one text: the stem once for the rows of one directory, and each base name.
 
-ghost use Rattle.std.specs.Prelude.{◌≡◌, true, length, IfOk, IfSome, ◌<◌, ◌≤◌, drop};
+ghost use Rattle.std.specs.Prelude.{◌≡◌, ◌++◌, ◌^◌, true, length, IfOk, IfSome, OnOk, ◌<◌, ◌≤◌, drop};
 ghost use Rattle.std.specs.Ordering.{nat_cmp};
 ghost use Rattle.std.specs.Cmp.Lexicographic.{slice_cmp};
 ghost use Rattle.gufi_base.specs.Paths.{Components, path_cmp};
-ghost use Rattle.gufi_base.specs.PathLists.{ArePartsOf, Grows, IsSpan, IsSpot, bytes_in, path_in, StandsBehind};
+ghost use Rattle.gufi_base.specs.PathLists.{ArePartsOf, Grows, IsSpan, IsSpot, bytes_in, path_in, StandsBehind, FitsBehind, SpotFitsBehind, span_behind, spot_behind};
 
 use crate::Memory;
 use crate::order::{common_front, same_bytes, text_cmp};
@@ -56,11 +56,50 @@ pub(crate) fn put(text: &mut Vec<u8>, bytes: &[u8]) -> Result<Span, Memory>
     ensures grown { Grows text.old.items text.new.items }
     ensures within { IfOk result (IsSpan text.new.items) }
     ensures bytes { IfOk result (λ span. bytes_in text.new.items span ≡ bytes.now) }
+    ensures place { IfOk result (λ span. span.from ≡ length text.old.items) }
+    ensures put { OnOk result (text.new.items ≡ text.old.items ++ bytes.now) }
+    ensures room { OnOk result (length text.new.items < 2 ^ 32) }
 {
     let from = place_of(text.len())?;
     text.extend_from_slice(bytes)?;
     let end = place_of(text.len())?;
     Ok(Span { from, end })
+}
+
+/// Puts a whole text behind another, and tells how many bytes stand before it.
+pub(crate) fn put_text(text: &mut Vec<u8>, more: &[u8]) -> Result<u32, Memory>
+    ensures grown { Grows text.old.items text.new.items }
+    ensures place { IfOk result (λ by. by ≡ length text.old.items) }
+    ensures put { OnOk result (text.new.items ≡ text.old.items ++ more.now) }
+    ensures room { OnOk result (length text.new.items < 2 ^ 32) }
+{
+    let span = put(text, more)?;
+    Ok(span.from)
+}
+
+/// A span as it is where its text stands behind another.
+#[inline]
+pub(crate) fn span_behind(span: Span, by: u32) -> Span
+    requires { FitsBehind by span }
+    ensures { result ≡ span_behind by span }
+{
+    Span {
+        from: by + span.from,
+        end: by + span.end,
+    }
+}
+
+/// A spot as it is where its text stands behind another.
+#[inline]
+pub(crate) fn spot_behind(spot: Spot, by: u32) -> Spot
+    requires { SpotFitsBehind by spot }
+    ensures { result ≡ spot_behind by spot }
+{
+    Spot {
+        stem: span_behind(spot.stem, by),
+        base: span_behind(spot.base, by),
+        follows: spot.follows,
+    }
 }
 
 fn keep_stem(text: &mut Vec<u8>, last: Option<Spot>, stem: &[u8]) -> Result<Span, Memory>

@@ -149,6 +149,7 @@ fn scanned<Y: Yield>(alloc: Global, paths: &[Path; 3]) -> Result<Y, Memory>
     take_row(alloc, &mut rows, &paths[0], &meta)?;
     take_row(alloc, &mut rows, &paths[1], &meta)?;
     take_row(alloc, &mut rows, &paths[2], &meta)?;
+    rows.settle(alloc)?;
     Ok(rows)
 }
 
@@ -176,24 +177,24 @@ fn walked_rows_come_in_path_order(rt: HostRuntime) -> Result<(), Fail> {
     let alloc = rt.alloc();
     let outer = [
         Path::read(alloc, b"/d")?,
-        Path::read(alloc, b"/d/a")?,
         Path::read(alloc, b"/d/z")?,
+        Path::read(alloc, b"/d/m")?,
     ];
     let inner = [
-        Path::read(alloc, b"/d/m")?,
         Path::read(alloc, b"/d/m/b")?,
         Path::read(alloc, b"/d/m/c")?,
+        Path::read(alloc, b"/d/m/c/a")?,
     ];
     let paths: PathList = walked(alloc, &outer, &inner)?;
     assert_eq!(rt;
         paths.lines(alloc)?.as_slice(),
-        b"/d\n/d/a\n/d/m\n/d/m/b\n/d/m/c\n/d/z\n".as_slice()
+        b"/d\n/d/m\n/d/m/b\n/d/m/c\n/d/m/c/a\n/d/z\n".as_slice()
     );
     let list: RowList = walked(alloc, &outer, &inner)?;
     let rows = list.sorted(alloc)?;
     assert_eq!(rt;
         printed(alloc, rows.as_slice())?.as_slice(),
-        b"/d /d/\n/d/a /d/a/\n/d/m /d/m/\n/d/m/b /d/m/b/\n/d/m/c /d/m/c/\n/d/z /d/z/\n".as_slice()
+        b"/d /d/\n/d/m /d/m/\n/d/m/b /d/m/b/\n/d/m/c /d/m/c/\n/d/m/c/a /d/m/c/a/\n/d/z /d/z/\n".as_slice()
     );
     Ok(())
 }

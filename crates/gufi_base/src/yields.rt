@@ -10,7 +10,7 @@ use crate::record::RowRef;
 use std::alloc::Global;
 
 /// What a query gives. It stands for lists of rows, whose order is open.
-pub trait Yield: Sized + Send + Drop {
+pub trait Yield: Sized + Drop {
     /// How many rows it has.
     ghost count: { Self → ℕ };
 
@@ -36,6 +36,11 @@ pub trait Yield: Sized + Send + Drop {
         requires more { (rows : List Row) × stands_for other rows }
         ensures { OnOk result ((rows more : List Row) → stands_for self.old rows →
             stands_for other more → stands_for self.new (rows ++ more)) };
+
+    /// Puts what it has into the order in which it is read later, where it is cheaper to do so now. It stands for the same
+    /// lists.
+    fn settle(&mut self, alloc: Global) -> Result<(), Memory>
+        ensures { OnOk result ((rows : List Row) → stands_for self.old rows → stands_for self.new rows) };
 
     /// The count is that of the rows.
     ghost counted: { (y : Self) (rows : List Row) → stands_for y rows → length rows ≡ count y };

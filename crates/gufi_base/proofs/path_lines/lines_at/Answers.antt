@@ -1,11 +1,8 @@
-use Rattle.std.proofs.Common.{[], get_or, refl}
-use Rattle.gufi_base.proofs.PathLists.{lines_more}
+use Rattle.gufi_base.proofs.Stretches.{stretch_more}
+use Rattle.gufi_base.proofs.PathLists.{lines_at, lines-join}
 use Rattle.gufi_base.proofs.path_lines.lines_at.Goals as goal
 
-pub loop-place-preserved : goal.loop-place-preserved
-loop-place-preserved c =
+pub loop-stretch-preserved : goal.loop-stretch-preserved
+loop-stretch-preserved c =
     let list = c.args.list.now in
-    let places = c.args.places.now in
-    let i = c.loop-place.place-index in
-    lines_more list places i (get_or places i 0) c.loop-place.text.items c.put_line.new.text.items c.loop-place-test.true refl c.loop-place.invariant
-    (c.in_ok-put_line.ensures (get_or list (get_or places i 0) []) c.parts.ensures)
+    stretch_more (lines_at list) (lines-join list) c.args.stretches.now c.loop-stretch.stretch-index c.stretch-item.result _ _ c.loop-stretch-test.true c.stretch-item.is c.loop-stretch.invariant c.in_ok-put_lines.ensures

@@ -3,7 +3,7 @@ use Rattle.gufi_base.proofs.tests.take_row.Goals as goal
 
 pub returns-clause-count : goal.returns-clause-count
 returns-clause-count g c =
-    let counted = (g.met.Y.Yield g.world.𝓛 g.world.𝓜 g.world.𝓡 (λ s x. x, λ x. x, λ x. x, λ x. x)).counted in
+    let counted = g.met.Y.Yield.counted in
     let given = c.requires.rows in
     let row = c.row_of.ensures in
     omega (arith, counted _ _ given.1, counted _ _ (c.in_ok-take.ensures row.0 given.0 row.1 given.1), length-append given.0 (row.0 ∷ []))

@@ -1,11 +1,11 @@
 use Rattle.std.proofs.Common.{get_or}
+use Rattle.std.proofs.lemmas.List.{map-append}
+use Rattle.gufi_base.specs.PathLists.{picked}
 use Rattle.gufi_base.specs.RowLists.{no_row}
-use Rattle.gufi_base.proofs.RowLists.{rows_more}
+use Rattle.gufi_base.proofs.Stretches.{stretch_more}
 use Rattle.gufi_base.proofs.row_list.RowList.rows_at.Goals as goal
 
-pub loop-place-preserved : goal.loop-place-preserved
-loop-place-preserved c =
-    let places = c.args.places.now in
-    let i = c.loop-place.place-index in
-    rows_more c.args.self.now places i c.loop-place.rows.items c.push.new.self.items c.in_ok-row.row c.loop-place-test.true
-    (c.in_ok-row.ensures (get_or c.args.self.now (get_or places i 0) no_row) c.row_at.ensures) c.loop-place.invariant c.in_ok-push.ensures.items
+pub loop-stretch-preserved : goal.loop-stretch-preserved
+loop-stretch-preserved c =
+    let all = c.args.self.now in
+    stretch_more (picked all no_row) (map-append (λ k. get_or all k no_row)) c.args.stretches.now c.loop-stretch.stretch-index c.stretch-item.result _ _ c.loop-stretch-test.true c.stretch-item.is c.loop-stretch.invariant c.in_ok-put_rows.ensures
