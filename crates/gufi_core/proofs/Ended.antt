@@ -33,10 +33,10 @@ all_held_taken (w ∷ ws) ended empty =
     cc
 
 -- the test by which a definition looks for a task
-abbrev Looked : List ℕ → ℕ → Type 0
+abbrev pub Looked : List ℕ → ℕ → Type 0
 Looked xs x = ((list_any (λ t. t == x) xs ≡ true) × Contains xs x) ⊎ ((list_any (λ t. t == x) xs ≡ false) × (count_of xs x ≡ 0))
 
-looked : (xs : List ℕ) (x : ℕ) → Looked xs x
+pub looked : (xs : List ℕ) (x : ℕ) → Looked xs x
 looked [] x = inr (refl, refl)
 looked (y ∷ ys) x =
     ⊎_elim (λ (yes : (eqb y x ≡ true) × (y ≡ x)). inl (ap (λ b. b || list_any (λ t. t == x) ys) yes.0, (0, omega arith, yes.1)))

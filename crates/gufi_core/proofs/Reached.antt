@@ -5,8 +5,8 @@ use Rattle.std.proofs.lemmas.List.Sums.{sum_by-append}
 use Rattle.gufi_core.specs.declared.state.Shape.{Shape}
 use Rattle.gufi_core.specs.Steps.{kids_of, count_of, reached, owed, is_shape}
 use Rattle.gufi_core.proofs.Counts.{one, contains_counted, counted_contains, term_le, SomeTerm, some_term, sum_flat}
-use Rattle.gufi_core.proofs.Forests.{Owed}
-use Rattle.gufi_core.proofs.Forests.Owed.{begins, follows}
+use Rattle.gufi_core.specs.Forest.{Owed}
+use Rattle.gufi_core.specs.Forest.Owed.{begins, follows}
 use Rattle.gufi_core.proofs.Shapes.{within_first, within_kids, greater_kids}
 
 contains_either : (x : ℕ) (xs ys : List ℕ) {C : Type 0} → (Contains xs x → C) → (Contains ys x → C) → Contains (xs ++ ys) x → C

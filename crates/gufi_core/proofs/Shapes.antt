@@ -8,7 +8,7 @@ use Rattle.std.proofs.lemmas.List.Elements.{All-contains}
 use Rattle.gufi_core.specs.declared.state.Shape.{Shape}
 use Rattle.gufi_core.specs.Steps.{kids_of, named_tasks, count_of, later_kids, is_shape}
 use Rattle.gufi_core.proofs.Counts.{one, contains_counted, counted_contains}
-use Rattle.gufi_core.proofs.Forests.{IsForest}
+use Rattle.gufi_core.specs.Forest.{IsForest}
 
 pub both : (a b : Bool) → (a && b) ≡ true → (a ≡ true) × (b ≡ true)
 both true true e = (refl, refl)

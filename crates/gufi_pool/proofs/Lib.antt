@@ -1,0 +1,12 @@
+pub mod Sums
+pub mod Rules
+pub mod Routes
+pub mod Members
+pub mod Zips
+pub mod Rows
+pub mod Forests
+pub mod Starts
+pub mod Runs
+pub mod Totals
+pub mod Openings
+pub mod Heaps

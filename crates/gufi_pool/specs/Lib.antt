@@ -1,0 +1,6 @@
+pub mod Accounts
+pub mod Jobs
+pub mod Members
+pub mod Openings
+pub mod Forest
+pub mod Heaps
