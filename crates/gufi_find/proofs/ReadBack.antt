@@ -1,21 +1,21 @@
 -- The words of a formula read back to it.
-use Rattle.std.proofs.Common.{◌≡◌, ℕ, ◌+◌, ◌<◌, ◌≤◌, Bool, true, false, List, [], ◌∷◌, ◌++◌, length, refl, sym, ap, ◌∙◌, inl, inr, arith, leb, append_assoc, append-nil, length-append}
-use Rattle.std.specs.Prelude.{ℤ, Option, Some, None, Result, Ok, Err, codes, bytes_eq, unwrap_or}
+use Rattle.std.proofs.Common.{◌≡◌, ℕ, ◌+◌, ◌<◌, ◌≤◌, false, List, [], ◌∷◌, ◌++◌, length, refl, sym, ap, ◌∙◌, inl, inr, arith, leb, append_assoc, append-nil, length-append}
+use Rattle.std.specs.Prelude.{ℤ, Option, Some, None, Ok, codes, bytes_eq, unwrap_or}
 use Rattle.std.proofs.lemmas.Bool.{cases_Bool}
 use Rattle.std.proofs.lemmas.Bool.Decides.{nat_tests}
 use Rattle.std.proofs.lemmas.Slice.Eq.{bytes_eq-Decides}
 use Rattle.gufi_base.specs.Limits.{max_nesting}
-use Rattle.gufi_base.specs.Words.{◌>>=◌, ◌>>◌, refuse}
-use Rattle.gufi_formula.specs.Formulas.{Formula, test, negation, both, either, Level, new_level, with_term, open_ones, level_formula}
+use Rattle.gufi_base.specs.Words.{◌>>=◌}
+use Rattle.gufi_formula.specs.Formulas.{Formula, test, negation, both, either, Level, new_level, with_term, open_ones}
 use Rattle.gufi_formula.specs.Written.{Rank, of_or, of_and, of_not, EachTest, formula_nesting, written, written_formula}
-use Rattle.gufi_formula.proofs.ReadBack.{Place, before, behind, level_behind, Reads, read_back, whole_behind}
+use Rattle.gufi_formula.proofs.ReadBack.{Place, before, behind, Reads, read_back, whole_behind}
 use Rattle.gufi_users.specs.Entries.{UserTables}
 use Rattle.gufi_find.specs.declared.test.Test.{Test}
 use Rattle.gufi_find.specs.declared.test.Test.TheVariants.{Always}
 use Rattle.gufi_find.specs.declared.primary.PrimaryName.{PrimaryName}
 use Rattle.gufi_find.specs.declared.place.Place.TheVariants as places
 use Rattle.gufi_find.specs.Operands.{primary_named}
-use Rattle.gufi_find.specs.Reading.{State, wants_primary, wants_operator, read_word, at_word, at_end, first_place, read_find_words, read_find}
+use Rattle.gufi_find.specs.Reading.{State, wants_primary, wants_operator, read_word, at_word, first_place, read_find_words, read_find}
 use Rattle.gufi_find.specs.Spelled.{IsSpelled, alone, taking, find_spelling}
 
 -- where a reader of words stands

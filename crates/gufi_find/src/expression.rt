@@ -5,7 +5,7 @@ ghost use Rattle.gufi_base.specs.Rows.{Stands, StandsForSome};
 ghost use Rattle.gufi_find.specs.Expressions.{find_holds, is_at_most};
 
 use crate::condition::Condition;
-use gufi_base::{Memory, Pred, RowRef};
+use gufi_base::{Memory, Pred, RowRef, Tester};
 use std::alloc::Global;
 use std::marker::Model;
 
@@ -61,10 +61,49 @@ impl FindExpr {
     }
 }
 
-impl Pred for FindExpr {
-    ghost sat = { λ e row depth. find_holds e row depth };
+/// The question whether an expression is true, which it lends.
+#[derive(Drop)]
+pub struct FindQuestion<'e> {
+    expression: &'e FindExpr,
+}
 
-    fn test(&self, _alloc: Global, row: RowRef<'_>, depth: u32) -> Result<bool, Memory> {
-        Ok(self.sat(row, depth))
+impl<'e> Model for FindQuestion<'e> {
+    ghost use Rattle.std.specs.Coded.{codes};
+    ghost use Rattle.gufi_formula.specs.FormulaCodes.{formula_coded};
+    ghost use Rattle.gufi_find.specs.Expressions.{Find};
+
+    ghost Value = { Find };
+
+    ghost coded = { Prim.hlevel (codes, formula_coded) };
+
+    ghost view = { λ q. q.expression.now };
+}
+
+impl FindExpr {
+    /// The question that it is to rows.
+    pub fn question(&self) -> FindQuestion<'_>
+        ensures { result ≡ self.now }
+    {
+        FindQuestion { expression: self }
+    }
+}
+
+impl<'e> Tester for FindQuestion<'e> {
+    ghost meets = { λ q row depth. find_holds q row depth };
+
+    fn test(&mut self, _alloc: Global, row: RowRef<'_>, depth: u32) -> Result<bool, Memory> {
+        Ok(self.expression.sat(row, depth))
+    }
+}
+
+impl<'e> Pred for FindQuestion<'e> {
+    type Tester = FindQuestion<'e>;
+
+    ghost sat = { λ q row depth. find_holds q row depth };
+
+    fn tester(&self, _alloc: Global) -> Result<FindQuestion<'e>, Memory> {
+        Ok(FindQuestion {
+            expression: self.expression,
+        })
     }
 }

@@ -20,7 +20,7 @@ mod step;
 mod test;
 mod word;
 
-pub use expression::FindExpr;
+pub use expression::{FindExpr, FindQuestion};
 pub use fault::{FindError, FindKind};
 pub use laws::expressions_read_back;
 pub use reading::read_find;

@@ -1,7 +1,7 @@
 ghost use Rattle.gufi_base.specs.Rows.{StandsForSome};
 
 use crate::{FindError, FindExpr, FindKind, read_find};
-use gufi_base::{Bytes, Kind, Meta, Pred, RowRef};
+use gufi_base::{Bytes, Kind, Meta, Pred, RowRef, Tester};
 use gufi_users::{Users, read_group, read_passwd};
 use std::alloc::{AllocError, Global};
 use std::test::Fail;
@@ -180,16 +180,17 @@ fn at_most_64_constructs_are_open(rt: HostRuntime) -> Result<(), Fail> {
     Ok(())
 }
 
-fn asked<P: Pred>(alloc: Global, question: &P, row: RowRef<'_>) -> Result<bool, Fail>
+fn asked<P: Pred + Sync>(alloc: Global, question: &P, row: RowRef<'_>) -> Result<bool, Fail>
     requires { StandsForSome row }
 {
-    Ok(question.test(alloc, row, 1)?)
+    let mut tester = question.tester(alloc)?;
+    Ok(tester.test(alloc, row, 1)?)
 }
 
 #[test]
 fn an_expression_is_a_question(rt: HostRuntime) -> Result<(), Fail> {
     let expression = expression(rt.alloc(), "-size 0")?;
     let meta = meta(0);
-    assert!(rt; asked(rt.alloc(), &expression, run_file(&meta))?);
+    assert!(rt; asked(rt.alloc(), &expression.question(), run_file(&meta))?);
     Ok(())
 }

@@ -8,7 +8,7 @@ ghost use Rattle.gufi_list.specs.Listings.{owner_text, group_text, target_text, 
 
 use crate::mode::mode_text;
 use crate::put::{put_named, put_signed, put_word};
-use gufi_base::{Kind, Memory, Meta, Pred, Row, RowRef, put_u64};
+use gufi_base::{Kind, Memory, Meta, Pred, Row, RowRef, Tester, put_u64};
 use gufi_users::Users;
 use std::alloc::Global;
 
@@ -116,11 +116,21 @@ pub struct OneBelow {
     pub all: bool,
 }
 
+impl Tester for OneBelow {
+    ghost meets = { λ shown row depth. ls_asks shown.all row depth };
+
+    fn test(&mut self, _alloc: Global, row: RowRef<'_>, depth: u32) -> Result<bool, Memory> {
+        Ok(depth == 1 && (self.all || !is_hidden(row.base)))
+    }
+}
+
 impl Pred for OneBelow {
+    type Tester = OneBelow;
+
     ghost sat = { λ shown row depth. ls_asks shown.all row depth };
 
-    fn test(&self, _alloc: Global, row: RowRef<'_>, depth: u32) -> Result<bool, Memory> {
-        Ok(depth == 1 && (self.all || !is_hidden(row.base)))
+    fn tester(&self, _alloc: Global) -> Result<OneBelow, Memory> {
+        Ok(*self)
     }
 }
 

@@ -10,4 +10,5 @@ pub mod ReadLemmas
 pub mod LineLemmas
 pub mod Sharing
 pub mod Sending
+pub mod Searching
 pub mod ReadBack

@@ -1,10 +1,10 @@
 -- The tokens of a condition read back to it.
-use Rattle.std.proofs.Common.{◌≡◌, ℕ, suc, ◌<◌, ◌≤◌, true, false, List, [], ◌∷◌, ◌++◌, length, map, refl, sym, ap, ◌∙◌, arith, leb, append_assoc, append-nil}
-use Rattle.std.specs.Prelude.{ℤ, pos, negsuc, Option, Some, None, Result, Ok, Err}
+use Rattle.std.proofs.Common.{◌≡◌, ℕ, suc, ◌<◌, ◌≤◌, false, List, [], ◌∷◌, ◌++◌, length, map, refl, sym, ap, ◌∙◌, arith, leb, append_assoc, append-nil}
+use Rattle.std.specs.Prelude.{pos, negsuc, Option, Some, None, Ok}
 use Rattle.std.proofs.lemmas.Bool.Decides.{nat_tests}
 use Rattle.gufi_base.specs.Limits.{max_nesting}
 use Rattle.gufi_base.specs.Words.{◌>>=◌}
-use Rattle.gufi_formula.specs.Formulas.{Formula, test, Level, new_level, with_term, open_ones, level_formula}
+use Rattle.gufi_formula.specs.Formulas.{Formula, test, Level, new_level, with_term, open_ones}
 use Rattle.gufi_formula.specs.Written.{of_or, EachTest, formula_nesting, written_formula}
 use Rattle.gufi_formula.proofs.ReadBack.{Place, before, behind, level_behind, Reads, read_back, whole_behind}
 use Rattle.gufi_select.specs.declared.column.Column.{Column}
@@ -20,7 +20,6 @@ use Rattle.gufi_select.specs.declared.token.Token.{Token}
 use Rattle.gufi_select.specs.declared.token.Token.TheVariants as variants
 use Rattle.gufi_select.specs.declared.word.Keyword.TheVariants as words
 use Rattle.gufi_select.specs.declared.word.Word.TheVariants.{OfGrammar, OfColumn, OfTable}
-use Rattle.gufi_select.specs.Columns.{is_text_column, Select}
 use Rattle.gufi_select.specs.Reading.{SelectState, select_start, all_columns, read_placed, read_tokens, read_select, finished}
 use Rattle.gufi_select.specs.Spelled.{literal_tokens, condition_tokens, IsTyped, select_spelling, select_tokens}
 use Rattle.gufi_select.specs.Tokens.{PlacedToken, tokens}

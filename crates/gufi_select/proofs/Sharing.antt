@@ -1,5 +1,6 @@
 -- A regex may cross threads.
 use denote.Param.Send.{IsSync, struct_sync, sendable}
+use denote.Ref.{NamedLft}
 use denote.Struct.Declared.{shape}
 use Rattle.std.proofs.Crossing.{crosses}
 use Rattle.regex_class.proofs.Class.TheSendSync as class
@@ -29,6 +30,7 @@ use Rattle.gufi_select.specs.contracts.step.Step as step
 use Rattle.gufi_select.specs.contracts.formula.Formula as formula
 use Rattle.gufi_select.specs.contracts.regexp.Regexp as regexp
 use Rattle.gufi_select.specs.contracts.select.Select as select
+use Rattle.gufi_select.specs.contracts.select.SelectQuestion as question
 
 pub hir_sync : IsSync (hir.the_field).row
 hir_sync = search (knot.crosses, class.the_field_sync, look.the_field_sync, sendable, crosses) depth 20 fits 8000
@@ -92,3 +94,7 @@ columns_sync = search (sendable, crosses) depth 20
 
 pub select_sync : IsSync select.the_row
 select_sync = search (columns_sync, table_sync, regexp_sync, formula_sync, sendable, crosses) depth 30 fits 8000
+
+-- and so may the question that it is
+pub question_sync : (κ : NamedLft) → IsSync (question.the_row κ)
+question_sync κ = search (select_sync, sendable) depth 12

@@ -1,5 +1,5 @@
 -- How a condition is written as the tokens of a SELECT.
-use Rattle.std.specs.Prelude.{◌≡◌, ℕ, ℤ, suc, pos, negsuc, true, false, List, [], ◌∷◌, Some}
+use Rattle.std.specs.Prelude.{◌≡◌, ℤ, suc, pos, negsuc, true, false, List, [], ◌∷◌, Some}
 use Rattle.gufi_formula.specs.Formulas.{Formula}
 use Rattle.gufi_formula.specs.Written.{Spelling, written_formula}
 use Rattle.gufi_select.specs.declared.column.Table.{Table}

@@ -28,7 +28,7 @@ pub use fault::{SelectError, SelectKind};
 pub use laws::conditions_read_back;
 pub use projection::select_text;
 pub use reading::read_select;
-pub use select::Select;
+pub use select::{Select, SelectQuestion, SelectTester};
 
 #[cfg(test)]
 mod tests;

@@ -4,7 +4,7 @@ ghost use Rattle.gufi_select.specs.Patterns.{is_bad_pattern, is_pattern_found};
 
 use gufi_base::Memory;
 use regex::Error;
-use regex::bytes::Regex;
+use regex::bytes::{Matcher, Regex};
 use std::alloc::Global;
 use std::marker::Model;
 
@@ -52,11 +52,44 @@ impl Pattern {
         }
     }
 
-    /// Whether it is found in the text. Makes what searches for it, so that many threads may ask at once.
-    pub(crate) fn is_found(&self, alloc: Global, text: &[u8]) -> Result<bool, Memory>
-        ensures { IfOk result (λ met. met ≡ is_pattern_found self.now text.now) }
+    /// A search for it.
+    pub(crate) fn search(&self, alloc: Global) -> Result<Search<'_>, Memory>
+        ensures { IfOk result (λ s. s ≡ self.now) }
     {
-        let mut matcher = self.regex.matcher(alloc)?;
-        Ok(matcher.is_match(text))
+        let matcher = self.regex.matcher(alloc)?;
+        Ok(Search {
+            regex: &self.regex,
+            matcher,
+        })
+    }
+}
+
+/// A search for a pattern, kept for text after text. Contracts see it as the pattern's text.
+#[derive(Drop)]
+pub(crate) struct Search<'p> {
+    regex: &'p Regex,
+    matcher: Matcher<'p>,
+}
+
+impl<'p> Model for Search<'p> {
+    ghost use Rattle.std.specs.Prelude.{◌≡◌, List, ℕ};
+    ghost use Rattle.regex.specs.Bytes.{regex_source, regex_config, regex_pattern, matcher_pattern, IsReadFromSource};
+    ghost use Rattle.gufi_select.specs.Patterns.{bytes_config};
+
+    ghost Value = { List ℕ };
+
+    ghost view = { λ s. regex_source s.regex.now };
+
+    ghost invariant = { λ s. (regex_config s.regex.now ≡ bytes_config) × IsReadFromSource s.regex.now
+        × (matcher_pattern s.matcher ≡ regex_pattern s.regex.now) };
+}
+
+impl<'p> Search<'p> {
+    /// Whether the pattern is found in the text.
+    pub(crate) fn is_found(&mut self, text: &[u8]) -> bool
+        ensures found { result ≡ is_pattern_found self.old text.now }
+        ensures same { self.new ≡ self.old }
+    {
+        self.matcher.is_match(text)
     }
 }

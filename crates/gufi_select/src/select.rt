@@ -5,8 +5,8 @@ ghost use Rattle.gufi_select.specs.Parts.{seen_parts};
 
 use crate::column::{Column, Table};
 use crate::formula::Formula;
-use crate::regexp::Regexp;
-use gufi_base::{Memory, Pred, RowRef};
+use crate::regexp::{Regexp, RegexpSearch};
+use gufi_base::{Memory, Pred, RowRef, Tester};
 use std::alloc::Global;
 use std::marker::Model;
 
@@ -48,36 +48,102 @@ impl Select {
         }
     }
 
-    /// Whether it is true of a row in borrowed parts.
+    /// The question that it is to rows.
+    pub fn question(&self) -> SelectQuestion<'_>
+        ensures { result ≡ self.now }
+    {
+        SelectQuestion { select: self }
+    }
+}
+
+/// The question whether a SELECT chooses a row, which it lends.
+#[derive(Drop)]
+pub struct SelectQuestion<'s> {
+    select: &'s Select,
+}
+
+impl<'s> Model for SelectQuestion<'s> {
+    ghost use Rattle.std.specs.Coded.{codes};
+    ghost use Rattle.gufi_formula.specs.FormulaCodes.{formula_coded};
+    ghost use Rattle.gufi_select.specs.Columns.{Select};
+
+    ghost Value = { Select };
+
+    ghost coded = { Prim.hlevel (codes, formula_coded) };
+
+    ghost view = { λ q. q.select.now };
+}
+
+impl<'s> Pred for SelectQuestion<'s> {
+    type Tester = SelectTester<'s>;
+
+    ghost sat = { λ q row depth. select_holds q row depth };
+
+    fn tester(&self, alloc: Global) -> Result<SelectTester<'s>, Memory> {
+        let select = self.select;
+        let regexp = match &select.regexp {
+            Some(regexp) => Some(regexp.search(alloc)?),
+            None => None,
+        };
+        Ok(SelectTester { select, regexp })
+    }
+}
+
+/// Puts a SELECT to row after row, with one search for its REGEXP. Contracts see it as the SELECT.
+#[derive(Drop)]
+pub struct SelectTester<'s> {
+    select: &'s Select,
+    regexp: Option<RegexpSearch<'s>>,
+}
+
+impl<'s> Model for SelectTester<'s> {
+    ghost use Rattle.std.specs.Prelude.{◌≡◌};
+    ghost use Rattle.std.specs.Coded.{codes};
+    ghost use Rattle.gufi_formula.specs.FormulaCodes.{formula_coded};
+    ghost use Rattle.gufi_select.specs.Columns.{Select};
+
+    ghost Value = { Select };
+
+    ghost coded = { Prim.hlevel (codes, formula_coded) };
+
+    ghost view = { λ t. t.select.now };
+
+    ghost invariant = { λ t. t.regexp ≡ t.select.now.regexp };
+}
+
+impl<'s> SelectTester<'s> {
+    /// Whether the SELECT is true of a row in borrowed parts.
     ///
     /// The pattern is looked for only where the other conditions don't decide.
-    fn is_true(&self, alloc: Global, row: RowRef<'_>, depth: u32) -> Result<bool, Memory>
-        ensures { IfOk result (λ met. met ≡ holds_in self.now (seen_parts row.entry depth)) }
+    fn is_true(&mut self, row: RowRef<'_>, depth: u32) -> Result<bool, Memory>
+        ensures met { IfOk result (λ met. met ≡ holds_in self.old (seen_parts row.entry depth)) }
+        ensures same { self.new ≡ self.old }
     {
-        if !self.table.has(row.meta) {
+        let select = self.select;
+        if !select.table.has(row.meta) {
             return Ok(false);
         }
-        let Some(condition) = &self.condition else {
+        let Some(condition) = &select.condition else {
             return Ok(true);
         };
         let without = condition.is_true(row, depth, false);
-        let Some(regexp) = &self.regexp else {
+        let Some(regexp) = &mut self.regexp else {
             return Ok(without);
         };
         let with = condition.is_true(row, depth, true);
         if with == without {
             return Ok(with);
         }
-        let found = regexp.is_found(alloc, row)?;
+        let found = regexp.is_found(row)?;
         Ok(if found { with } else { without })
     }
 }
 
-impl Pred for Select {
-    ghost sat = { λ s row depth. select_holds s row depth };
+impl<'s> Tester for SelectTester<'s> {
+    ghost meets = { λ t row depth. select_holds t row depth };
 
     #[tactic(auto, using(crate::proofs::RowLemmas::seen_of_parts))]
-    fn test(&self, alloc: Global, row: RowRef<'_>, depth: u32) -> Result<bool, Memory> {
-        self.is_true(alloc, row, depth)
+    fn test(&mut self, _alloc: Global, row: RowRef<'_>, depth: u32) -> Result<bool, Memory> {
+        self.is_true(row, depth)
     }
 }

@@ -1,7 +1,7 @@
 ghost use Rattle.gufi_base.specs.Rows.{StandsForSome};
 
 use crate::{Select, SelectError, SelectKind, read_select, select_text};
-use gufi_base::{Bytes, Kind, Meta, Path, Pred, Rec, Row, RowRef};
+use gufi_base::{Bytes, Kind, Meta, Path, Pred, Rec, Row, RowRef, Tester};
 use std::alloc::Global;
 use std::test::Fail;
 
@@ -41,10 +41,16 @@ fn rows(alloc: Global) -> Result<Vec<Row>, Fail> {
     Ok(rows)
 }
 
-fn asked<P: Pred>(alloc: Global, question: &P, row: RowRef<'_>, depth: u32) -> Result<bool, Fail>
+fn asked<P: Pred + Sync>(
+    alloc: Global,
+    question: &P,
+    row: RowRef<'_>,
+    depth: u32,
+) -> Result<bool, Fail>
     requires { StandsForSome row }
 {
-    Ok(question.test(alloc, row, depth)?)
+    let mut tester = question.tester(alloc)?;
+    Ok(tester.test(alloc, row, depth)?)
 }
 
 fn parts_of<'a>(path: &'a Path, rec: &'a Rec) -> RowRef<'a>
@@ -61,7 +67,12 @@ fn parts_of<'a>(path: &'a Path, rec: &'a Rec) -> RowRef<'a>
 }
 
 fn is_chosen(alloc: Global, select: &Select, row: &Row, depth: u32) -> Result<bool, Fail> {
-    asked(alloc, select, parts_of(&row.path, &row.rec), depth)
+    asked(
+        alloc,
+        &select.question(),
+        parts_of(&row.path, &row.rec),
+        depth,
+    )
 }
 
 /// What a query of the rows below `/` prints.
@@ -143,6 +154,31 @@ fn conditions_are_true_as_they_read(rt: HostRuntime) -> Result<(), Fail> {
         let text = format!(in alloc; "SELECT * FROM rows WHERE {condition}")?;
         let select = read_select(alloc, text.as_bytes())?;
         let found = is_chosen(alloc, &select, &link, 1)?;
+        assert_eq!(rt; found, is_true == "true", "{line}");
+    }
+    Ok(())
+}
+
+/// Whether a pattern is found in a path, and the path.
+fn paths() -> &'static str {
+    "\
+true /c/xxx
+true /c/x
+false /c
+false /c/xy
+true /c/xx
+"
+}
+
+#[test]
+fn one_tester_answers_for_row_after_row(rt: HostRuntime) -> Result<(), Fail> {
+    let alloc = rt.alloc();
+    let select = read_select(alloc, b"SELECT * FROM rows WHERE path REGEXP '^/c/x+$'")?;
+    let mut tester = select.question().tester(alloc)?;
+    for line in paths().lines() {
+        let (is_true, path) = line.split_once(' ').ok_or("truth")?;
+        let row = row(alloc, path.as_bytes(), Kind::File, 7, b"")?;
+        let found = tester.test(alloc, parts_of(&row.path, &row.rec), 1)?;
         assert_eq!(rt; found, is_true == "true", "{line}");
     }
     Ok(())

@@ -11,7 +11,7 @@ ghost use Rattle.gufi_sums.specs.Total.{IsTotal};
 
 use crate::stores::stores_and_sums;
 use crate::sums::{InnerSums, add_below, inner_sums};
-use gufi_base::{Memory, Pred, Steps, Yield};
+use gufi_base::{Memory, Steps, Tester, Yield};
 use gufi_store::{DirStore, scan_fold};
 use gufi_sums::Summary;
 use gufi_tree::{DirId, Tree};
@@ -107,11 +107,11 @@ impl Contents {
     }
 
     /// Adds the rows of a directory itself that meet the question. One step.
-    pub(crate) fn scan_own<P: Pred, Y: Yield, L: Ledger>(
+    pub(crate) fn scan_own<T: Tester, Y: Yield, L: Ledger>(
         &self,
         alloc: Global,
         id: DirId,
-        pred: &P,
+        tester: &mut T,
         above: u32,
         out: &mut Y,
         steps: &mut Steps<L>,
@@ -121,18 +121,19 @@ impl Contents {
         requires room { Y.count out.old + length (home_rows self.now (path_at self.now id.0)) < 2 ^ 40 }
         requires rows { (rows : List Row) × Y.stands_for out.old rows }
         ensures rows { OnOk result ((rows : List Row) → Y.stands_for out.old rows →
-            Y.stands_for out.new (rows ++ filter (is_met above (P.sat pred.now)) (home_rows self.now (path_at self.now id.0)))) }
+            Y.stands_for out.new (rows ++ filter (is_met above (T.meets tester.old)) (home_rows self.now (path_at self.now id.0)))) }
+        ensures same { T.meets tester.new ≡ T.meets tester.old }
         ensures tick { steps.new ≡ steps.old + 1 }
     {
-        self.stores[id.0 as usize].scan(alloc, pred, above, out, steps)
+        self.stores[id.0 as usize].scan(alloc, tester, above, out, steps)
     }
 
     /// Adds the rows at and below a directory that meet the question. One step for all.
-    pub(crate) fn scan_below<P: Pred, Y: Yield, L: Ledger>(
+    pub(crate) fn scan_below<T: Tester, Y: Yield, L: Ledger>(
         &self,
         alloc: Global,
         id: DirId,
-        pred: &P,
+        tester: &mut T,
         above: u32,
         out: &mut Y,
         steps: &mut Steps<L>,
@@ -142,9 +143,10 @@ impl Contents {
         requires room { Y.count out.old + length (subtree_rows self.now (path_at self.now id.0)) < 2 ^ 40 }
         requires rows { (rows : List Row) × Y.stands_for out.old rows }
         ensures rows { OnOk result ((rows : List Row) → Y.stands_for out.old rows →
-            Y.stands_for out.new (rows ++ filter (is_met above (P.sat pred.now)) (subtree_rows self.now (path_at self.now id.0)))) }
+            Y.stands_for out.new (rows ++ filter (is_met above (T.meets tester.old)) (subtree_rows self.now (path_at self.now id.0)))) }
+        ensures same { T.meets tester.new ≡ T.meets tester.old }
         ensures tick { steps.new ≡ steps.old + 1 }
     {
-        scan_fold(alloc, self.stores_below(id), pred, above, out, steps)
+        scan_fold(alloc, self.stores_below(id), tester, above, out, steps)
     }
 }

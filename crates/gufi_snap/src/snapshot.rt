@@ -11,7 +11,7 @@ ghost use Rattle.gufi_roll.specs.CanRoll.{can_roll};
 ghost use Rattle.gufi_snap.specs.Pieces.{piece, dir_sum, tree_sum};
 
 use crate::contents::Contents;
-use gufi_base::{Memory, Pred, Steps, Yield};
+use gufi_base::{Memory, Steps, Tester, Yield};
 use gufi_roll::roll;
 use gufi_sums::Summary;
 use gufi_tree::{DirId, Tree};
@@ -150,11 +150,11 @@ impl Snapshot {
     /// up, all rows at and below it. One step.
     ///
     /// `above` is how many components the start has, below which depths are counted.
-    pub fn scan_piece<P: Pred, Y: Yield, L: Ledger>(
+    pub fn scan_piece<T: Tester, Y: Yield, L: Ledger>(
         &self,
         alloc: Global,
         id: DirId,
-        pred: &P,
+        tester: &mut T,
         above: u32,
         out: &mut Y,
         steps: &mut Steps<L>,
@@ -164,12 +164,15 @@ impl Snapshot {
         requires room { Y.count out.old + length (piece self.now.tree (path_at self.now.tree id.0) self.now.limit) < 2 ^ 40 }
         requires rows { (rows : List Row) × Y.stands_for out.old rows }
         ensures rows { OnOk result ((rows : List Row) → Y.stands_for out.old rows →
-            Y.stands_for out.new (rows ++ filter (λ row. P.sat pred.now row (depth_below above row)) (piece self.now.tree (path_at self.now.tree id.0) self.now.limit))) }
+            Y.stands_for out.new (rows ++ filter (λ row. T.meets tester.old row (depth_below above row)) (piece self.now.tree (path_at self.now.tree id.0) self.now.limit))) }
+        ensures same { T.meets tester.new ≡ T.meets tester.old }
         ensures tick { steps.new ≡ steps.old + 1 }
     {
         if self.rolled(id) {
-            return self.contents.scan_below(alloc, id, pred, above, out, steps);
+            return self
+                .contents
+                .scan_below(alloc, id, tester, above, out, steps);
         }
-        self.contents.scan_own(alloc, id, pred, above, out, steps)
+        self.contents.scan_own(alloc, id, tester, above, out, steps)
     }
 }

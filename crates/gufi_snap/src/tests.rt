@@ -46,7 +46,7 @@ fn scanned<L: Ledger>(
     }
     let mut steps = Steps::<L>::new(blank);
     let mut sum = Summary::empty();
-    snap.scan_piece(alloc, id, &Always, 0, &mut sum, &mut steps)?;
+    snap.scan_piece(alloc, id, &mut Always, 0, &mut sum, &mut steps)?;
     Ok(sum)
 }
 

@@ -14,7 +14,7 @@ ghost use Rattle.gufi_tree.specs.Tree.{dir_row, own_rows};
 ghost use Rattle.gufi_tree.specs.Stored.{directory_of};
 ghost use Rattle.gufi_store.specs.Scan.{rows_met, rows_met_in};
 
-use gufi_base::{Memory, Pred, RowRef, Steps, Yield};
+use gufi_base::{Memory, RowRef, Steps, Tester, Yield};
 use gufi_tree::Stored;
 use std::alloc::Global;
 use std::marker::Model;
@@ -52,20 +52,21 @@ fn own_row(dir: &Stored) -> RowRef<'_>
 }
 
 /// Adds a row where it meets the question.
-fn offer<P: Pred, Y: Yield>(
+fn offer<T: Tester, Y: Yield>(
     alloc: Global,
     row: RowRef<'_>,
     depth: u32,
-    pred: &P,
+    tester: &mut T,
     out: &mut Y,
 ) -> Result<(), Memory>
     requires row { StandsForSome row }
     requires room { Y.count out.old + 1 < 2 ^ 40 }
     requires rows { (rows : List Row) × Y.stands_for out.old rows }
-    ensures { OnOk result ((of : Row) (rows : List Row) → Stands row.entry of → Y.stands_for out.old rows →
-        Y.stands_for out.new (rows ++ (if P.sat pred.now of depth then of ∷ [] else []))) }
+    ensures rows { OnOk result ((of : Row) (rows : List Row) → Stands row.entry of → Y.stands_for out.old rows →
+        Y.stands_for out.new (rows ++ (if T.meets tester.old of depth then of ∷ [] else []))) }
+    ensures same { T.meets tester.new ≡ T.meets tester.old }
 {
-    if pred.test(alloc, row, depth)? {
+    if tester.test(alloc, row, depth)? {
         out.take(alloc, row)?;
     }
     Ok(())
@@ -96,10 +97,10 @@ impl DirStore {
     /// Adds the directory's own row and its entries' rows, each that meets the question, and counts one step.
     ///
     /// `above` is how many components the start has, below which depths are counted.
-    pub fn scan<P: Pred, Y: Yield, L: Ledger>(
+    pub fn scan<T: Tester, Y: Yield, L: Ledger>(
         &self,
         alloc: Global,
-        pred: &P,
+        tester: &mut T,
         above: u32,
         out: &mut Y,
         steps: &mut Steps<L>,
@@ -108,31 +109,33 @@ impl DirStore {
         requires room { Y.count out.old + length (own_rows self.now) < 2 ^ 40 }
         requires rows { (rows : List Row) × Y.stands_for out.old rows }
         ensures rows { OnOk result ((rows : List Row) → Y.stands_for out.old rows →
-            Y.stands_for out.new (rows ++ rows_met above (P.sat pred.now) self.now)) }
+            Y.stands_for out.new (rows ++ rows_met above (T.meets tester.old) self.now)) }
+        ensures same { T.meets tester.new ≡ T.meets tester.old }
         ensures tick { steps.new ≡ steps.old + 1 }
     {
         steps.tick();
-        self.scan_rows(alloc, pred, above, out)
+        self.scan_rows(alloc, tester, above, out)
     }
 
-    fn scan_rows<P: Pred, Y: Yield>(
+    fn scan_rows<T: Tester, Y: Yield>(
         &self,
         alloc: Global,
-        pred: &P,
+        tester: &mut T,
         above: u32,
         out: &mut Y,
     ) -> Result<(), Memory>
         requires above { above ≤ length self.now.path }
         requires room { Y.count out.old + length (own_rows self.now) < 2 ^ 40 }
         requires rows { (rows : List Row) × Y.stands_for out.old rows }
-        ensures { OnOk result ((rows : List Row) → Y.stands_for out.old rows →
-            Y.stands_for out.new (rows ++ rows_met above (P.sat pred.now) self.now)) }
+        ensures rows { OnOk result ((rows : List Row) → Y.stands_for out.old rows →
+            Y.stands_for out.new (rows ++ rows_met above (T.meets tester.old) self.now)) }
+        ensures same { T.meets tester.new ≡ T.meets tester.old }
     {
         let dir: &Stored = &self.stored;
         let components = dir.path.depth();
         let depth = depth_between(components, above)?;
         let stem = dir.path.text();
-        offer(alloc, own_row(dir), depth, pred, out)?;
+        offer(alloc, own_row(dir), depth, tester, out)?;
         for entry in &dir.entries {
             let row = RowRef {
                 stem,
@@ -140,7 +143,7 @@ impl DirStore {
                 meta: &entry.rec.meta,
                 link: entry.rec.link.as_slice(),
             };
-            offer(alloc, row, depth + 1, pred, out)?;
+            offer(alloc, row, depth + 1, tester, out)?;
         }
         Ok(())
     }
@@ -149,10 +152,10 @@ impl DirStore {
 /// Adds the rows of a fold that meet the question, and counts one step for all its stores, which stand side by side.
 ///
 /// The rows of a store follow those of the stores before it. `above` is as in [`DirStore::scan`].
-pub fn scan_fold<P: Pred, Y: Yield, L: Ledger>(
+pub fn scan_fold<T: Tester, Y: Yield, L: Ledger>(
     alloc: Global,
     stores: &[DirStore],
-    pred: &P,
+    tester: &mut T,
     above: u32,
     out: &mut Y,
     steps: &mut Steps<L>,
@@ -161,12 +164,13 @@ pub fn scan_fold<P: Pred, Y: Yield, L: Ledger>(
     requires room { Y.count out.old + length (flat_map own_rows stores.now) < 2 ^ 40 }
     requires rows { (rows : List Row) × Y.stands_for out.old rows }
     ensures rows { OnOk result ((rows : List Row) → Y.stands_for out.old rows →
-        Y.stands_for out.new (rows ++ rows_met_in above (P.sat pred.now) stores.now)) }
+        Y.stands_for out.new (rows ++ rows_met_in above (T.meets tester.old) stores.now)) }
+    ensures same { T.meets tester.new ≡ T.meets tester.old }
     ensures tick { steps.new ≡ steps.old + 1 }
 {
     steps.tick();
     for store in stores {
-        store.scan_rows(alloc, pred, above, out)?;
+        store.scan_rows(alloc, tester, above, out)?;
     }
     Ok(())
 }

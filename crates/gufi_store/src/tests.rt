@@ -21,7 +21,7 @@ fn scanned<Y: Yield, L: Ledger>(
     requires { length (own_rows store.now) < 2 ^ 39 }
 {
     let mut all = Y::none(alloc)?;
-    store.scan(alloc, &Always, 0, &mut all, steps)?;
+    store.scan(alloc, &mut Always, 0, &mut all, steps)?;
     Ok(all)
 }
 

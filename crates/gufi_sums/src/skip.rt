@@ -8,7 +8,7 @@ ghost use Rattle.std.proofs.lemmas.Bool.{false≢true};
 use crate::summary::Summary;
 
 /// A test of sums that tells where no row can meet a query.
-pub trait Skip: Sync {
+pub trait Skip {
     /// Whether a row at a depth meets the query.
     ghost query: { Self → Row → ℕ → Bool };
 

@@ -121,6 +121,10 @@ impl Yield for Summary {
         self.join(&other);
         Ok(())
     }
+
+    fn settle(&mut self, _alloc: Global) -> Result<(), Memory> {
+        Ok(())
+    }
 }
 
 fn span_of_sizes(a: Option<(u64, u64)>, b: Option<(u64, u64)>) -> Option<(u64, u64)>

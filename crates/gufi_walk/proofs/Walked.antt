@@ -132,7 +132,7 @@ depth_at-place (d ∷ ds) shape k within =
     omega (arith, ap length (path_at-get (d ∷ ds) k d within))
 
 module _ (tree : List Directory) (who : Principal) (shape : HasTreeShape tree) where
-  at_place : (k : ℕ) → k < length tree → (d : Directory) × Has tree d × (d.path ≡ path_at tree k)
+  pub at_place : (k : ℕ) → k < length tree → (d : Directory) × Has tree d × (d.path ≡ path_at tree k)
   at_place k within = by tree within refl where
     by : (ds : List Directory) → k < length tree → ds ≡ tree → (d : Directory) × Has tree d × (d.path ≡ path_at tree k)
     by [] h e = absurd (omega (arith, h, ap length e))
@@ -154,7 +154,7 @@ module _ (tree : List Directory) (who : Principal) (shape : HasTreeShape tree) w
   pub found_listed : (start : Components) (id : DirId) → IsFoundPlace tree who start id → lists_at tree who (path_at tree id.0) ≡ true
   found_listed start id f = ap (lists_at tree who) (f.path ∙ sym f.at) ∙ lists_at-own tree who (λ p. false) shape f.dir f.there ∙ f.on
 
-  listed_at_top : (limit : ℕ) (start : Components) → IsOpenTop tree who start → IsPermutation (listed_rows tree who start) (flat_map (λ p. piece tree p limit) (front tree who start limit))
+  pub listed_at_top : (limit : ℕ) (start : Components) → IsOpenTop tree who start → IsPermutation (listed_rows tree who start) (flat_map (λ p. piece tree p limit) (front tree who start limit))
   listed_at_top limit start top =
       let P : Components → Type 0 = λ q. IsPermutation (listed_rows tree who q) (flat_map (λ p. piece tree p limit) (front tree who q limit)) in
       subst P top.path (listed_rows-by_front tree limit who shape top.dir top.there top.on)
@@ -166,14 +166,14 @@ module _ (tree : List Directory) (who : Principal) (shape : HasTreeShape tree) w
       let split : IsPermutation (front tree who start limit) (done ++ fronts_at tree who limit []) = subst (λ l. IsPermutation (front tree who start limit) (done ++ fronts_at tree who limit l)) none walk.split in
       subst (λ l. IsPermutation (front tree who start limit) l) (append-nil done) split
 
-  -- the rows of all pieces that were met are the answer
-  pub answer-by_walk : (limit : ℕ) (start : Components) → IsOpenTop tree who start → (done : List Components) (todo : List DirId) → IsWalk tree who limit start done todo → length todo ≡ 0
+  -- the rows of all pieces of the front, in whatever order, are the answer
+  pub answer-by_pieces : (limit : ℕ) (start : Components) → IsOpenTop tree who start → (done : List Components) → IsPermutation (front tree who start limit) done
       → (asks : Row → ℕ → Bool) → IsPermutation (filter (meets asks (length start)) (flat_map (λ p. piece tree p limit) done)) (answer tree who start asks)
   unfolding answer
-  answer-by_walk limit start top done todo walk e asks =
+  answer-by_pieces limit start top done all asks =
       let P : Components → List Row = λ p. piece tree p limit in
       IsPermutation-filter (meets asks (length start)) _ _
-      (IsPermutation-trans _ _ _ (IsPermutation-flat_map P _ _ (IsPermutation-sym _ _ (IsWalk-all limit start done todo walk e))) (IsPermutation-sym _ _ (listed_at_top limit start top)))
+      (IsPermutation-trans _ _ _ (IsPermutation-flat_map P _ _ (IsPermutation-sym _ _ all)) (IsPermutation-sym _ _ (listed_at_top limit start top)))
 
   module _ (limit : ℕ) where
     pub IsOpen-start : (k : ℕ) → k < length tree → lists_at tree who (path_at tree k) ≡ true → IsOpen tree who (path_at tree k) (dir_id k)
@@ -210,7 +210,7 @@ module _ (tree : List Directory) (who : Principal) (shape : HasTreeShape tree) w
       by true = refl
       by false = open_
 
-    fronts-kids : (path : Components) → fronts_at tree who limit (kid_ids tree who path limit) ≡ flat_map (λ p. front tree who p limit) (kids tree who path limit)
+    pub fronts-kids : (path : Components) → fronts_at tree who limit (kid_ids tree who path limit) ≡ flat_map (λ p. front tree who p limit) (kids tree who path limit)
     fronts-kids path = sym (flat_map-map (λ p. front tree who p limit) (λ (id : DirId). path_at tree id.0) (kid_ids tree who path limit)) ∙ ap (flat_map (λ p. front tree who p limit)) (kids_at path)
 
     kid_open : (start path : Components) → is_prefix start path ≡ true → (id : DirId) → id.0 < length tree → lists_at tree who (path_at tree id.0) ≡ true → is_child_of path (path_at tree id.0) ≡ true → IsOpen tree who start id
@@ -229,7 +229,7 @@ module _ (tree : List Directory) (who : Principal) (shape : HasTreeShape tree) w
         }
 
     -- the places are those of children
-    ids_children : (path : Components) (from : ℕ) (xs : List Directory) → ((j : ℕ) (x : Directory) → j < length xs → x ≡ get_or xs j x → path_at tree (from + j) ≡ x.path)
+    pub ids_children : (path : Components) (from : ℕ) (xs : List Directory) → ((j : ℕ) (x : Directory) → j < length xs → x ≡ get_or xs j x → path_at tree (from + j) ≡ x.path)
         → AllByRecursion (λ (id : DirId). is_child_of path (path_at tree id.0) ≡ true) (ids_from (λ dir. is_child_of path dir.path) from xs)
     ids_children path from [] h = tt
     ids_children path from (x ∷ xs) h =
@@ -243,7 +243,7 @@ module _ (tree : List Directory) (who : Principal) (shape : HasTreeShape tree) w
           one true e f k = (f ∙ e, k)
           one false e f k = k
 
-    kids_open : (start path : Components) → is_prefix start path ≡ true → AllByRecursion (IsOpen tree who start) (kid_ids tree who path limit)
+    pub kids_open : (start path : Components) → is_prefix start path ≡ true → AllByRecursion (IsOpen tree who start) (kid_ids tree who path limit)
     kids_open start path leads = by (can_roll tree limit path) where
       each : (id : DirId) → Has (open_ids tree who path) id → IsOpen tree who start id
       each id h =
@@ -355,3 +355,7 @@ pub none_met : (above : ℕ) (asks query : Row → ℕ → Bool) (rows : List Ro
 none_met above asks query rows implied none =
     filter-none (meets asks above) rows (λ row h. false_from_ne_true _ (λ e.
     false≢true (sym (All-Has (λ (r : Row). (depth : ℕ) → query r depth ≡ false) rows row (recursion_from_All _ rows none) h (depth_below above row)) ∙ implied row (depth_below above row) e)))
+
+-- the rows that meet a question, of the same pieces in another order
+pub rows_of_all : (met : Row → Bool) (P : Components → List Row) (done all : List Components) → IsPermutation all done → IsPermutation (filter met (flat_map P done)) (filter met (flat_map P all))
+rows_of_all met P done all p = IsPermutation-filter met _ _ (IsPermutation-flat_map P _ _ (IsPermutation-sym _ _ p))

@@ -1,14 +1,15 @@
 -- Where a walk goes on from a directory, by places.
-use Rattle.std.specs.Prelude.{ℕ, ◌&&◌, Bool, List, [], filter, if◌then◌else◌}
-use Rattle.std.specs.List.{list_any}
+use Rattle.std.specs.Prelude.{ℕ, ◌&&◌, nat_le, Bool, List, [], ◌∷◌, filter, map, length, if◌then◌else◌}
+use Rattle.std.specs.List.{list_any, flat_map, range_with_len}
 use Rattle.gufi_base.specs.declared.record.Row.{Row}
-use Rattle.gufi_base.specs.Paths.{Components, path_eq}
+use Rattle.gufi_base.specs.Paths.{Components, path_eq, is_prefix}
 use Rattle.gufi_base.specs.Rows.{depth_below}
 use Rattle.gufi_access.specs.declared.class.Principal.{Principal}
 use Rattle.gufi_tree.specs.declared.tree.DirId.{DirId}
 use Rattle.gufi_tree.specs.Tree.{Directory, may_list}
 use Rattle.gufi_tree.specs.Places.{path_at, child_ids}
 use Rattle.gufi_roll.specs.CanRoll.{can_roll}
+use Rattle.gufi_snap.specs.Pieces.{front, piece, tree_sum}
 
 -- the directory of the path may be listed
 abbrev pub lists_at : List Directory → Principal → Components → Bool
@@ -20,6 +21,26 @@ open_ids tree who path = filter (λ id. lists_at tree who (path_at tree id.0)) (
 
 abbrev pub kid_ids : List Directory → Principal → Components → ℕ → List DirId
 kid_ids tree who path limit = if can_roll tree limit path then [] else open_ids tree who path
+
+-- at most so many directories are at and below it: then its task takes them all, and has no kids
+abbrev pub is_small : List Directory → ℕ → Components → Bool
+is_small tree grain path = nat_le (tree_sum tree path).dirs grain
+
+-- the members of the front that one task takes
+abbrev pub task_dirs : List Directory → Principal → ℕ → ℕ → Components → List Components
+task_dirs tree who limit grain path = if is_small tree grain path then front tree who path limit else path ∷ []
+
+-- the tasks that a task brings forth
+abbrev pub task_kids : List Directory → Principal → ℕ → ℕ → ℕ → List ℕ
+task_kids tree who limit grain k = if is_small tree grain (path_at tree k) then [] else map (λ id. id.0) (kid_ids tree who (path_at tree k) limit)
+
+-- the directories at or below the start that may be listed: all that can be tasks
+abbrev pub open_places : List Directory → Principal → Components → List ℕ
+open_places tree who start = filter (λ k. is_prefix start (path_at tree k) && lists_at tree who (path_at tree k)) (range_with_len 0 (length tree))
+
+-- the rows that one task adds
+abbrev pub task_rows : List Directory → Principal → ℕ → ℕ → (Row → Bool) → ℕ → List Row
+task_rows tree who limit grain met k = filter met (flat_map (λ path. piece tree path limit) (task_dirs tree who limit grain (path_at tree k)))
 
 -- the row meets the question at its depth
 abbrev pub meets : (Row → ℕ → Bool) → ℕ → Row → Bool

@@ -1,6 +1,7 @@
 //! One thread's answer: down from the start, by subdirectories that may be listed, a piece at a time.
 
 ghost use Rattle.std.specs.Prelude.{◌≡◌, ◌≢◌, ℕ, ◌+◌, ◌<◌, ◌≤◌, ◌^◌, true, false, List, [], ◌∷◌, ◌++◌, length, filter, reverse, Option, Some, None, IfOk, OnOk, IfErr, All};
+ghost use Rattle.std.specs.List.{flat_map};
 ghost use Rattle.gufi_base.specs.declared.record.Row.{Row};
 ghost use Rattle.gufi_access.specs.Access.{can_list};
 ghost use Rattle.gufi_tree.specs.Places.{path_at};
@@ -14,16 +15,16 @@ ghost use Rattle.gufi_walk.specs.Walk.{lists_at, open_ids, kid_ids, meets};
 
 use crate::refusal::Refusal;
 use gufi_access::{Principal, lists};
-use gufi_base::{Memory, Path, Pred, Steps, Yield};
+use gufi_base::{Memory, Path, Pred, Steps, Tester, Yield};
+use gufi_io::{Gate, GateKind, NoGate};
 use gufi_snap::Snapshot;
 use gufi_sums::{Skip, Summary};
 use gufi_tree::{DirId, Resolved, Tree};
 use std::alloc::{AllocError, Global};
-use std::marker::Brand;
-use std::sync::ledger::{Blank, Ledger};
+use std::sync::ledger::Ledger;
 
 /// Whether a directory may be listed, apart from those above it.
-fn may_be_listed(snap: &Snapshot, who: &Principal, id: DirId) -> bool
+pub(crate) fn may_be_listed(snap: &Snapshot, who: &Principal, id: DirId) -> bool
     requires { id.0 < length snap.now.tree }
     ensures { result ≡ lists_at snap.now.tree who.now (path_at snap.now.tree id.0) }
 {
@@ -86,13 +87,14 @@ fn sum_of_piece(snap: &Snapshot, id: DirId) -> &Summary
 }
 
 /// Adds the rows of a piece that meet the question, unless its sum shows that there are none.
-fn visit<P: Pred, Y: Yield, S: Skip, L: Ledger>(
+pub(crate) fn visit<T: Tester, Y: Yield, S: Skip, G: Gate, L: Ledger>(
     alloc: Global,
     snap: &Snapshot,
     id: DirId,
-    pred: &P,
+    tester: &mut T,
     skip: &S,
     above: u32,
+    gate: &G,
     out: &mut Y,
     steps: &mut Steps<L>,
 ) -> Result<(), Memory>
@@ -100,25 +102,67 @@ fn visit<P: Pred, Y: Yield, S: Skip, L: Ledger>(
     requires above { above ≤ length (path_at snap.now.tree id.0) }
     requires room { Y.count out.old + length (piece snap.now.tree (path_at snap.now.tree id.0) snap.now.limit) < 2 ^ 40 }
     requires rows { (rows : List Row) × Y.stands_for out.old rows }
-    requires query { (row : Row) (depth : ℕ) → P.sat pred.now row depth ≡ true → S.query skip.now row depth ≡ true }
+    requires query { (row : Row) (depth : ℕ) → T.meets tester.old row depth ≡ true → S.query skip.now row depth ≡ true }
     ensures rows { OnOk result ((rows : List Row) → Y.stands_for out.old rows →
-        Y.stands_for out.new (rows ++ filter (meets (P.sat pred.now) above) (piece snap.now.tree (path_at snap.now.tree id.0) snap.now.limit))) }
+        Y.stands_for out.new (rows ++ filter (meets (T.meets tester.old) above) (piece snap.now.tree (path_at snap.now.tree id.0) snap.now.limit))) }
+    ensures same { T.meets tester.new ≡ T.meets tester.old }
     ensures at_most { steps.new ≤ steps.old + 1 }
     ensures exact { ((sum : SeenSummary) → S.skips skip.now sum ≡ false) → steps.new ≡ steps.old + 1 }
 {
     if skip.none_match(sum_of_piece(snap, id)) {
         return Ok(());
     }
-    snap.scan_piece(alloc, id, pred, above, out, steps)
+    gate.begin(GateKind::Store, id.0);
+    snap.scan_piece(alloc, id, tester, above, out, steps)
 }
 
 /// How many components the path of a directory has: no more than there are directories before it.
-fn depth_of(tree: &Tree, id: DirId) -> u32
+pub(crate) fn depth_of(tree: &Tree, id: DirId) -> u32
     requires within { id.0 < length tree.now }
     requires shape { HasTreeShape tree.now }
     ensures { result ≡ length (path_at tree.now id.0) }
 {
     tree.path(id).depth() as u32
+}
+
+/// Tells the gate of a directory that is taken as a task, but for the first, of which whoever gave that one has told.
+fn tell<G: Gate>(gate: &G, id: DirId, first: DirId) {
+    if id != first {
+        gate.begin(GateKind::Task, id.0);
+    }
+}
+
+/// The rows of the pieces at and below a directory that meet the question. It takes the directories in path order.
+pub(crate) fn rows_below<T: Tester, Y: Yield, S: Skip, G: Gate, L: Ledger>(
+    alloc: Global,
+    snap: &Snapshot,
+    who: &Principal,
+    start: DirId,
+    tester: &mut T,
+    skip: &S,
+    above: u32,
+    gate: &G,
+    steps: &mut Steps<L>,
+) -> Result<Y, Memory>
+    requires start { start.0 < length snap.now.tree }
+    requires listed { lists_at snap.now.tree who.now (path_at snap.now.tree start.0) ≡ true }
+    requires above { above ≤ length (path_at snap.now.tree start.0) }
+    requires query { (row : Row) (depth : ℕ) → T.meets tester.old row depth ≡ true → S.query skip.now row depth ≡ true }
+    ensures rows { IfOk result (λ y. Y.stands_for y (filter (meets (T.meets tester.old) above)
+        (flat_map (λ path. piece snap.now.tree path snap.now.limit) (front snap.now.tree who.now (path_at snap.now.tree start.0) snap.now.limit)))) }
+    ensures at_most { steps.new ≤ steps.old + length (front snap.now.tree who.now (path_at snap.now.tree start.0) snap.now.limit) }
+    ensures exact { OnOk result (((sum : SeenSummary) → S.skips skip.now sum ≡ false)
+        → steps.new ≡ steps.old + length (front snap.now.tree who.now (path_at snap.now.tree start.0) snap.now.limit)) }
+{
+    let _tree = snap.tree();
+    let mut out = Y::none(alloc)?;
+    let mut todo = list_of(alloc, start)?;
+    while let Some(id) = todo.pop() {
+        tell(gate, id, start);
+        visit(alloc, snap, id, tester, skip, above, gate, &mut out, steps)?;
+        push_kids(&mut todo, snap, who, id)?;
+    }
+    Ok(out)
 }
 
 /// The rows that the principal lists from a directory on and that meet the question.
@@ -140,13 +184,18 @@ fn answer_from<P: Pred, Y: Yield, S: Skip, L: Ledger>(
         → steps.new ≡ steps.old + length (front snap.now.tree who.now (path_at snap.now.tree start.0) snap.now.limit)) }
 {
     let above = depth_of(snap.tree(), start);
-    let mut out = Y::none(alloc)?;
-    let mut todo = list_of(alloc, start)?;
-    while let Some(id) = todo.pop() {
-        visit(alloc, snap, id, pred, skip, above, &mut out, steps)?;
-        push_kids(&mut todo, snap, who, id)?;
-    }
-    Ok(out)
+    let mut tester = pred.tester(alloc)?;
+    rows_below(
+        alloc,
+        snap,
+        who,
+        start,
+        &mut tester,
+        skip,
+        above,
+        &NoGate,
+        steps,
+    )
 }
 
 /// The rows that the principal gets who walks from the start and that meet the question, or the refusal of the start.
@@ -177,42 +226,4 @@ pub fn answer_alone<P: Pred, Y: Yield, S: Skip, L: Ledger>(
         Resolved::NoSuch { depth } => Err(Refusal::NoSuch { depth }),
         Resolved::NotDir { depth } => Err(Refusal::NotDir { depth }),
     }
-}
-
-fn answer_with<P: Pred, Y: Yield, S: Skip, L: Ledger>(
-    alloc: Global,
-    snap: &Snapshot,
-    who: &Principal,
-    start: &Path,
-    pred: &P,
-    skip: &S,
-    blank: Blank,
-) -> Result<Y, Refusal>
-    requires name { blank.name ≡ L.name }
-    requires parts { blank.parts ≡ L.parts }
-    requires one { 0 < blank.parts }
-    requires query { (row : Row) (depth : ℕ) → P.sat pred.now row depth ≡ true → S.query skip.now row depth ≡ true }
-    ensures rows { IfOk result (λ y. Y.stands_for y (answer snap.now.tree who.now start.now (P.sat pred.now))) }
-    ensures found { OnOk result (refusal_of (resolve snap.now.tree who.now start.now) ≡ None) }
-    ensures refusal { IfErr result (λ refusal. refusal ≢ Refusal.Memory → refusal_of (resolve snap.now.tree who.now start.now) ≡ Some refusal) }
-{
-    let mut steps = Steps::<L>::new(blank);
-    answer_alone(alloc, snap, who, start, pred, skip, &mut steps)
-}
-
-/// `answer_alone`, for callers that count no steps.
-pub fn answer_uncounted<P: Pred, Y: Yield, S: Skip>(
-    alloc: Global,
-    snap: &Snapshot,
-    who: &Principal,
-    start: &Path,
-    pred: &P,
-    skip: &S,
-) -> Result<Y, Refusal>
-    requires query { (row : Row) (depth : ℕ) → P.sat pred.now row depth ≡ true → S.query skip.now row depth ≡ true }
-    ensures rows { IfOk result (λ y. Y.stands_for y (answer snap.now.tree who.now start.now (P.sat pred.now))) }
-    ensures found { OnOk result (refusal_of (resolve snap.now.tree who.now start.now) ≡ None) }
-    ensures refusal { IfErr result (λ refusal. refusal ≢ Refusal.Memory → refusal_of (resolve snap.now.tree who.now start.now) ≡ Some refusal) }
-{
-    answer_with::<P, Y, S, Brand>(alloc, snap, who, start, pred, skip, Blank::new(1))
 }

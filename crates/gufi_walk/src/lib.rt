@@ -1,18 +1,25 @@
 //! Queries over one snapshot: what a principal gets who walks from a start, or why there is nothing.
 //!
-//! The answer is a filter of all rows of the tree, in path order; refusals are those of resolving the start.
-//! It stands on snapshots; the calls of the program and the pool stand on it.
+//! The answer is a filter of all rows of the tree, in path order; refusals are those of resolving the start. One thread
+//! gives it, counting its steps, or as many walkers as are asked for, who share the directories as tasks.
+//! It stands on snapshots and on the pool that runs the tasks; the calls of the program stand on it.
 #![tactic(auto)]
 
+mod chunk;
 mod descent;
 mod laws;
 mod refusal;
 mod reply;
+mod task;
+mod walkers;
 
-pub use descent::{answer_alone, answer_uncounted};
+pub use descent::answer_alone;
 pub use laws::{answers_are_private, folds_hold_the_answer};
 pub use refusal::Refusal;
 pub use reply::{PathLines, answer_lines, answer_rows, answer_sum, put_refusal};
+pub use walkers::{Walkers, answer};
 
 #[cfg(test)]
 mod tests;
+#[cfg(test)]
+mod walkers_tests;

@@ -7,13 +7,16 @@ ghost use Rattle.gufi_tree.specs.Resolve.{resolve};
 ghost use Rattle.gufi_walk.specs.Answer.{answer, refusal_of};
 ghost use Rattle.gufi_walk.specs.Refusals.{class_text, refusal_text};
 
-use crate::descent::answer_uncounted;
 use crate::refusal::Refusal;
+use crate::walkers::{Walkers, answer};
 use gufi_access::{Class, Principal};
 use gufi_base::{Memory, Path, PathList, Pred, Row, RowList, put_u64};
+use gufi_io::Gate;
 use gufi_snap::Snapshot;
 use gufi_sums::{NoSkip, Summary};
 use std::alloc::Global;
+use std::sync::Wait;
+use std::thread::Threads;
 
 /// Printed paths, a line each, and how many they are.
 #[derive(Drop)]
@@ -23,20 +26,33 @@ pub struct PathLines {
 }
 
 /// The paths of the rows that the principal lists from the start and that meet the question, in path order.
-pub fn answer_lines<P: Pred>(
+pub fn answer_lines<R: Threads + Wait + Sync, P: Pred + Sync, G: Gate + Sync>(
+    walkers: &Walkers<'_, R, G>,
     alloc: Global,
     snap: &Snapshot,
     who: &Principal,
     start: &Path,
     pred: &P,
 ) -> Result<PathLines, Refusal>
+where
+    P::Tester: Send,
     ensures text { IfOk result (λ lines. lines.text.items ≡ path_lines (answer snap.now.tree who.now start.now (P.sat pred.now))) }
     ensures count { IfOk result (λ lines. lines.count ≡ length (answer snap.now.tree who.now start.now (P.sat pred.now))) }
     ensures found { OnOk result (refusal_of (resolve snap.now.tree who.now start.now) ≡ None) }
     ensures refusal { IfErr result (λ refusal. refusal ≢ Refusal.Memory → refusal_of (resolve snap.now.tree who.now start.now) ≡ Some refusal) }
 {
     let _tree = snap.tree();
-    match answer_uncounted::<P, PathList, NoSkip>(alloc, snap, who, start, pred, &NoSkip) {
+    match answer::<R, P, PathList, NoSkip, G>(
+        walkers.rt,
+        alloc,
+        snap,
+        who,
+        start,
+        pred,
+        &NoSkip,
+        walkers.count,
+        walkers.gate,
+    ) {
         Ok(paths) => {
             let count = paths.len();
             let text = paths.lines(alloc)?;
@@ -47,37 +63,63 @@ pub fn answer_lines<P: Pred>(
 }
 
 /// The rows that the principal lists from the start and that meet the question, in path order.
-pub fn answer_rows<P: Pred>(
+pub fn answer_rows<R: Threads + Wait + Sync, P: Pred + Sync, G: Gate + Sync>(
+    walkers: &Walkers<'_, R, G>,
     alloc: Global,
     snap: &Snapshot,
     who: &Principal,
     start: &Path,
     pred: &P,
 ) -> Result<Vec<Row>, Refusal>
+where
+    P::Tester: Send,
     ensures rows { IfOk result (λ rows. rows.items ≡ answer snap.now.tree who.now start.now (P.sat pred.now)) }
     ensures found { OnOk result (refusal_of (resolve snap.now.tree who.now start.now) ≡ None) }
     ensures refusal { IfErr result (λ refusal. refusal ≢ Refusal.Memory → refusal_of (resolve snap.now.tree who.now start.now) ≡ Some refusal) }
 {
     let _tree = snap.tree();
-    match answer_uncounted::<P, RowList, NoSkip>(alloc, snap, who, start, pred, &NoSkip) {
+    match answer::<R, P, RowList, NoSkip, G>(
+        walkers.rt,
+        alloc,
+        snap,
+        who,
+        start,
+        pred,
+        &NoSkip,
+        walkers.count,
+        walkers.gate,
+    ) {
         Ok(rows) => Ok(rows.sorted(alloc)?),
         Err(refusal) => Err(refusal),
     }
 }
 
 /// The sum of the rows that the principal lists from the start and that meet the question.
-pub fn answer_sum<P: Pred>(
+pub fn answer_sum<R: Threads + Wait + Sync, P: Pred + Sync, G: Gate + Sync>(
+    walkers: &Walkers<'_, R, G>,
     alloc: Global,
     snap: &Snapshot,
     who: &Principal,
     start: &Path,
     pred: &P,
 ) -> Result<Summary, Refusal>
+where
+    P::Tester: Send,
     ensures sum { IfOk result (λ sum. sum ≡ total (answer snap.now.tree who.now start.now (P.sat pred.now))) }
     ensures found { OnOk result (refusal_of (resolve snap.now.tree who.now start.now) ≡ None) }
     ensures refusal { IfErr result (λ refusal. refusal ≢ Refusal.Memory → refusal_of (resolve snap.now.tree who.now start.now) ≡ Some refusal) }
 {
-    answer_uncounted::<P, Summary, NoSkip>(alloc, snap, who, start, pred, &NoSkip)
+    answer::<R, P, Summary, NoSkip, G>(
+        walkers.rt,
+        alloc,
+        snap,
+        who,
+        start,
+        pred,
+        &NoSkip,
+        walkers.count,
+        walkers.gate,
+    )
 }
 
 fn class_word(class: Class) -> &'static [u8]

@@ -6,7 +6,7 @@ use Rattle.gufi_snap.proofs.Pieces.{piece-few}
 use Rattle.gufi_snap.proofs.tests.scanned.Goals as goal
 
 pub scan_piece-requires-clause-room : goal.scan_piece-requires-clause-room
-scan_piece-requires-clause-room g c κs within =
+scan_piece-requires-clause-room g c =
     let tree = c.args.snap.now.tree in
     let few = piece-few tree (path_at tree c.args.id.0) c.args.snap.now.limit in
     let all : length (all_rows tree) < 2 ^ 40 = c.tree.ensures.few in
@@ -14,4 +14,4 @@ scan_piece-requires-clause-room g c κs within =
     omega arith
 
 pub scan_piece-requires-clause-rows : goal.scan_piece-requires-clause-rows
-scan_piece-requires-clause-rows g c κs within = ([], total_nothing c.empty-sum.result c.empty-sum.ensures.sum c.empty-sum.ensures.bounded)
+scan_piece-requires-clause-rows g c = ([], total_nothing c.empty-sum.result c.empty-sum.ensures.sum c.empty-sum.ensures.bounded)

@@ -1,4 +1,4 @@
-use Rattle.std.proofs.Common.{◌+◌, ◌++◌, List, take}
+use Rattle.std.proofs.Common.{◌≡◌, ◌+◌, ◌++◌, List, take}
 use Rattle.std.specs.List.{filter}
 use Rattle.gufi_base.specs.declared.record.Row.{Row}
 use Rattle.gufi_tree.specs.Tree.{own_rows}
@@ -6,6 +6,8 @@ use Rattle.gufi_store.specs.Scan.{is_met}
 use Rattle.gufi_store.proofs.DirStore.scan_rows.Given as goal
 
 abbrev pub invariant-loop-entry : goal.invariant-loop-entry
-invariant-loop-entry g l =
-    (rows : List Row) → g.Y.Yield.stands_for l.fn.out rows
-    → g.Y.Yield.stands_for l.out (rows ++ filter (is_met l.above (g.P.Pred.sat l.pred)) (take (l.entry-index + 1) (own_rows l.self)))
+invariant-loop-entry g l = record {
+  same : g.T.Tester.meets l.tester ≡ g.T.Tester.meets l.fn.tester;
+  rows : (rows : List Row) → g.Y.Yield.stands_for l.fn.out rows
+      → g.Y.Yield.stands_for l.out (rows ++ filter (is_met l.above (g.T.Tester.meets l.fn.tester)) (take (l.entry-index + 1) (own_rows l.self)));
+}

@@ -3,7 +3,7 @@ use Rattle.gufi_sums.proofs.tests.sum_of_one_row.Goals as goal
 
 pub merge-requires-clause-room : goal.merge-requires-clause-room
 merge-requires-clause-room g c =
-    let counted = (g.met.Y.Yield g.world.𝓛 g.world.𝓜 g.world.𝓡 (λ s x. x, λ x. x, λ x. x, λ x. x)).counted in
+    let counted = g.met.Y.Yield.counted in
     let taken = c.in_ok-take.ensures c.requires.0 [] c.requires.1 c.in_ok-all.ensures in
     omega (arith, counted _ _ taken, counted _ _ c.in_ok-none.ensures)
 

@@ -9,12 +9,12 @@ use Rattle.gufi_walk.proofs.Walked.{found_listed}
 use Rattle.gufi_walk.proofs.descent.answer_alone.Goals as goal
 
 pub answer_from-requires-clause-start : goal.answer_from-requires-clause-start
-answer_from-requires-clause-start g c κs within =
+answer_from-requires-clause-start g c =
     let found = sym (c.in-Found.ensures ∙ ap (λ (ds : List Directory). resolve ds c.args.who.now c.args.start.now) c.tree.ensures.tree) in
     (found_place_of_start c.args.snap.now.tree c.args.who.now c.args.start.now c.in-Found.id c.tree.ensures.shape found).within
 
 pub answer_from-requires-clause-listed : goal.answer_from-requires-clause-listed
-answer_from-requires-clause-listed g c κs within =
+answer_from-requires-clause-listed g c =
     let found = sym (c.in-Found.ensures ∙ ap (λ (ds : List Directory). resolve ds c.args.who.now c.args.start.now) c.tree.ensures.tree) in
     found_listed c.args.snap.now.tree c.args.who.now c.tree.ensures.shape c.args.start.now c.in-Found.id
     (found_place_of_start c.args.snap.now.tree c.args.who.now c.args.start.now c.in-Found.id c.tree.ensures.shape found)

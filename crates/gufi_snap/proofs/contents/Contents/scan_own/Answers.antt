@@ -7,7 +7,7 @@ use Rattle.gufi_snap.proofs.Pieces.{on_ok, own-length, own-met}
 use Rattle.gufi_snap.proofs.contents.Contents.scan_own.Goals as goal
 
 pub scan-requires-clause-room : goal.scan-requires-clause-room
-scan-requires-clause-room g c κs within =
+scan-requires-clause-room g c =
     let tree = c.args.self.now in
     let k = c.args.id.0 in
     let shape : HasTreeShape tree = subst HasTreeShape c.self.view_is c.self.invariant.shape in
@@ -21,8 +21,8 @@ returns-clause-rows g c =
     let k = c.args.id.0 in
     let shape : HasTreeShape tree = subst HasTreeShape c.self.view_is c.self.invariant.shape in
     let own : c.index.result.now ≡ get_or tree k c.index.result.now = c.index.ensures ∙ ap (λ (ds : List Directory). get_or ds k c.index.result.now) (c.self.invariant.same ∙ c.self.view_is) in
-    let met : Row → Bool = is_met c.args.above (g.P.Pred.sat c.args.pred.now) in
-    let law = (g.met.Y.Yield g.world.𝓛 g.world.𝓜 g.world.𝓡 (λ s x. x, λ x. x, λ x. x, λ x. x)).reordered in
+    let met : Row → Bool = is_met c.args.above (g.T.Tester.meets c.args.tester.now) in
+    let law = g.met.Y.Yield.reordered in
     on_ok c.scan.result _ _
     (λ given rows stands. law _ _ _ (own-met tree shape k c.requires.id c.index.result.now met rows) (subst (λ d. g.Y.Yield.stands_for c.scan.new.out (rows ++ filter met (own_rows d))) own (given rows stands)))
     c.scan.ensures.rows

@@ -13,7 +13,7 @@ pub returns-then-rolled-clause-rows : goal.returns-then-rolled-clause-rows
 returns-then-rolled-clause-rows g c =
     let tree = c.args.self.now.tree in
     let k = c.args.id.0 in
-    let met : Row → Bool = is_met c.args.above (g.P.Pred.sat c.args.pred.now) in
+    let met : Row → Bool = is_met c.args.above (g.T.Tester.meets c.args.tester.now) in
     let rolled : can_roll tree c.args.self.now.limit (path_at tree k) ≡ true = sym c.rolled.ensures ∙ c.if-rolled.true in
     let same : c.deref.result.now ≡ tree = c.deref.ensures ∙ ap (λ (s : Snap). s.tree) c.self.view_is in
     on_ok c.scan_below.result _ _
@@ -26,7 +26,7 @@ pub returns-clause-rows : goal.returns-clause-rows
 returns-clause-rows g c =
     let tree = c.args.self.now.tree in
     let k = c.args.id.0 in
-    let met : Row → Bool = is_met c.args.above (g.P.Pred.sat c.args.pred.now) in
+    let met : Row → Bool = is_met c.args.above (g.T.Tester.meets c.args.tester.now) in
     let rolled : can_roll tree c.args.self.now.limit (path_at tree k) ≡ false = sym c.rolled.ensures ∙ c.if-rolled.false in
     let same : c.deref-2.result.now ≡ tree = c.deref-2.ensures ∙ ap (λ (s : Snap). s.tree) c.self.view_is in
     on_ok c.scan_own.result _ _

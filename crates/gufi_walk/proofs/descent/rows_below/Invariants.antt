@@ -6,12 +6,13 @@ use Rattle.gufi_tree.specs.Places.{path_at}
 use Rattle.gufi_snap.specs.Pieces.{piece}
 use Rattle.gufi_walk.specs.Walk.{meets}
 use Rattle.gufi_walk.proofs.Walked.{IsWalk, fronts_at}
-use Rattle.gufi_walk.proofs.descent.answer_from.Given as goal
+use Rattle.gufi_walk.proofs.descent.rows_below.Given as goal
 
 abbrev pub invariant-loop-id : goal.invariant-loop-id
 invariant-loop-id g l = (done : List Components) × record {
+  same : g.T.Tester.meets l.tester ≡ g.T.Tester.meets l.fn.tester;
   walk : IsWalk l.snap.tree l.who l.snap.limit (path_at l.snap.tree l.fn.start.0) done l.todo.items;
-  rows : g.Y.Yield.stands_for l.out (filter (meets (g.P.Pred.sat l.pred) l.above) (flat_map (λ path. piece l.snap.tree path l.snap.limit) done));
+  rows : g.Y.Yield.stands_for l.out (filter (meets (g.T.Tester.meets l.fn.tester) l.above) (flat_map (λ path. piece l.snap.tree path l.snap.limit) done));
   at_most : l.steps ≤ l.fn.steps + length done;
   exact : ((sum : Summary) → g.S.Skip.skips l.skip sum ≡ false) → l.steps ≡ l.fn.steps + length done;
 }

@@ -1,0 +1,196 @@
+//! A walk as a job of tasks. A task is a directory of the front; where few directories are at and below it, it takes them all.
+
+ghost use Rattle.std.specs.Prelude.{◌≡◌, ℕ, ◌<◌, true, List, [], ◌∷◌, ◌++◌, length, filter, map, All, Contains, IfOk, OnOk};
+ghost use Rattle.gufi_base.specs.declared.record.Row.{Row};
+ghost use Rattle.gufi_tree.specs.Places.{path_at};
+ghost use Rattle.gufi_walk.specs.Walk.{lists_at, kid_ids, meets, is_small, task_kids, task_rows, open_places};
+ghost use Rattle.gufi_walk.specs.Chunks.{AreChunks};
+
+use crate::chunk::Chunk;
+use crate::descent::{may_be_listed, rows_below, visit};
+use gufi_access::Principal;
+use gufi_base::{Memory, Pred, Steps, Yield};
+use gufi_io::Gate;
+use gufi_pool::Job;
+use gufi_snap::Snapshot;
+use gufi_sums::Skip;
+use gufi_tree::DirId;
+use std::alloc::{AllocError, Global};
+use std::marker::{Brand, PhantomData};
+use std::sync::ledger::{Blank, Ledger};
+
+/// A walk from a start.
+#[derive(Drop)]
+pub(crate) struct Walk<'a, P: Pred, Y, S: Skip> {
+    pub(crate) snap: &'a Snapshot,
+    pub(crate) who: &'a Principal,
+    pub(crate) start: DirId,
+    /// How many components the start has.
+    pub(crate) above: u32,
+    pub(crate) pred: &'a P,
+    pub(crate) skip: &'a S,
+    /// Of how many directories a task takes all that is at and below it.
+    pub(crate) grain: u64,
+    /// Whether each task puts what it adds in order, so that walkers share that work too.
+    pub(crate) settles: bool,
+    pub(crate) collects: PhantomData<Y>,
+    ghost above_is: { above ≡ length (path_at snap.now.tree start.0) },
+    ghost query: { (row : Row) (depth : ℕ) → P.sat pred.now row depth ≡ true → S.query skip.now row depth ≡ true },
+}
+
+/// Adds the place of a directory that may be listed.
+fn push_if_listed(
+    kids: &mut Vec<u32>,
+    snap: &Snapshot,
+    who: &Principal,
+    id: DirId,
+) -> Result<(), AllocError>
+    requires { id.0 < length snap.now.tree }
+    ensures { OnOk result (kids.new.items ≡ kids.old.items ++ map (λ id. id.0) (filter (λ id. lists_at snap.now.tree who.now (path_at snap.now.tree id.0)) (id ∷ []))) }
+{
+    if may_be_listed(snap, who, id) {
+        kids.push(id.0)?;
+    }
+    Ok(())
+}
+
+/// Adds the places of the directories that may be listed.
+#[tactic(auto, using(crate::proofs::Tasks::places_more))]
+fn push_listed(
+    kids: &mut Vec<u32>,
+    snap: &Snapshot,
+    who: &Principal,
+    ids: &[DirId],
+) -> Result<(), AllocError>
+    requires { All (λ id. id.0 < length snap.now.tree) ids.now }
+    ensures { OnOk result (kids.new.items ≡ kids.old.items ++ map (λ id. id.0) (filter (λ id. lists_at snap.now.tree who.now (path_at snap.now.tree id.0)) ids.now)) }
+{
+    for id in ids {
+        push_if_listed(kids, snap, who, *id)?;
+    }
+    Ok(())
+}
+
+/// Adds the places where a walk goes on from a directory.
+fn push_places(
+    kids: &mut Vec<u32>,
+    snap: &Snapshot,
+    who: &Principal,
+    id: DirId,
+) -> Result<(), AllocError>
+    requires { id.0 < length snap.now.tree }
+    ensures { OnOk result (kids.new.items ≡ kids.old.items ++ map (λ id. id.0) (kid_ids snap.now.tree who.now (path_at snap.now.tree id.0) snap.now.limit)) }
+{
+    if snap.rolled(id) {
+        return Ok(());
+    }
+    push_listed(kids, snap, who, snap.tree().subdirs(id))
+}
+
+impl<P: Pred, Y: Yield, S: Skip> Walk<'_, P, Y, S> {
+    /// Whether a task takes all directories at and below its own.
+    fn is_whole(&self, id: DirId) -> bool
+        requires { id.0 < length self.now.snap.now.tree }
+        ensures { result ≡ is_small self.now.snap.now.tree self.now.grain (path_at self.now.snap.now.tree id.0) }
+    {
+        self.snap.tree_sum(id).dirs <= self.grain
+    }
+
+    /// The rows that a task adds.
+    fn rows_of_task<G: Gate, L: Ledger>(
+        &self,
+        alloc: Global,
+        gate: &G,
+        id: DirId,
+        blank: Blank,
+    ) -> Result<Y, Memory>
+        requires name { blank.name ≡ L.name }
+        requires parts { blank.parts ≡ L.parts }
+        requires one { 0 < blank.parts }
+        requires given { Contains (open_places self.now.snap.now.tree self.now.who.now (path_at self.now.snap.now.tree self.now.start.0)) id.0 }
+        ensures { IfOk result (λ y. Y.stands_for y (task_rows self.now.snap.now.tree self.now.who.now self.now.snap.now.limit self.now.grain (meets (P.sat self.now.pred.now) self.now.above) id.0)) }
+    {
+        let _tree = self.snap.tree();
+        let mut steps = Steps::<L>::new(blank);
+        let mut tester = self.pred.tester(alloc)?;
+        if self.is_whole(id) {
+            return rows_below(
+                alloc,
+                self.snap,
+                self.who,
+                id,
+                &mut tester,
+                self.skip,
+                self.above,
+                gate,
+                &mut steps,
+            );
+        }
+        let mut rows = Y::none(alloc)?;
+        visit(
+            alloc,
+            self.snap,
+            id,
+            &mut tester,
+            self.skip,
+            self.above,
+            gate,
+            &mut rows,
+            &mut steps,
+        )?;
+        Ok(rows)
+    }
+
+    /// The rows that a task adds, in order where walkers share that work.
+    fn settled_rows<G: Gate>(&self, alloc: Global, gate: &G, id: DirId) -> Result<Y, Memory>
+        requires given { Contains (open_places self.now.snap.now.tree self.now.who.now (path_at self.now.snap.now.tree self.now.start.0)) id.0 }
+        ensures { IfOk result (λ y. Y.stands_for y (task_rows self.now.snap.now.tree self.now.who.now self.now.snap.now.limit self.now.grain (meets (P.sat self.now.pred.now) self.now.above) id.0)) }
+    {
+        let mut rows = self.rows_of_task::<G, Brand>(alloc, gate, id, Blank::new(1))?;
+        if self.settles {
+            rows.settle(alloc)?;
+        }
+        Ok(rows)
+    }
+
+    /// Adds the tasks that a task brings forth.
+    fn push_kids(&self, kids: &mut Vec<u32>, id: DirId) -> Result<(), AllocError>
+        requires { id.0 < length self.now.snap.now.tree }
+        ensures { OnOk result (kids.new.items ≡ kids.old.items ++ task_kids self.now.snap.now.tree self.now.who.now self.now.snap.now.limit self.now.grain id.0) }
+    {
+        if !self.is_whole(id) {
+            push_places(kids, self.snap, self.who, id)?;
+        }
+        Ok(())
+    }
+}
+
+impl<'a, P: Pred + Sync, Y: Yield + Send + Sync, S: Skip + Sync> Job for Walk<'a, P, Y, S> {
+    type Piece = Vec<Chunk<Y>>;
+
+    ghost given = { λ w. open_places w.snap.now.tree w.who.now (path_at w.snap.now.tree w.start.0) };
+
+    ghost kids_of = { λ w task. task_kids w.snap.now.tree w.who.now w.snap.now.limit w.grain task };
+
+    ghost stands = { λ w piece ran. AreChunks Y.stands_for (task_rows w.snap.now.tree w.who.now w.snap.now.limit w.grain (meets (P.sat w.pred.now) w.above)) piece.items ran };
+
+    fn fresh(&self, alloc: Global) -> Result<Vec<Chunk<Y>>, Memory> {
+        Ok(Vec::new(alloc))
+    }
+
+    fn run<G: Gate>(
+        &self,
+        alloc: Global,
+        gate: &G,
+        task: u32,
+        piece: &mut Vec<Chunk<Y>>,
+        kids: &mut Vec<u32>,
+    ) -> Result<(), Memory> {
+        let _tree = self.snap.tree();
+        let id = DirId(task);
+        let rows = self.settled_rows(alloc, gate, id)?;
+        piece.push(Chunk { first: task, rows })?;
+        self.push_kids(kids, id)?;
+        Ok(())
+    }
+}

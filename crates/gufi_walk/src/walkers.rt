@@ -1,0 +1,130 @@
+//! The answer of many walkers.
+
+ghost use Rattle.std.specs.Prelude.{◌≡◌, ◌≢◌, ℕ, ◌≤◌, ◌<◌, true, None, Some, length, IfOk, OnOk, IfErr};
+ghost use Rattle.gufi_base.specs.declared.record.Row.{Row};
+ghost use Rattle.gufi_tree.specs.Places.{path_at};
+ghost use Rattle.gufi_tree.specs.Resolve.{resolve};
+ghost use Rattle.gufi_walk.specs.Answer.{answer, refusal_of};
+ghost use Rattle.gufi_walk.specs.Walk.{lists_at};
+
+use crate::chunk::rows_of_pieces;
+use crate::descent::depth_of;
+use crate::refusal::Refusal;
+use crate::task::Walk;
+use gufi_access::Principal;
+use gufi_base::{Memory, Path, Pred, Yield};
+use gufi_io::Gate;
+use gufi_pool::run_pool;
+use gufi_snap::Snapshot;
+use gufi_sums::Skip;
+use gufi_tree::{DirId, Resolved};
+use std::alloc::Global;
+use std::marker::PhantomData;
+use std::sync::Wait;
+use std::thread::Threads;
+
+/// Of how many directories a task takes all that is at and below it, where there are several walkers.
+const GRAIN: u64 = 64;
+
+/// Who walks: so many walkers, each in a thread of the runtime where one can be made, and the gate that is told what begins.
+#[derive(Drop)]
+pub struct Walkers<'a, R, G> {
+    pub rt: &'a R,
+    pub gate: &'a G,
+    pub count: u32,
+    ghost few: { (0 < count) × (count ≤ 32) },
+}
+
+impl<'a, R, G> Walkers<'a, R, G> {
+    /// As many walkers as are asked for, but at least one and at most 32.
+    pub fn of(rt: &'a R, gate: &'a G, count: u32) -> Walkers<'a, R, G>
+        ensures { (0 < count) × (count ≤ 32) → result.count ≡ count }
+    {
+        let count = count.max(1).min(32);
+        Walkers { rt, gate, count }
+    }
+}
+
+/// The rows that the principal lists from a directory on and that meet the question.
+///
+/// One walker takes the whole walk as one task.
+fn answer_by<
+    R: Threads + Wait + Sync,
+    P: Pred + Sync,
+    Y: Yield + Send + Sync,
+    S: Skip + Sync,
+    G: Gate + Sync,
+>(
+    rt: &R,
+    alloc: Global,
+    snap: &Snapshot,
+    who: &Principal,
+    start: DirId,
+    pred: &P,
+    skip: &S,
+    workers: u32,
+    gate: &G,
+) -> Result<Y, Memory>
+where
+    P::Tester: Send,
+    requires start { start.0 < length snap.now.tree }
+    requires listed { lists_at snap.now.tree who.now (path_at snap.now.tree start.0) ≡ true }
+    requires query { (row : Row) (depth : ℕ) → P.sat pred.now row depth ≡ true → S.query skip.now row depth ≡ true }
+    requires workers { (0 < workers) × (workers ≤ 32) }
+    ensures { IfOk result (λ y. Y.stands_for y (answer snap.now.tree who.now (path_at snap.now.tree start.0) (P.sat pred.now))) }
+{
+    let above = depth_of(snap.tree(), start);
+    let is_alone = workers == 1;
+    let grain = if is_alone { u64::MAX } else { GRAIN };
+    let collects: PhantomData<Y> = PhantomData;
+    let walk = Walk {
+        snap,
+        who,
+        start,
+        above,
+        pred,
+        skip,
+        grain,
+        settles: !is_alone,
+        collects,
+    };
+    let pieces = run_pool(rt, alloc, &[start.0], workers, &walk, gate)?;
+    rows_of_pieces(alloc, pieces)
+}
+
+/// The rows that the principal gets who walks from the start and that meet the question, or the refusal of the start.
+///
+/// Walkers share the directories, each in a thread where one can be made. One walker does all in the thread that calls.
+/// Cost: as `answer_alone`, shared among the walkers.
+pub fn answer<
+    R: Threads + Wait + Sync,
+    P: Pred + Sync,
+    Y: Yield + Send + Sync,
+    S: Skip + Sync,
+    G: Gate + Sync,
+>(
+    rt: &R,
+    alloc: Global,
+    snap: &Snapshot,
+    who: &Principal,
+    start: &Path,
+    pred: &P,
+    skip: &S,
+    workers: u32,
+    gate: &G,
+) -> Result<Y, Refusal>
+where
+    P::Tester: Send,
+    requires query { (row : Row) (depth : ℕ) → P.sat pred.now row depth ≡ true → S.query skip.now row depth ≡ true }
+    requires workers { (0 < workers) × (workers ≤ 32) }
+    ensures rows { IfOk result (λ y. Y.stands_for y (answer snap.now.tree who.now start.now (P.sat pred.now))) }
+    ensures found { OnOk result (refusal_of (resolve snap.now.tree who.now start.now) ≡ None) }
+    ensures refusal { IfErr result (λ refusal. refusal ≢ Refusal.Memory → refusal_of (resolve snap.now.tree who.now start.now) ≡ Some refusal) }
+{
+    match snap.tree().resolve(who, start) {
+        Resolved::Found(id) => Ok(answer_by(rt, alloc, snap, who, id, pred, skip, workers, gate)?),
+        Resolved::Denied { depth, class } => Err(Refusal::Denied { depth, class }),
+        Resolved::NoSuch { depth } => Err(Refusal::NoSuch { depth }),
+        Resolved::NotDir { depth } => Err(Refusal::NotDir { depth }),
+    }
+}
