@@ -15,7 +15,7 @@ macro_rules! table {
             group ("--group" "=FILE" "the group file; left out: no groups")
             delim ("--delim" "=BYTE" "the byte between the fields of a trace; left out: 0x1E")
             limit ("--limit" "=N" "how many rows of a trace may be rolled up into one piece; left out: 0")
-            workers ("--workers" "=N" "1 to 32, and changes nothing yet; left out: 1")
+            workers ("--workers" "=N" "how many walkers share a query, 1 to 32; left out: 1")
             now ("--now" "=SECONDS" "the moment from which -atime, -mtime and -ctime count; left out: they are refused")
         }
     };

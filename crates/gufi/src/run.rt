@@ -39,7 +39,7 @@ pub(crate) fn without_words<K: Sink>(notes: &mut K) -> u8
 }
 
 /// Shows the page that the words ask for. All other words are `gufi_run`'s, in full.
-pub(crate) fn run<R: Threads + Wait + Sync, F: Shelf, K: Sink, G: Gate>(
+pub(crate) fn run<R: Threads + Wait + Sync, F: Shelf, K: Sink, G: Gate + Sync>(
     rt: &R,
     alloc: Global,
     pages: &Pages,

@@ -14,7 +14,7 @@ pub enum GateKind {
 }
 
 /// Is told what begins. It answers nothing, so it changes no answer.
-pub trait Gate: Sync {
+pub trait Gate {
     fn begin(&self, kind: GateKind, number: u32);
 }
 

@@ -1,5 +1,5 @@
 //! What a phase carries out.
-ghost use Rattle.std.specs.Prelude.{◌≡◌, ℕ, List, Option, Some, None, Result, Ok, Err, IfOk, option_map};
+ghost use Rattle.std.specs.Prelude.{◌≡◌, ℕ, List, Option, None, Result, Ok, Err, IfOk, option_map};
 ghost use Rattle.std.specs.Arc.{arc_value};
 ghost use Rattle.gufi_phases.specs.Made.{made_of};
 
@@ -43,14 +43,11 @@ pub trait Command<T: Drop>: Sync {
         ensures { IfOk result (λ line_text. line_text.items ≡ line self.now command (Err text.now)) };
 }
 
-/// What an ask wants of a published item.
+/// What an ask wants of a published item. The reply from an item is made by a call beside it, which may start threads of its
+/// own, as a method of a trait may not.
 pub trait Question<T: Drop>: Sync {
     /// The reply to the ask of a number at the number of a publication, which is none at 0.
     ghost reply: { Self → ℕ → ℕ → Option T → List ℕ };
-
-    /// The reply from the item that was pinned, and from it alone.
-    fn reply_at(&self, alloc: Global, ask: u32, number: u64, item: &T) -> Result<Vec<u8>, Memory>
-        ensures { IfOk result (λ text. text.items ≡ reply self.now ask number (Some item.now)) };
 
     /// The reply where nothing was published yet.
     fn reply_to_none(&self, alloc: Global, ask: u32) -> Result<Vec<u8>, Memory>

@@ -2,8 +2,8 @@
 //! from a shelf, carried out, and written to a sink, one before the next.
 //!
 //! Contracts see a phase as its acts in order, and a plan as what its phases come to over the files of the shelf. Commands and
-//! questions say by traits what they publish and what is replied, so nothing here knows a snapshot; what a visitor may see is a
-//! number, and the text is told by the numbers that the pins gave.
+//! questions say by traits what they publish and what is replied, and a call that is handed in makes the replies, so nothing here
+//! knows a snapshot; what a visitor may see is a number, and the text is told by the numbers that the pins gave.
 //! It stands on `gufi_hub` and `gufi_io`; the sessions of scripts stand on it.
 #![tactic(auto)]
 

@@ -4,6 +4,7 @@ ghost use Rattle.std.specs.Arc.{arc_value};
 ghost use Rattle.gufi_hub.specs.Hub.{IsReady, published};
 ghost use Rattle.gufi_phases.specs.Phases.{EachMeans, NumbersFit, acts_text, command_lines, lanes, last_of_acts, made};
 ghost use Rattle.gufi_phases.specs.Lanes.{HasMeant, IsServed};
+ghost use Rattle.gufi_phases.specs.Replies.{RepliesBy};
 
 use crate::act::{Act, Command, Question};
 use crate::answer::Served;
@@ -45,17 +46,20 @@ fn serve_all<
     M: Meaning<T> + Sync,
     C: Sync + Drop,
     Q: Question<T> + Drop,
-    G: Gate,
+    A: Fn(&Q, u32, u64, &T) -> Result<Vec<u8>, Memory> + Sync,
+    G: Gate + Sync,
     R: Threads + Sync,
 >(
     rt: &R,
     alloc: Global,
     gate: &G,
+    reply: &A,
     visitors: Vec<(Visitor<T, M>, u32)>,
     acts: &[Act<C, Q>],
     first: u32,
     lanes: u32,
 ) -> Result<Vec<Result<Served, Memory>>, AllocError>
+    requires replies { RepliesBy A.Fn Q.reply reply.now }
     requires room { first + length acts.now < 2 ^ 32 }
     requires lanes { lanes ≤ 16 }
     ensures { (low : ℕ) → All (λ v. v.0.number ≡ low) visitors.items → IfOk result (λ all. All (λ r. IfOk r (IsServed M.means Q.reply first low acts.now)) all.items) }
@@ -65,12 +69,14 @@ fn serve_all<
         rt,
         visitors,
         &|job: (Visitor<T, M>, u32)| -> Result<Served, Memory>
-            requires { (first + length acts.now < 2 ^ 32) × (lanes ≤ 16) }
+            requires { RepliesBy A.Fn Q.reply reply.now × (first + length acts.now < 2 ^ 32) × (lanes ≤ 16) }
             ensures { IfOk result (IsServed M.means Q.reply first job.0.number acts.entry.now) }
         {
             let (visitor, lane) = job;
             let behind = if lane == 1 { more } else { lanes + 1 };
-            serve(alloc, gate, visitor, acts, first, lane, behind, lanes)
+            serve(
+                alloc, gate, reply, visitor, acts, first, lane, behind, lanes,
+            )
         },
     )
 }
@@ -122,13 +128,15 @@ fn side_by_side<
     M: Meaning<T> + Sync,
     C: Command<T> + Drop,
     Q: Question<T> + Drop,
-    G: Gate,
+    A: Fn(&Q, u32, u64, &T) -> Result<Vec<u8>, Memory> + Sync,
+    G: Gate + Sync,
     R: Threads + Wait + Sync,
     W: Wait + Drop,
 >(
     rt: &R,
     alloc: Global,
     gate: &G,
+    reply: &A,
     publisher: Publisher<T, M, W>,
     visitors: Vec<(Visitor<T, M>, u32)>,
     last: Option<Arc<T>>,
@@ -140,6 +148,7 @@ fn side_by_side<
     Result<Vec<Result<Served, Memory>>, AllocError>,
     (Publisher<T, M, W>, Result<Done<T>, Memory>),
 )
+    requires replies { RepliesBy A.Fn Q.reply reply.now }
     requires ready { IsReady publisher }
     requires lanes { lanes ≤ 16 }
     requires asks { ask + length acts.now < 2 ^ 32 }
@@ -155,9 +164,9 @@ fn side_by_side<
     join(
         rt,
         move || -> Result<Vec<Result<Served, Memory>>, AllocError>
-            requires { (ask + length acts.now < 2 ^ 32) × (lanes ≤ 16) }
+            requires { RepliesBy A.Fn Q.reply reply.now × (ask + length acts.now < 2 ^ 32) × (lanes ≤ 16) }
             ensures { (low : ℕ) → All (λ v. v.0.number ≡ low) visitors.items → IfOk result (λ all. All (λ r. IfOk r (IsServed M.means Q.reply ask low acts.entry.now)) all.items) }
-        { serve_all(rt, alloc, gate, visitors, acts, ask, lanes) },
+        { serve_all(rt, alloc, gate, reply, visitors, acts, ask, lanes) },
         move || -> (Publisher<T, M, W>, Result<Done<T>, Memory>)
             requires { IsReady publisher × (command + length acts.now < 2 ^ 32) × EachMeans M.means (published publisher) (made C.outcome (option_map arc_value last) acts.now) }
             ensures ready { IsReady result.0 }
@@ -171,6 +180,7 @@ fn side_by_side<
 
 /// Carries out the commands beside the lanes, joins them, and answers each ask from what its one pin gave.
 ///
+/// `reply` makes the reply to a question from its ask's number, and the number and item of the publication that was pinned.
 /// `command` and `ask` are the numbers of the first of them. A visitor that saw more than the publisher's number is answered as
 /// want of memory.
 pub fn run_phase<
@@ -178,19 +188,22 @@ pub fn run_phase<
     M: Meaning<T> + Sync,
     C: Command<T> + Drop,
     Q: Question<T> + Drop,
-    G: Gate,
+    A: Fn(&Q, u32, u64, &T) -> Result<Vec<u8>, Memory> + Sync,
+    G: Gate + Sync,
     R: Threads + Wait + Sync,
     W: Wait + Drop,
 >(
     rt: &R,
     alloc: Global,
     gate: &G,
+    reply: &A,
     publisher: Publisher<T, M, W>,
     last: Option<Arc<T>>,
     acts: &[Act<C, Q>],
     command: u32,
     ask: u32,
 ) -> (Publisher<T, M, W>, Result<Phase<T>, Memory>)
+    requires replies { RepliesBy A.Fn Q.reply reply.now }
     requires ready { IsReady publisher }
     requires room { (command + length acts.now < 2 ^ 32) × (ask + length acts.now < 2 ^ 32) }
     requires meant { EachMeans M.means (published publisher) (made C.outcome (option_map arc_value last) acts.now) }
@@ -208,7 +221,7 @@ pub fn run_phase<
         Err(fault) => return (publisher, Err(fault)),
     };
     let (served, (publisher, done)) = side_by_side(
-        rt, alloc, gate, publisher, visitors, last, acts, command, ask, lanes,
+        rt, alloc, gate, reply, publisher, visitors, last, acts, command, ask, lanes,
     );
     let Ok(served) = served else {
         return (publisher, Err(Memory));

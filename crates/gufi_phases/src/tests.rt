@@ -44,19 +44,16 @@ struct Which {
 impl Question<u64> for Which {
     ghost reply = { λ q _ n _. q.mark ∷ n % 256 ∷ [] };
 
-    fn reply_at(
-        &self,
-        alloc: Global,
-        _ask: u32,
-        number: u64,
-        _item: &u64,
-    ) -> Result<Vec<u8>, Memory> {
-        Ok(vec![in alloc; self.mark, (number % 256) as u8]?)
-    }
-
     fn reply_to_none(&self, alloc: Global, _ask: u32) -> Result<Vec<u8>, Memory> {
         Ok(vec![in alloc; self.mark, 0]?)
     }
+}
+
+/// The mark and the number.
+fn marked(alloc: Global, question: &Which, number: u64) -> Result<Vec<u8>, Memory>
+    ensures { IfOk result (λ text. text.items ≡ question.now.mark ∷ number % 256 ∷ []) }
+{
+    Ok(vec![in alloc; question.mark, (number % 256) as u8]?)
 }
 
 /// Asks lane 1 and another one, publishes the length of a file, and asks lane 1 again.
@@ -133,8 +130,16 @@ fn run_two<R: Threads + Wait + Sync + Abort>(
         lane: 3,
     };
     let plan = [first, second];
-    let ended = run_session::<u64, Put, Which, MemShelf, Planned, MemSink, NoGate, R>(
-        rt, alloc, &NoGate, &plan, &mut shelf, &mut out,
+    let ended = run_session::<u64, Put, Which, _, MemShelf, Planned, MemSink, NoGate, R>(
+        rt,
+        alloc,
+        &NoGate,
+        &|question: &Which, _ask: u32, number: u64, _item: &u64| -> Result<Vec<u8>, Memory> {
+            marked(alloc, question, number)
+        },
+        &plan,
+        &mut shelf,
+        &mut out,
     );
     Ok((ended, out))
 }

@@ -1,5 +1,5 @@
 //! Worked runs of `find`.
-use crate::tests::{A, C, D, HOMES, check_run};
+use crate::tests::{A, C, Counting, D, HOMES, check_run, check_told};
 use std::test::Fail;
 
 // C whose middle directory others may read and not search.
@@ -59,7 +59,6 @@ fn starts_are_walked_from(rt: HostRuntime) -> Result<(), Fail> {
     for (bytes, start, text) in [
         (C, "/p/q", b"/p/q\n/p/q/y\n".as_slice()),
         (C, "/", b"/\n".as_slice()),
-        (D, "/", b"/\n/a\n/a/b\n".as_slice()),
     ] {
         for limit in ["--limit=100", "--limit=2", "--limit=0"] {
             let words = ["find", "--delim=|", limit, "t", "102", start];
@@ -82,6 +81,18 @@ fn starts_are_walked_from(rt: HostRuntime) -> Result<(), Fail> {
     ] {
         let words = ["find", "--delim=|", "t", "102", start];
         check_run(&rt, bytes, &words, 1, b"", note)?;
+    }
+    Ok(())
+}
+
+// Workers enter a directory by a task of its own unless it is rolled up into one above it.
+#[test]
+fn each_piece_is_one_task(rt: HostRuntime) -> Result<(), Fail> {
+    for (limit, tasks) in [("--limit=100", 1u64), ("--limit=2", 2), ("--limit=0", 3)] {
+        let gate = Counting::new();
+        let words = ["find", "--delim=|", limit, "--workers=4", "t", "102", "/"];
+        check_told(&rt, &gate, D, &words, 0, b"/\n/a\n/a/b\n", b"")?;
+        assert_eq!(rt; gate.tasks(), tasks);
     }
     Ok(())
 }

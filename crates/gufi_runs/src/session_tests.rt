@@ -1,5 +1,5 @@
 //! Worked runs of `session`.
-use crate::tests::{A, B, D, sink_of, words_of};
+use crate::tests::{A, B, Counting, D, sink_of, words_of};
 use gufi_io::{Gate, GateKind, MemShelf, MemSink, NoGate, names_differ};
 use gufi_top::{Outcome, gufi_run};
 use std::alloc::{AllocError, Global};
@@ -54,14 +54,15 @@ struct Ran {
     notes: MemSink,
 }
 
-// Runs the script s.
-fn run<R: AllocGlobal + Abort + Threads + Wait + Sync, G: Gate>(
+// Runs the script s with an option.
+fn run<R: AllocGlobal + Abort + Threads + Wait + Sync, G: Gate + Sync>(
     rt: &R,
     gate: &G,
+    workers: &str,
     script: &[u8],
 ) -> Result<Ran, Fail> {
     let alloc = rt.alloc();
-    let words = words_of(alloc, &["session", "--passwd=p", "--delim=|", "s"])?;
+    let words = words_of(alloc, &["session", "--passwd=p", "--delim=|", workers, "s"])?;
     let mut shelf = shelf_of(rt, script)?;
     let mut out = sink_of(alloc, &[])?;
     let mut notes = sink_of(alloc, &[])?;
@@ -86,7 +87,7 @@ fn check<R: AllocGlobal + Abort + Threads + Wait + Sync>(
     rt: &R,
     case: &Case<'_>,
 ) -> Result<(), Fail> {
-    let ran = run(rt, &NoGate, case.script)?;
+    let ran = run(rt, &NoGate, "--workers=1", case.script)?;
     assert_eq!(rt; ran.notes.taken(), case.note);
     assert_eq!(rt; ran.out.taken(), case.text);
     assert_eq!(rt; ran.outcome.status, case.status);
@@ -276,8 +277,11 @@ fn put_reply(text: &mut Vec<u8>, ask: &[u8], number: u64) -> Result<(), AllocErr
     }
 }
 
-#[test]
-fn numbers_never_fall(rt: HostRuntime) -> Result<(), Fail> {
+// Four asks of one directory each, of which the last comes behind a second publication.
+fn check_four_asks<R: AllocGlobal + Abort + Threads + Wait + Sync>(
+    rt: &R,
+    workers: &str,
+) -> Result<(), Fail> {
     let script = b"publish 100 a
 barrier
 ask 1 102 / find
@@ -287,21 +291,31 @@ publish 100 x
 barrier
 ask 1 102 / find
 ";
-    for _ in 0..10u32 {
-        let ran = run(&rt, &NoGate, script)?;
-        assert_eq!(rt; ran.outcome.status, 0);
-        let numbers = ran.outcome.numbers.as_slice();
-        assert_eq!(rt; numbers.len(), 4);
-        assert!(rt; 1 <= numbers[0] && numbers[0] <= numbers[1]);
-        assert!(rt; numbers[1] <= numbers[2] && numbers[2] <= 2 && numbers[3] == 2);
-        let mut text = b"publish 1 number 1\n".to_vec(rt.alloc())?;
-        put_reply(&mut text, b"1", numbers[0])?;
-        put_reply(&mut text, b"2", numbers[1])?;
-        put_reply(&mut text, b"3", numbers[2])?;
-        text.extend_from_slice(b"publish 2 number 2\n")?;
-        put_reply(&mut text, b"4", numbers[3])?;
-        assert_eq!(rt; ran.out.taken(), text.as_slice());
-        assert_eq!(rt; ran.notes.taken(), b"".as_slice());
+    let gate = Counting::new();
+    let ran = run(rt, &gate, workers, script)?;
+    assert_eq!(rt; ran.outcome.status, 0);
+    let numbers = ran.outcome.numbers.as_slice();
+    assert_eq!(rt; numbers.len(), 4);
+    assert!(rt; 1 <= numbers[0] && numbers[0] <= numbers[1]);
+    assert!(rt; numbers[1] <= numbers[2] && numbers[2] <= 2 && numbers[3] == 2);
+    let mut text = b"publish 1 number 1\n".to_vec(rt.alloc())?;
+    put_reply(&mut text, b"1", numbers[0])?;
+    put_reply(&mut text, b"2", numbers[1])?;
+    put_reply(&mut text, b"3", numbers[2])?;
+    text.extend_from_slice(b"publish 2 number 2\n")?;
+    put_reply(&mut text, b"4", numbers[3])?;
+    assert_eq!(rt; ran.out.taken(), text.as_slice());
+    assert_eq!(rt; ran.notes.taken(), b"".as_slice());
+    assert_eq!(rt; gate.tasks(), 4);
+    Ok(())
+}
+
+#[test]
+fn numbers_never_fall(rt: HostRuntime) -> Result<(), Fail> {
+    for _ in 0..4u32 {
+        for workers in ["--workers=1", "--workers=4", "--workers=32"] {
+            check_four_asks(&rt, workers)?;
+        }
     }
     Ok(())
 }
@@ -346,7 +360,7 @@ barrier
 ask 1 102 / find
 ask 2 102 / find
 ";
-    let ran = run(&rt, &gate, script)?;
+    let ran = run(&rt, &gate, "--workers=1", script)?;
     assert!(rt; gate.first_met_it.load(Ordering::SeqCst));
     let text = b"publish 1 number 1
 reply 1 at 1 rows 1

@@ -1,9 +1,10 @@
 //! Worked runs over files in memory.
-use gufi_io::{MemShelf, MemSink, NoGate, names_differ};
+use gufi_io::{Gate, GateKind, MemShelf, MemSink, NoGate, names_differ};
 use gufi_top::{Outcome, gufi_run};
 use std::alloc::{AllocError, Global};
 use std::process::Abort;
 use std::sync::Wait;
+use std::sync::atomic::{AtomicU64, Ordering};
 use std::test::Fail;
 use std::thread::Threads;
 
@@ -109,6 +110,32 @@ pub(crate) fn words_of(alloc: Global, words: &[&str]) -> Result<Vec<String>, All
     Ok(all)
 }
 
+// Counts the tasks of workers that begin.
+#[derive(Drop)]
+pub(crate) struct Counting {
+    tasks: AtomicU64,
+}
+
+impl Counting {
+    pub(crate) fn new() -> Counting {
+        Counting {
+            tasks: AtomicU64::new(0),
+        }
+    }
+
+    pub(crate) fn tasks(&self) -> u64 {
+        self.tasks.load(Ordering::SeqCst)
+    }
+}
+
+impl Gate for Counting {
+    fn begin(&self, kind: GateKind, _number: u32) {
+        if kind == GateKind::Task {
+            self.tasks.fetch_add(1, Ordering::SeqCst);
+        }
+    }
+}
+
 // A run over one file: the calls of read and write that fail, and what is wanted.
 #[derive(Clone, Copy)]
 struct Case<'a> {
@@ -122,8 +149,9 @@ struct Case<'a> {
     note: &'a [u8],
 }
 
-fn check<R: AllocGlobal + Abort + Threads + Wait + Sync>(
+fn check<R: AllocGlobal + Abort + Threads + Wait + Sync, G: Gate + Sync>(
     rt: &R,
+    gate: &G,
     name: &str,
     bytes: Vec<u8>,
     case: &Case<'_>,
@@ -134,7 +162,7 @@ fn check<R: AllocGlobal + Abort + Threads + Wait + Sync>(
     let mut out = sink_of(alloc, case.bad_writes)?;
     let mut notes = sink_of(alloc, &[])?;
     let Outcome { status, numbers } = gufi_run(
-        rt, alloc, &words, &mut shelf, &mut out, &mut notes, &NoGate,
+        rt, alloc, &words, &mut shelf, &mut out, &mut notes, gate,
     );
     assert_eq!(rt; notes.taken(), case.note);
     assert_eq!(rt; out.taken(), case.text);
@@ -151,6 +179,19 @@ pub(crate) fn check_run<R: AllocGlobal + Abort + Threads + Wait + Sync>(
     text: &[u8],
     note: &[u8],
 ) -> Result<(), Fail> {
+    check_told(rt, &NoGate, bytes, words, status, text, note)
+}
+
+// The same where a gate is told what begins.
+pub(crate) fn check_told<R: AllocGlobal + Abort + Threads + Wait + Sync, G: Gate + Sync>(
+    rt: &R,
+    gate: &G,
+    bytes: &[u8],
+    words: &[&str],
+    status: u8,
+    text: &[u8],
+    note: &[u8],
+) -> Result<(), Fail> {
     let case = Case {
         words,
         users: USERS,
@@ -160,7 +201,7 @@ pub(crate) fn check_run<R: AllocGlobal + Abort + Threads + Wait + Sync>(
         text,
         note,
     };
-    check(rt, "t", bytes.to_vec(rt.alloc())?, &case)
+    check(rt, gate, "t", bytes.to_vec(rt.alloc())?, &case)
 }
 
 #[test]
@@ -279,7 +320,7 @@ fn check_stat<R: AllocGlobal + Abort + Threads + Wait + Sync>(
         text,
         note,
     };
-    check(rt, "t", bytes.to_vec(rt.alloc())?, &case)
+    check(rt, &NoGate, "t", bytes.to_vec(rt.alloc())?, &case)
 }
 
 #[test]
@@ -303,7 +344,7 @@ fn files_of_users_come_first(rt: HostRuntime) -> Result<(), Fail> {
         text: b"",
         note: b"gufi: p line 1 Number\n",
     };
-    check(&rt, "t", UNENDED.to_vec(rt.alloc())?, &case)
+    check(&rt, &NoGate, "t", UNENDED.to_vec(rt.alloc())?, &case)
 }
 
 #[test]
@@ -338,7 +379,7 @@ fn faults_have_causes(rt: HostRuntime) -> Result<(), Fail> {
         text: b"",
         note: b"gufi: read fault\n",
     };
-    check(&rt, "t", A.to_vec(rt.alloc())?, &read)?;
+    check(&rt, &NoGate, "t", A.to_vec(rt.alloc())?, &read)?;
     let absent = Case {
         words: WALK,
         users: b"",
@@ -348,7 +389,7 @@ fn faults_have_causes(rt: HostRuntime) -> Result<(), Fail> {
         text: b"",
         note: b"gufi: t not found\n",
     };
-    check(&rt, "A", A.to_vec(rt.alloc())?, &absent)?;
+    check(&rt, &NoGate, "A", A.to_vec(rt.alloc())?, &absent)?;
     let written = Case {
         words: WALK,
         users: b"",
@@ -358,7 +399,7 @@ fn faults_have_causes(rt: HostRuntime) -> Result<(), Fail> {
         text: b"",
         note: b"gufi: write fault\n",
     };
-    check(&rt, "t", A.to_vec(rt.alloc())?, &written)
+    check(&rt, &NoGate, "t", A.to_vec(rt.alloc())?, &written)
 }
 
 #[test]
@@ -376,5 +417,5 @@ fn one_directory_too_many(rt: HostRuntime) -> Result<(), Fail> {
         text: b"",
         note: b"gufi: t limit 262144\n",
     };
-    check(&rt, "t", bytes, &case)
+    check(&rt, &NoGate, "t", bytes, &case)
 }

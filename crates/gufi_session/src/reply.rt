@@ -1,23 +1,27 @@
 //! Replies to searches.
-ghost use Rattle.std.specs.Prelude.{◌≡◌, ◌≢◌, ◌++◌, IfOk, OnOk, codes, decimal};
+ghost use Rattle.std.specs.Prelude.{◌≡◌, ◌≢◌, ◌++◌, Some, IfOk, OnOk, codes, decimal};
 ghost use Rattle.gufi_base.specs.Words.{line};
 ghost use Rattle.gufi_find.specs.Expressions.{find_holds};
 ghost use Rattle.gufi_select.specs.Columns.{select_holds};
 ghost use Rattle.gufi_walk.specs.Answer.{reply_rows};
 ghost use Rattle.gufi_walk.specs.Refusals.{refusal_text};
 ghost use Rattle.gufi_plan.specs.declared.search.Query.TheVariants.{Finds, Totals, Selects};
+ghost use Rattle.gufi_session.specs.Loaded.{search_reply};
 ghost use Rattle.gufi_session.specs.Session.{answer_or, reply_body, reply_head};
 
 use gufi_access::Principal;
 use gufi_base::{Memory, Path, put_u64};
 use gufi_find::FindExpr;
+use gufi_io::Gate;
 use gufi_list::total_text;
 use gufi_phases::Question;
 use gufi_plan::{Query, Search, SharedSearch};
 use gufi_select::{Select, select_text};
 use gufi_snap::Snapshot;
-use gufi_walk::{Refusal, answer_lines, answer_rows, answer_sum, put_refusal};
+use gufi_walk::{Refusal, Walkers, answer_lines, answer_rows, answer_sum, put_refusal};
 use std::alloc::Global;
+use std::sync::Wait;
+use std::thread::Threads;
 
 /// A search of a running phase.
 #[derive(Drop)]
@@ -47,7 +51,8 @@ fn put_rows(text: &mut Vec<u8>, count: usize, lines: &[u8]) -> Result<(), Memory
 }
 
 /// Appends the paths of the rows that a principal lists from a start and for which an expression is true.
-fn put_found(
+fn put_found<R: Threads + Wait + Sync, G: Gate + Sync>(
+    walkers: &Walkers<'_, R, G>,
     alloc: Global,
     text: &mut Vec<u8>,
     snap: &Snapshot,
@@ -57,7 +62,7 @@ fn put_found(
 ) -> Result<(), Memory>
     ensures { OnOk result (text.new.items ≡ text.old.items ++ answer_or (record { who = who.now; start = start.now; query = Finds find.now }) (reply_rows snap.now.tree who.now start.now (find_holds find.now))) }
 {
-    match answer_lines(alloc, snap, who, start, find) {
+    match answer_lines(walkers, alloc, snap, who, start, &find.question()) {
         Ok(found) => put_rows(text, found.count, &found.text),
         Err(Refusal::Memory) => Err(Memory),
         Err(refusal) => put_refused(text, refusal),
@@ -65,7 +70,8 @@ fn put_found(
 }
 
 /// Appends the sum of the rows that a principal lists from a start and for which an expression is true.
-fn put_total(
+fn put_total<R: Threads + Wait + Sync, G: Gate + Sync>(
+    walkers: &Walkers<'_, R, G>,
     alloc: Global,
     text: &mut Vec<u8>,
     snap: &Snapshot,
@@ -75,7 +81,7 @@ fn put_total(
 ) -> Result<(), Memory>
     ensures { OnOk result (text.new.items ≡ text.old.items ++ answer_or (record { who = who.now; start = start.now; query = Totals find.now }) (reply_rows snap.now.tree who.now start.now (find_holds find.now))) }
 {
-    match answer_sum(alloc, snap, who, start, find) {
+    match answer_sum(walkers, alloc, snap, who, start, &find.question()) {
         Ok(sum) => {
             let total = total_text(alloc, &sum)?;
             text.extend_from_slice(b" total ")?;
@@ -89,7 +95,8 @@ fn put_total(
 }
 
 /// Appends the columns of the rows that a principal lists from a start and for which a SELECT is true.
-fn put_selected(
+fn put_selected<R: Threads + Wait + Sync, G: Gate + Sync>(
+    walkers: &Walkers<'_, R, G>,
     alloc: Global,
     text: &mut Vec<u8>,
     snap: &Snapshot,
@@ -99,7 +106,7 @@ fn put_selected(
 ) -> Result<(), Memory>
     ensures { OnOk result (text.new.items ≡ text.old.items ++ answer_or (record { who = who.now; start = start.now; query = Selects select.now }) (reply_rows snap.now.tree who.now start.now (select_holds select.now))) }
 {
-    match answer_rows(alloc, snap, who, start, select) {
+    match answer_rows(walkers, alloc, snap, who, start, &select.question()) {
         Ok(rows) => {
             let lines = select_text(alloc, select, &rows, start)?;
             put_rows(text, rows.len(), &lines)
@@ -111,7 +118,8 @@ fn put_selected(
 
 /// Appends the reply to a search from a snapshot, behind its head.
 #[tactic(auto, unfolding(crate::specs::Session::reply_body))]
-fn put_body(
+fn put_body<R: Threads + Wait + Sync, G: Gate + Sync>(
+    walkers: &Walkers<'_, R, G>,
     alloc: Global,
     text: &mut Vec<u8>,
     snap: &Snapshot,
@@ -121,9 +129,9 @@ fn put_body(
 {
     let (who, start) = (&search.who, &search.start);
     match &search.query {
-        Query::Finds { find } => put_found(alloc, text, snap, who, start, find),
-        Query::Totals { find } => put_total(alloc, text, snap, who, start, find),
-        Query::Selects { select } => put_selected(alloc, text, snap, who, start, select),
+        Query::Finds { find } => put_found(walkers, alloc, text, snap, who, start, find),
+        Query::Totals { find } => put_total(walkers, alloc, text, snap, who, start, find),
+        Query::Selects { select } => put_selected(walkers, alloc, text, snap, who, start, select),
     }
 }
 
@@ -139,22 +147,24 @@ fn reply_head(alloc: Global, ask: u32, number: u64) -> Result<Vec<u8>, Memory>
     Ok(text)
 }
 
+/// The reply to an ask from the snapshot that was pinned, and from it alone.
+pub(crate) fn reply_from<R: Threads + Wait + Sync, G: Gate + Sync>(
+    walkers: &Walkers<'_, R, G>,
+    alloc: Global,
+    asking: &Asking,
+    ask: u32,
+    number: u64,
+    snap: &Snapshot,
+) -> Result<Vec<u8>, Memory>
+    ensures { IfOk result (λ text. text.items ≡ search_reply asking.now ask number (Some snap.now)) }
+{
+    let mut text = reply_head(alloc, ask, number)?;
+    put_body(walkers, alloc, &mut text, snap, asking.search.get())?;
+    Ok(text)
+}
+
 impl Question<Snapshot> for Asking {
-    ghost use Rattle.gufi_session.specs.Loaded.{search_reply};
-
     ghost reply = { search_reply };
-
-    fn reply_at(
-        &self,
-        alloc: Global,
-        ask: u32,
-        number: u64,
-        item: &Snapshot,
-    ) -> Result<Vec<u8>, Memory> {
-        let mut text = reply_head(alloc, ask, number)?;
-        put_body(alloc, &mut text, item, self.search.get())?;
-        Ok(text)
-    }
 
     fn reply_to_none(&self, alloc: Global, ask: u32) -> Result<Vec<u8>, Memory> {
         let mut text = reply_head(alloc, ask, 0)?;

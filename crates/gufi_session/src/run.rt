@@ -4,12 +4,13 @@ ghost use Rattle.gufi_phases.specs.Loads.{EndHasCause};
 ghost use Rattle.gufi_session.specs.Ends.{SessionEnded};
 
 use crate::publishing::Publishing;
-use crate::reply::Asking;
-use gufi_base::Items;
+use crate::reply::{Asking, reply_from};
+use gufi_base::{Items, Memory};
 use gufi_io::{Gate, Shelf, Sink};
 use gufi_phases::Ended;
 use gufi_plan::{PlannedAct, SessionPlan};
 use gufi_snap::Snapshot;
+use gufi_walk::Walkers;
 use std::alloc::Global;
 use std::sync::Wait;
 use std::thread::Threads;
@@ -18,12 +19,14 @@ use std::thread::Threads;
 ///
 /// Before a phase the files that it names are read in the order of its acts, a file once for each act that names it. In the phase
 /// one thread carries out the publishing commands, and each lane its searches, in order; a lane that can't be started beside the
-/// others runs in its turn. Each search pins one publication and is answered from that alone. A damaged trace is a line of the
-/// text. A publication is let go as soon as no search holds it and it isn't the last.
-pub fn run_session<R: Threads + Wait + Sync, F: Shelf, K: Sink, G: Gate>(
+/// others runs in its turn. Each search pins one publication and is answered from that alone, by so many workers of its own, but
+/// at least one and at most 32. A damaged trace is a line of the text. A publication is let go as soon as no search holds it and
+/// it isn't the last.
+pub fn run_session<R: Threads + Wait + Sync, F: Shelf, K: Sink, G: Gate + Sync>(
     rt: &R,
     alloc: Global,
     plan: &SessionPlan,
+    workers: u32,
     shelf: &mut F,
     out: &mut K,
     gate: &G,
@@ -32,12 +35,16 @@ pub fn run_session<R: Threads + Wait + Sync, F: Shelf, K: Sink, G: Gate>(
     ensures cause { EndHasCause (F.faults shelf.old) (F.faults shelf.new) (F.absents shelf.old) (F.absents shelf.new) (K.faults out.old) (K.faults out.new) result.end }
     ensures same { F.files shelf.new ≡ F.files shelf.old }
 {
+    let walkers = Walkers::of(rt, gate, workers);
     // Three hold a publication: a search's pin, the publisher as long as it is the latest, and the loop over the phases as the
     // last one, which the next rollup takes. Where it is none of these any more, it is let go with the last of them.
-    gufi_phases::run_session::<Snapshot, Publishing, Asking, F, Items<PlannedAct>, K, G, R>(
+    gufi_phases::run_session::<Snapshot, Publishing, Asking, _, F, Items<PlannedAct>, K, G, R>(
         rt,
         alloc,
         gate,
+        &|asking: &Asking, ask: u32, number: u64, snap: &Snapshot| -> Result<Vec<u8>, Memory> {
+            reply_from(&walkers, alloc, asking, ask, number, snap)
+        },
         plan.phases(),
         shelf,
         out,

@@ -1,6 +1,7 @@
 pub mod Reasons
 pub mod Asks
 pub mod Verdict
+pub mod Questions
 pub mod Ends
 pub mod Endings
 pub mod Calls

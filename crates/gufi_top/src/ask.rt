@@ -10,6 +10,7 @@ ghost use Rattle.gufi_top.specs.Starts.{StartsWithRow};
 use gufi_access::Principal;
 use gufi_base::{Always, Bytes, Memory, Path, Rec, Row};
 use gufi_find::FindExpr;
+use gufi_io::Gate;
 use gufi_list::{OneBelow, ls_text, stat_text, total_text};
 use gufi_select::{Select, select_text};
 use gufi_snap::Snapshot;
@@ -17,11 +18,14 @@ use gufi_stats::{Report, stats_text};
 use gufi_sums::Summary;
 use gufi_tree::{DirId, Resolved, Tree};
 use gufi_users::Users;
-use gufi_walk::{Refusal, answer_lines, answer_rows, answer_sum};
+use gufi_walk::{Refusal, Walkers, answer_lines, answer_rows, answer_sum};
 use std::alloc::{AllocError, Global};
+use std::sync::Wait;
+use std::thread::Threads;
 
 /// The paths of all rows that the principal lists from the start.
-pub(crate) fn walk_text(
+pub(crate) fn walk_text<R: Threads + Wait + Sync, G: Gate + Sync>(
+    walkers: &Walkers<'_, R, G>,
     alloc: Global,
     snap: &Snapshot,
     who: &Principal,
@@ -29,14 +33,15 @@ pub(crate) fn walk_text(
 ) -> Result<Vec<u8>, Refusal>
     ensures { Replies result (ask_reply snap.now.tree who.now start.now walk_ask) }
 {
-    match answer_lines(alloc, snap, who, start, &Always) {
+    match answer_lines(walkers, alloc, snap, who, start, &Always) {
         Ok(lines) => Ok(lines.text),
         Err(refusal) => Err(refusal),
     }
 }
 
 /// The paths of the rows that the principal lists from the start and for which an expression is true.
-pub(crate) fn find_text(
+pub(crate) fn find_text<R: Threads + Wait + Sync, G: Gate + Sync>(
+    walkers: &Walkers<'_, R, G>,
     alloc: Global,
     snap: &Snapshot,
     who: &Principal,
@@ -45,14 +50,15 @@ pub(crate) fn find_text(
 ) -> Result<Vec<u8>, Refusal>
     ensures { Replies result (ask_reply snap.now.tree who.now start.now (find_ask expression.now)) }
 {
-    match answer_lines(alloc, snap, who, start, expression) {
+    match answer_lines(walkers, alloc, snap, who, start, &expression.question()) {
         Ok(lines) => Ok(lines.text),
         Err(refusal) => Err(refusal),
     }
 }
 
 /// The lines of `ls`: the rows one level below the start.
-pub(crate) fn listing_text(
+pub(crate) fn listing_text<R: Threads + Wait + Sync, G: Gate + Sync>(
+    walkers: &Walkers<'_, R, G>,
     alloc: Global,
     snap: &Snapshot,
     who: &Principal,
@@ -63,14 +69,15 @@ pub(crate) fn listing_text(
 ) -> Result<Vec<u8>, Refusal>
     ensures { Replies result (ask_reply snap.now.tree who.now start.now (ls_ask users.now long all)) }
 {
-    match answer_rows(alloc, snap, who, start, &OneBelow { all }) {
+    match answer_rows(walkers, alloc, snap, who, start, &OneBelow { all }) {
         Ok(rows) => Ok(ls_text(alloc, &rows, users, long, all)?),
         Err(refusal) => Err(refusal),
     }
 }
 
 /// A report over all rows that the principal lists from the start.
-pub(crate) fn report_text(
+pub(crate) fn report_text<R: Threads + Wait + Sync, G: Gate + Sync>(
+    walkers: &Walkers<'_, R, G>,
     alloc: Global,
     snap: &Snapshot,
     who: &Principal,
@@ -80,7 +87,7 @@ pub(crate) fn report_text(
     ensures { Replies result (ask_reply snap.now.tree who.now start.now (stats_ask report)) }
 {
     let _tree = snap.tree();
-    match answer_rows(alloc, snap, who, start, &Always) {
+    match answer_rows(walkers, alloc, snap, who, start, &Always) {
         Ok(rows) => Ok(stats_text(alloc, &rows, start, report)?),
         Err(refusal) => Err(refusal),
     }
@@ -99,7 +106,8 @@ fn named_total(alloc: Global, name: &[u8], sum: &Summary) -> Result<Vec<u8>, Mem
 }
 
 /// The sum of all rows that the principal lists from the start, behind his name.
-pub(crate) fn total_for(
+pub(crate) fn total_for<R: Threads + Wait + Sync, G: Gate + Sync>(
+    walkers: &Walkers<'_, R, G>,
     alloc: Global,
     snap: &Snapshot,
     who: &Principal,
@@ -108,7 +116,7 @@ pub(crate) fn total_for(
 ) -> Result<Vec<u8>, Refusal>
     ensures { Replies result (ask_reply snap.now.tree who.now start.now (total_ask name.now)) }
 {
-    match answer_sum(alloc, snap, who, start, &Always) {
+    match answer_sum(walkers, alloc, snap, who, start, &Always) {
         Ok(sum) => Ok(named_total(alloc, name, &sum)?),
         Err(refusal) => Err(refusal),
     }
@@ -167,7 +175,8 @@ fn start_row(alloc: Global, snap: &Snapshot, who: &Principal, start: &Path) -> R
 }
 
 /// The start's record, whose row is known, and the sum of all rows that the principal lists from it.
-fn record_with(
+fn record_with<R: Threads + Wait + Sync, G: Gate + Sync>(
+    walkers: &Walkers<'_, R, G>,
     alloc: Global,
     snap: &Snapshot,
     who: &Principal,
@@ -177,14 +186,15 @@ fn record_with(
     requires { StartsWithRow snap.now.tree who.now start.now row.now }
     ensures { Replies result (ask_reply snap.now.tree who.now start.now stat_ask) }
 {
-    match answer_sum(alloc, snap, who, start, &Always) {
+    match answer_sum(walkers, alloc, snap, who, start, &Always) {
         Ok(sum) => Ok(stat_text(alloc, row, &sum)?),
         Err(refusal) => Err(refusal),
     }
 }
 
 /// The start's record, and the sum of all rows that the principal lists from it.
-pub(crate) fn record_text(
+pub(crate) fn record_text<R: Threads + Wait + Sync, G: Gate + Sync>(
+    walkers: &Walkers<'_, R, G>,
     alloc: Global,
     snap: &Snapshot,
     who: &Principal,
@@ -193,13 +203,14 @@ pub(crate) fn record_text(
     ensures { Replies result (ask_reply snap.now.tree who.now start.now stat_ask) }
 {
     match start_row(alloc, snap, who, start) {
-        Ok(row) => record_with(alloc, snap, who, start, &row),
+        Ok(row) => record_with(walkers, alloc, snap, who, start, &row),
         Err(refusal) => Err(refusal),
     }
 }
 
 /// What a SELECT prints of the rows that the principal lists from the start and for which it is true.
-pub(crate) fn query_text(
+pub(crate) fn query_text<R: Threads + Wait + Sync, G: Gate + Sync>(
+    walkers: &Walkers<'_, R, G>,
     alloc: Global,
     snap: &Snapshot,
     who: &Principal,
@@ -208,7 +219,7 @@ pub(crate) fn query_text(
 ) -> Result<Vec<u8>, Refusal>
     ensures { Replies result (ask_reply snap.now.tree who.now start.now (query_ask select.now)) }
 {
-    match answer_rows(alloc, snap, who, start, select) {
+    match answer_rows(walkers, alloc, snap, who, start, &select.question()) {
         Ok(rows) => Ok(select_text(alloc, select, &rows, start)?),
         Err(refusal) => Err(refusal),
     }

@@ -8,14 +8,17 @@ ghost use Rattle.gufi_top.specs.Calls.{GivesOver, OfWordsOnlyIf, IsPastWords, Ha
 use crate::generate::generate;
 use crate::halt::{Halt, Text};
 use crate::query::ask;
-use crate::question::{Find, Ls, Query, Stat, Stats};
+use crate::question::Question;
 use crate::rollup::{rollup, trace2index};
 use crate::walk::walk;
 use gufi_access::{Groups, Principal};
 use gufi_base::Nums;
-use gufi_io::Shelf;
+use gufi_io::{Gate, Shelf};
+use gufi_walk::Walkers;
 use gufi_words::Command;
 use std::alloc::{AllocError, Global};
+use std::sync::Wait;
+use std::thread::Threads;
 
 fn principal_of(alloc: Global, uid: u32, gids: &Nums) -> Result<Principal, AllocError>
     ensures { IfOk result (λ who. who ≡ principal uid gids.now) }
@@ -28,7 +31,8 @@ fn principal_of(alloc: Global, uid: u32, gids: &Nums) -> Result<Principal, Alloc
 }
 
 // What `walk` writes for a principal in numbers.
-fn walk_as<F: Shelf>(
+fn walk_as<R: Threads + Wait + Sync, F: Shelf, G: Gate + Sync>(
+    walkers: &Walkers<'_, R, G>,
     alloc: Global,
     shelf: &mut F,
     trace: &str,
@@ -41,14 +45,28 @@ fn walk_as<F: Shelf>(
     ensures cause { IfErr result (HaltHasCause (F.faults shelf.old) (F.faults shelf.new) (F.absents shelf.old) (F.absents shelf.new)) }
 {
     match principal_of(alloc, uid, gids) {
-        Ok(who) => walk(alloc, shelf, trace, &who, delim),
+        Ok(who) => walk(walkers, alloc, shelf, trace, &who, delim),
         Err(_) => Err(Halt::Memory),
+    }
+}
+
+/// By how many workers a command is answered: as many as it states, and 1 where it can't.
+pub(crate) fn workers_of(command: &Command) -> u32 {
+    match command {
+        Command::Find { common, .. }
+        | Command::Query { common, .. }
+        | Command::Ls { common, .. }
+        | Command::Stat { common }
+        | Command::Stats { common, .. } => common.workers,
+        Command::Session { workers, .. } | Command::Gen { workers, .. } => *workers,
+        Command::Walk { .. } | Command::Trace2index { .. } | Command::Rollup { .. } => 1,
     }
 }
 
 /// What a command writes of which the whole text is made first.
 #[tactic(auto, using(crate::proofs::StepLemmas::given_over, crate::proofs::StepLemmas::cause_of_bytes), unfolding(crate::specs::Verdict::command_over))]
-pub(crate) fn answer_command<F: Shelf>(
+pub(crate) fn answer_command<R: Threads + Wait + Sync, F: Shelf, G: Gate + Sync>(
+    walkers: &Walkers<'_, R, G>,
     alloc: Global,
     command: &Command,
     shelf: &mut F,
@@ -64,7 +82,7 @@ pub(crate) fn answer_command<F: Shelf>(
             uid,
             gids,
             delim,
-        } => walk_as(alloc, shelf, trace.as_str(), *uid, gids, *delim),
+        } => walk_as(walkers, alloc, shelf, trace.as_str(), *uid, gids, *delim),
         Command::Trace2index { trace, delim } => {
             trace2index(alloc, shelf, trace.as_str(), *delim)
         }
@@ -74,18 +92,31 @@ pub(crate) fn answer_command<F: Shelf>(
             limit,
         } => rollup(alloc, shelf, index.as_str(), *delim, *limit),
         Command::Find { common, now, words } => {
-            ask(alloc, shelf, common, &Find::of(common, *now, words))
+            let question = Question::find(common, *now, words);
+            ask(walkers, alloc, shelf, common, &question)
         }
-        Command::Query { common, text } => ask(alloc, shelf, common, &Query::of(common, text)),
-        Command::Ls { common, long, all } => ask(alloc, shelf, common, &Ls::of(*long, *all)),
-        Command::Stat { common } => ask(alloc, shelf, common, &Stat),
-        Command::Stats { common, report } => ask(alloc, shelf, common, &Stats::of(*report)),
+        Command::Query { common, text } => {
+            let question = Question::query(common, text);
+            ask(walkers, alloc, shelf, common, &question)
+        }
+        Command::Ls { common, long, all } => {
+            let question = Question::Ls {
+                long: *long,
+                all: *all,
+            };
+            ask(walkers, alloc, shelf, common, &question)
+        }
+        Command::Stat { common } => ask(walkers, alloc, shelf, common, &Question::Stat),
+        Command::Stats { common, report } => {
+            let question = Question::stats(*report);
+            ask(walkers, alloc, shelf, common, &question)
+        }
         Command::Gen {
             n,
             delim,
             summary,
             ..
-        } => generate(alloc, *n, *delim, *summary),
+        } => generate(walkers, alloc, *n, *delim, *summary),
         Command::Session { .. } => unreachable!(),
     }
 }

@@ -2,6 +2,7 @@
 ghost use Rattle.std.specs.Prelude.{◌≡◌, ◌≢◌, ◌≤◌, IfOk, IfErr};
 ghost use Rattle.gufi_users.specs.Entries.{UserTables};
 ghost use Rattle.gufi_access.specs.declared.class.Principal.{Principal as SeenPrincipal};
+ghost use Rattle.gufi_top.specs.Questions.{asks};
 ghost use Rattle.gufi_top.specs.Views.{text_view};
 ghost use Rattle.gufi_top.specs.Verdict.{user_in, asked_by, index_over, ask_over};
 ghost use Rattle.gufi_top.specs.Calls.{Gives, GivesOver, IsOfBytes, HaltHasCause};
@@ -12,11 +13,14 @@ use crate::note;
 use crate::question::Question;
 use crate::users::read_users;
 use gufi_access::Principal;
-use gufi_io::Shelf;
+use gufi_io::{Gate, Shelf};
 use gufi_snap::Snapshot;
 use gufi_users::Users;
+use gufi_walk::Walkers;
 use gufi_words::Common;
 use std::alloc::Global;
+use std::sync::Wait;
+use std::thread::Threads;
 
 // The principal that the word USER names.
 #[tactic(auto, unfolding(crate::specs::Verdict::user_in))]
@@ -33,37 +37,39 @@ fn principal_of(alloc: Global, common: &Common, users: &Users) -> Result<Princip
 
 // What is written of a snapshot for the word USER.
 #[tactic(auto, using(crate::proofs::QueryLemmas::users))]
-fn ask_by<Q: Question>(
+fn ask_by<R: Threads + Wait + Sync, G: Gate + Sync>(
+    walkers: &Walkers<'_, R, G>,
     alloc: Global,
     common: &Common,
-    question: &Q,
+    question: &Question<'_>,
     users: &Users,
     snap: Snapshot,
 ) -> Result<Text, Halt>
-    ensures text { Gives text_view result (asked_by common.now (Q.asks question.now) users.now snap) }
+    ensures text { Gives text_view result (asked_by common.now (asks question.now) users.now snap) }
     ensures of_bytes { IfErr result IsOfBytes }
 {
     match principal_of(alloc, common, users) {
-        Ok(who) => question.answer(alloc, users, snap, &who, &common.start),
+        Ok(who) => question.answer(walkers, alloc, users, snap, &who, &common.start),
         Err(halt) => Err(halt),
     }
 }
 
 // The same over the index's file.
 #[tactic(auto, using(crate::proofs::QueryLemmas::indexes, crate::proofs::StepLemmas::cause_of_bytes))]
-fn ask_index<F: Shelf, Q: Question>(
+fn ask_index<R: Threads + Wait + Sync, F: Shelf, G: Gate + Sync>(
+    walkers: &Walkers<'_, R, G>,
     alloc: Global,
     shelf: &mut F,
     common: &Common,
-    question: &Q,
+    question: &Question<'_>,
     users: &Users,
 ) -> Result<Text, Halt>
-    ensures text { GivesOver (F.files shelf.old) text_view result (index_over common.now (Q.asks question.now) users.now) }
+    ensures text { GivesOver (F.files shelf.old) text_view result (index_over common.now (asks question.now) users.now) }
     ensures cause { IfErr result (HaltHasCause (F.faults shelf.old) (F.faults shelf.new) (F.absents shelf.old) (F.absents shelf.new)) }
 {
     let index = common.index.as_str();
     match read_index(alloc, shelf, index, common.delim, common.limit) {
-        Ok(snap) => ask_by(alloc, common, question, users, snap),
+        Ok(snap) => ask_by(walkers, alloc, common, question, users, snap),
         Err(halt) => Err(halt),
     }
 }
@@ -71,17 +77,18 @@ fn ask_index<F: Shelf, Q: Question>(
 /// What a command with a USER and a START writes: the files are read in the order passwd, group and index; then USER is
 /// judged, then the query words, then the start.
 #[tactic(auto, using(crate::proofs::QueryLemmas::asks, crate::proofs::StepLemmas::cause_later))]
-pub(crate) fn ask<F: Shelf, Q: Question>(
+pub(crate) fn ask<R: Threads + Wait + Sync, F: Shelf, G: Gate + Sync>(
+    walkers: &Walkers<'_, R, G>,
     alloc: Global,
     shelf: &mut F,
     common: &Common,
-    question: &Q,
+    question: &Question<'_>,
 ) -> Result<Text, Halt>
-    ensures text { GivesOver (F.files shelf.old) text_view result (ask_over common.now (Q.asks question.now)) }
+    ensures text { GivesOver (F.files shelf.old) text_view result (ask_over common.now (asks question.now)) }
     ensures cause { IfErr result (HaltHasCause (F.faults shelf.old) (F.faults shelf.new) (F.absents shelf.old) (F.absents shelf.new)) }
 {
     match read_users(alloc, shelf, &common.passwd, &common.group) {
-        Ok(users) => ask_index(alloc, shelf, common, question, &users),
+        Ok(users) => ask_index(walkers, alloc, shelf, common, question, &users),
         Err(halt) => Err(halt),
     }
 }

@@ -1,15 +1,14 @@
 //! What the commands with a USER and a START ask.
-ghost use Rattle.std.specs.Prelude.{◌≡◌, ◌≢◌, ℕ, ◌+◌, List, Result, Err, IfErr, IfOk};
+ghost use Rattle.std.specs.Prelude.{◌≡◌, ◌≢◌, ◌+◌, Err, IfErr, IfOk};
 ghost use Rattle.gufi_base.specs.Words.{capped_number};
 ghost use Rattle.gufi_find.specs.Expressions.{Find as SeenFind};
 ghost use Rattle.gufi_find.specs.Faults.{find_kind_text};
 ghost use Rattle.gufi_select.specs.Columns.{Select as SeenSelect};
 ghost use Rattle.gufi_select.specs.Faults.{select_kind_text};
-ghost use Rattle.gufi_users.specs.Entries.{UserTables};
-ghost use Rattle.gufi_top.specs.Asks.{Ask, find_ask, query_ask};
-ghost use Rattle.gufi_top.specs.Reasons.{Reason, word_fault, text_fault};
+ghost use Rattle.gufi_top.specs.Questions.{asks};
+ghost use Rattle.gufi_top.specs.Reasons.{word_fault, text_fault};
 ghost use Rattle.gufi_top.specs.Views.{text_view};
-ghost use Rattle.gufi_top.specs.Verdict.{asked, asked_if, expression_in, find_asking, ls_asking, stat_asking, stats_asking, report_of, select_in, query_asking};
+ghost use Rattle.gufi_top.specs.Verdict.{asked_if, expression_in, find_asking, stats_asking, report_of, select_in, query_asking};
 ghost use Rattle.gufi_top.specs.Calls.{Gives, IsOfBytes};
 
 use crate::ask::{find_text, listing_text, query_text, record_text, report_text};
@@ -19,51 +18,16 @@ use crate::start::written;
 use gufi_access::Principal;
 use gufi_base::{Bytes, Items, Path, Text};
 use gufi_find::{FindError, FindExpr, FindKind, read_find};
+use gufi_io::Gate;
 use gufi_select::{Select, SelectError, SelectKind, read_select};
 use gufi_snap::Snapshot;
 use gufi_stats::Report;
 use gufi_users::Users;
+use gufi_walk::Walkers;
 use gufi_words::{Common, ReportWord};
 use std::alloc::{AllocError, Global};
-
-/// What a command asks of an index for a principal from a start on.
-pub(crate) trait Question {
-    /// What it asks where these are the users, or for which reason its query words are refused.
-    ghost asks: { Self → UserTables → Result Ask Reason };
-
-    /// What it writes of a snapshot. The query words are judged before the start.
-    fn answer(
-        &self,
-        alloc: Global,
-        users: &Users,
-        snap: Snapshot,
-        who: &Principal,
-        start: &Path,
-    ) -> Result<Written, Halt>
-        ensures text { Gives text_view result (asked_if snap.tree who.now start.now (asks self.now users.now)) }
-        ensures of_bytes { IfErr result IsOfBytes };
-}
-
-/// The start's record, and the sum of the rows that the user lists from it.
-#[derive(Clone, Copy)]
-pub(crate) struct Stat;
-
-impl Question for Stat {
-    ghost asks = { λ _. stat_asking };
-
-    #[tactic(auto, using(crate::proofs::AskLemmas::asking))]
-    fn answer(
-        &self,
-        alloc: Global,
-        _users: &Users,
-        snap: Snapshot,
-        who: &Principal,
-        start: &Path,
-    ) -> Result<Written, Halt> {
-        let reply = record_text(alloc, &snap, who, start);
-        written(alloc, snap, reply)
-    }
-}
+use std::sync::Wait;
+use std::thread::Threads;
 
 /// The rows for which an expression is true.
 #[derive(Clone, Copy)]
@@ -101,18 +65,6 @@ fn bytes_of(alloc: Global, words: &[Text]) -> Result<Vec<Bytes>, AllocError>
     Ok(copies)
 }
 
-impl<'a> Find<'a> {
-    pub(crate) fn of(common: &Common, moment: Option<i64>, words: &'a Items<Text>) -> Find<'a>
-        ensures { find_asking result.user_at result.moment result.words.now ≡ find_asking common.now.user_at moment words.now }
-    {
-        Find {
-            user_at: common.user_at,
-            moment,
-            words: words.as_slice(),
-        }
-    }
-}
-
 impl Find<'_> {
     // The expression that the words are.
     fn expression(&self, alloc: Global, users: &Users) -> Result<FindExpr, Halt>
@@ -127,118 +79,6 @@ impl Find<'_> {
             }
             Err(FindError::Memory) => Err(Halt::Memory),
         }
-    }
-}
-
-// What is written of the rows for which an expression is true.
-#[tactic(auto, using(crate::proofs::AskLemmas::asking))]
-fn find_in(
-    alloc: Global,
-    expression: &FindExpr,
-    snap: Snapshot,
-    who: &Principal,
-    start: &Path,
-) -> Result<Written, Halt>
-    ensures text { Gives text_view result (asked snap.tree who.now start.now (find_ask expression.now)) }
-    ensures of_bytes { IfErr result IsOfBytes }
-{
-    let reply = find_text(alloc, &snap, who, start, expression);
-    written(alloc, snap, reply)
-}
-
-impl Question for Find<'_> {
-    ghost asks = { λ find. find_asking find.user_at find.moment find.words.now };
-
-    #[tactic(auto, using(crate::proofs::QueryLemmas::expressions))]
-    fn answer(
-        &self,
-        alloc: Global,
-        users: &Users,
-        snap: Snapshot,
-        who: &Principal,
-        start: &Path,
-    ) -> Result<Written, Halt> {
-        match self.expression(alloc, users) {
-            Ok(expression) => find_in(alloc, &expression, snap, who, start),
-            Err(halt) => Err(halt),
-        }
-    }
-}
-
-/// The rows one level below the start.
-#[derive(Clone, Copy)]
-pub(crate) struct Ls {
-    long: bool,
-    all: bool,
-}
-
-impl Ls {
-    pub(crate) fn of(long: bool, all: bool) -> Ls
-        ensures { result ≡ record { long = long; all = all } }
-    {
-        Ls { long, all }
-    }
-}
-
-impl Question for Ls {
-    ghost asks = { λ ls. ls_asking ls.long ls.all };
-
-    #[tactic(auto, using(crate::proofs::AskLemmas::asking))]
-    fn answer(
-        &self,
-        alloc: Global,
-        users: &Users,
-        snap: Snapshot,
-        who: &Principal,
-        start: &Path,
-    ) -> Result<Written, Halt> {
-        let reply = listing_text(alloc, &snap, who, start, users, self.long, self.all);
-        written(alloc, snap, reply)
-    }
-}
-
-/// A report over all rows that the user lists from the start.
-#[derive(Clone, Copy)]
-pub(crate) struct Stats {
-    report: Report,
-}
-
-// The report that the word asks for.
-fn report_of(word: ReportWord) -> Report
-    ensures { result ≡ report_of word }
-{
-    match word {
-        ReportWord::Levels => Report::Levels,
-        ReportWord::Uids => Report::Uids,
-        ReportWord::Gids => Report::Gids,
-        ReportWord::Leaves => Report::Leaves,
-    }
-}
-
-impl Stats {
-    pub(crate) fn of(word: ReportWord) -> Stats
-        ensures { result.report ≡ report_of word }
-    {
-        Stats {
-            report: report_of(word),
-        }
-    }
-}
-
-impl Question for Stats {
-    ghost asks = { λ stats. stats_asking stats.report };
-
-    #[tactic(auto, using(crate::proofs::AskLemmas::asking))]
-    fn answer(
-        &self,
-        alloc: Global,
-        _users: &Users,
-        snap: Snapshot,
-        who: &Principal,
-        start: &Path,
-    ) -> Result<Written, Halt> {
-        let reply = report_text(alloc, &snap, who, start, self.report);
-        written(alloc, snap, reply)
     }
 }
 
@@ -265,17 +105,6 @@ fn refuse_text<T>(alloc: Global, word: u32, offset: u32, kind: SelectKind) -> Re
     refused(2, note::select_word(alloc, word, offset, kind)?)
 }
 
-impl<'a> Query<'a> {
-    pub(crate) fn of(common: &Common, text: &'a Text) -> Query<'a>
-        ensures { query_asking result.user_at result.text.now ≡ query_asking common.now.user_at text.now }
-    {
-        Query {
-            user_at: common.user_at,
-            text: text.as_str().as_bytes(),
-        }
-    }
-}
-
 impl Query<'_> {
     // The SELECT that the text is.
     fn select(&self, alloc: Global) -> Result<Select, Halt>
@@ -292,37 +121,86 @@ impl Query<'_> {
     }
 }
 
-// What a SELECT writes of the rows for which it is true.
-#[tactic(auto, using(crate::proofs::AskLemmas::asking))]
-fn query_in(
-    alloc: Global,
-    select: &Select,
-    snap: Snapshot,
-    who: &Principal,
-    start: &Path,
-) -> Result<Written, Halt>
-    ensures text { Gives text_view result (asked snap.tree who.now start.now (query_ask select.now)) }
-    ensures of_bytes { IfErr result IsOfBytes }
+// The report that the word asks for.
+fn report_of(word: ReportWord) -> Report
+    ensures { result ≡ report_of word }
 {
-    let reply = query_text(alloc, &snap, who, start, select);
-    written(alloc, snap, reply)
+    match word {
+        ReportWord::Levels => Report::Levels,
+        ReportWord::Uids => Report::Uids,
+        ReportWord::Gids => Report::Gids,
+        ReportWord::Leaves => Report::Leaves,
+    }
 }
 
-impl Question for Query<'_> {
-    ghost asks = { λ query. query_asking query.user_at query.text.now };
+/// What a command asks of an index for a principal from a start on.
+#[derive(Clone, Copy)]
+pub(crate) enum Question<'a> {
+    /// The start's record, and the sum of the rows that the user lists from it.
+    Stat,
+    Find(Find<'a>),
+    /// The rows one level below the start.
+    Ls { long: bool, all: bool },
+    /// A report over all rows that the user lists from the start.
+    Stats(Report),
+    Query(Query<'a>),
+}
 
-    #[tactic(auto, using(crate::proofs::QueryLemmas::selects))]
-    fn answer(
+impl<'a> Question<'a> {
+    pub(crate) fn find(common: &Common, moment: Option<i64>, words: &'a Items<Text>) -> Question<'a>
+        ensures { asks result ≡ find_asking common.now.user_at moment words.now }
+    {
+        Question::Find(Find {
+            user_at: common.user_at,
+            moment,
+            words: words.as_slice(),
+        })
+    }
+
+    pub(crate) fn query(common: &Common, text: &'a Text) -> Question<'a>
+        ensures { asks result ≡ query_asking common.now.user_at text.now }
+    {
+        Question::Query(Query {
+            user_at: common.user_at,
+            text: text.as_str().as_bytes(),
+        })
+    }
+
+    pub(crate) fn stats(word: ReportWord) -> Question<'a>
+        ensures { asks result ≡ stats_asking (report_of word) }
+    {
+        Question::Stats(report_of(word))
+    }
+
+    /// What it writes of a snapshot. The query words are judged before the start.
+    #[tactic(auto, using(crate::proofs::AskLemmas::asking, crate::proofs::QueryLemmas::expressions, crate::proofs::QueryLemmas::selects))]
+    pub(crate) fn answer<R: Threads + Wait + Sync, G: Gate + Sync>(
         &self,
+        walkers: &Walkers<'_, R, G>,
         alloc: Global,
-        _users: &Users,
+        users: &Users,
         snap: Snapshot,
         who: &Principal,
         start: &Path,
-    ) -> Result<Written, Halt> {
-        match self.select(alloc) {
-            Ok(select) => query_in(alloc, &select, snap, who, start),
-            Err(halt) => Err(halt),
-        }
+    ) -> Result<Written, Halt>
+        ensures text { Gives text_view result (asked_if snap.tree who.now start.now (asks self.now users.now)) }
+        ensures of_bytes { IfErr result IsOfBytes }
+    {
+        let reply = match self {
+            Question::Find(find) => match find.expression(alloc, users) {
+                Ok(expression) => find_text(walkers, alloc, &snap, who, start, &expression),
+                Err(halt) => return Err(halt),
+            },
+            Question::Query(query) => match query.select(alloc) {
+                Ok(select) => query_text(walkers, alloc, &snap, who, start, &select),
+                Err(halt) => return Err(halt),
+            },
+            Question::Stat => record_text(walkers, alloc, &snap, who, start),
+            Question::Ls { long, all } => {
+                listing_text(walkers, alloc, &snap, who, start, users, *long, *all)
+            }
+            Question::Stats(report) => report_text(walkers, alloc, &snap, who, start, *report),
+        };
+        written(alloc, snap, reply)
     }
 }

@@ -7,13 +7,14 @@ ghost use Rattle.gufi_top.specs.Verdict.{is_one_shot, may_refuse, may_refuse_wor
 ghost use Rattle.gufi_top.specs.Ends.{IsVerdictStatus, Ended, WriteFaulted, BrokenOff, TextEnds, read_fault_note, memory_note};
 ghost use Rattle.gufi_top.specs.Endings.{HasRun};
 
-use crate::command::answer_command;
+use crate::command::{answer_command, workers_of};
 use crate::ending::{Outcome, halted, tell};
 use crate::halt::Text;
 use crate::note;
 use crate::session::{self, Session};
 use crate::words::read_command;
 use gufi_io::{Gate, Shelf, Sink, write_whole};
+use gufi_walk::Walkers;
 use gufi_words::Command;
 use std::alloc::Global;
 use std::sync::Wait;
@@ -36,12 +37,14 @@ fn write_text<K: Sink>(text: &Text, out: &mut K, notes: &mut K) -> u8
 }
 
 // Makes the whole text of a command, and writes it.
-fn run_one_shot<F: Shelf, K: Sink>(
+fn run_one_shot<R: Threads + Wait + Sync, F: Shelf, K: Sink, G: Gate + Sync>(
+    rt: &R,
     alloc: Global,
     command: &Command,
     shelf: &mut F,
     out: &mut K,
     notes: &mut K,
+    gate: &G,
 ) -> Outcome
     requires { IsTrue (is_one_shot command.now) }
     ensures run { HasRun (option_map (command_over command.now) (F.files shelf.old)) result.status result.numbers.items
@@ -50,7 +53,8 @@ fn run_one_shot<F: Shelf, K: Sink>(
         (F.faults shelf.old) (F.faults shelf.new) (F.absents shelf.old) (F.absents shelf.new) }
     ensures words { result.status ≡ 2 → IsTrue (may_refuse command.now) }
 {
-    match answer_command(alloc, command, shelf) {
+    let walkers = Walkers::of(rt, gate, workers_of(command));
+    match answer_command(&walkers, alloc, command, shelf) {
         Ok(text) => {
             let status = write_text(&text, out, notes);
             let numbers = Vec::new(alloc);
@@ -61,7 +65,7 @@ fn run_one_shot<F: Shelf, K: Sink>(
 }
 
 // Does all that a command asks: a session writes as it goes.
-fn run_command<R: Threads + Wait + Sync, F: Shelf, K: Sink, G: Gate>(
+fn run_command<R: Threads + Wait + Sync, F: Shelf, K: Sink, G: Gate + Sync>(
     rt: &R,
     alloc: Global,
     command: &Command,
@@ -81,32 +85,34 @@ fn run_command<R: Threads + Wait + Sync, F: Shelf, K: Sink, G: Gate>(
             passwd,
             group,
             delim,
+            workers,
             now,
             script,
-            ..
         } => {
             let session = Session {
                 passwd,
                 group,
                 delim: *delim,
+                workers: *workers,
                 moment: *now,
                 script,
             };
             session::run(rt, alloc, &session, shelf, out, notes, gate)
         }
-        _ => run_one_shot(alloc, command, shelf, out, notes),
+        _ => run_one_shot(rt, alloc, command, shelf, out, notes, gate),
     }
 }
 
 /// Does all that the words ask: reads the files, and writes the text or the refusal's note.
 ///
 /// The words are those after the program's name. The text goes to `out`; a refusal's note, ended by a
-/// newline, to `notes`. A session runs its lanes and its publishing commands in threads of `rt`, tells `gate` of each
-/// before it begins, and writes phase by phase; each other command writes once its whole text is made. The exit status is 0
+/// newline, to `notes`. A search is answered by workers in threads of `rt`, and a session runs its lanes and its publishing
+/// commands in further threads; `gate` is told of each of these, of each task of a worker and of each store that it scans, before
+/// it begins. A session writes phase by phase; each other command writes once its whole text is made. The exit status is 0
 /// where the whole text was written, 1 where the start can't be listed, 2 for words that are no command, 3 for a fault of
 /// reading, 4 for one of writing, 5 for a damaged file, 6 for a limit that is passed, 7 for want of memory and 8 for a file
 /// that isn't there.
-pub fn gufi_run<R: Threads + Wait + Sync, F: Shelf, K: Sink, G: Gate>(
+pub fn gufi_run<R: Threads + Wait + Sync, F: Shelf, K: Sink, G: Gate + Sync>(
     rt: &R,
     alloc: Global,
     words: &[String],

@@ -32,6 +32,8 @@ pub(crate) struct Session<'a> {
     pub(crate) group: &'a Option<Text>,
     /// The byte between the fields of a trace.
     pub(crate) delim: u8,
+    /// By how many a search is answered.
+    pub(crate) workers: u32,
     /// From which times count back, in seconds.
     pub(crate) moment: Option<i64>,
     pub(crate) script: &'a Text,
@@ -206,10 +208,11 @@ fn tell_end<K: Sink>(alloc: Global, end: End, notes: &mut K) -> u8
 }
 
 // Runs a plan.
-fn run_plan<R: Threads + Wait + Sync, F: Shelf, K: Sink, G: Gate>(
+fn run_plan<R: Threads + Wait + Sync, F: Shelf, K: Sink, G: Gate + Sync>(
     rt: &R,
     alloc: Global,
     plan: &SessionPlan,
+    workers: u32,
     shelf: &mut F,
     out: &mut K,
     notes: &mut K,
@@ -221,13 +224,13 @@ fn run_plan<R: Threads + Wait + Sync, F: Shelf, K: Sink, G: Gate>(
         (F.faults shelf.old) (F.faults shelf.new) (F.absents shelf.old) (F.absents shelf.new) }
     ensures past_words { result.status ≢ 2 }
 {
-    let Ended { end, numbers } = run_session(rt, alloc, plan, shelf, out, gate);
+    let Ended { end, numbers } = run_session(rt, alloc, plan, workers, shelf, out, gate);
     let status = tell_end(alloc, end, notes);
     Outcome { status, numbers }
 }
 
 /// Does all that the command asks: reads the users and the script, and then runs it, phase by phase.
-pub(crate) fn run<R: Threads + Wait + Sync, F: Shelf, K: Sink, G: Gate>(
+pub(crate) fn run<R: Threads + Wait + Sync, F: Shelf, K: Sink, G: Gate + Sync>(
     rt: &R,
     alloc: Global,
     session: &Session<'_>,
@@ -244,7 +247,7 @@ pub(crate) fn run<R: Threads + Wait + Sync, F: Shelf, K: Sink, G: Gate>(
     ensures past_words { result.status ≢ 2 }
 {
     match read_plan(alloc, shelf, session) {
-        Ok(plan) => run_plan(rt, alloc, &plan, shelf, out, notes, gate),
+        Ok(plan) => run_plan(rt, alloc, &plan, session.workers, shelf, out, notes, gate),
         Err(halt) => halted(alloc, halt, notes),
     }
 }

@@ -11,10 +11,13 @@ use crate::reading::read_trace_file;
 use crate::start::written;
 use gufi_access::Principal;
 use gufi_base::{Memory, Path};
-use gufi_io::Shelf;
+use gufi_io::{Gate, Shelf};
 use gufi_snap::Snapshot;
 use gufi_tree::Tree;
+use gufi_walk::Walkers;
 use std::alloc::Global;
+use std::sync::Wait;
+use std::thread::Threads;
 
 /// The snapshot of a tree whose roll-up has this limit.
 pub(crate) fn snapshot_of(alloc: Global, tree: Tree, limit: u64) -> Result<Snapshot, Memory>
@@ -25,20 +28,26 @@ pub(crate) fn snapshot_of(alloc: Global, tree: Tree, limit: u64) -> Result<Snaps
 
 // What `walk` writes of a tree.
 #[tactic(auto, using(crate::proofs::AskLemmas::asking))]
-fn walk_tree(alloc: Global, tree: Tree, who: &Principal) -> Result<Text, Halt>
+fn walk_tree<R: Threads + Wait + Sync, G: Gate + Sync>(
+    walkers: &Walkers<'_, R, G>,
+    alloc: Global,
+    tree: Tree,
+    who: &Principal,
+) -> Result<Text, Halt>
     ensures text { Gives text_view result (asked tree who.now [] walk_ask) }
     ensures of_bytes { IfErr result IsOfBytes }
     ensures past_words { IfErr result IsPastWords }
 {
     let snap = snapshot_of(alloc, tree, 0)?;
     let start = Path::root(alloc)?;
-    let reply = walk_text(alloc, &snap, who, &start);
+    let reply = walk_text(walkers, alloc, &snap, who, &start);
     written(alloc, snap, reply)
 }
 
 /// What `walk` writes of a trace.
 #[tactic(auto, using(crate::proofs::RunLemmas::chaining))]
-pub(crate) fn walk<F: Shelf>(
+pub(crate) fn walk<R: Threads + Wait + Sync, F: Shelf, G: Gate + Sync>(
+    walkers: &Walkers<'_, R, G>,
     alloc: Global,
     shelf: &mut F,
     trace: &str,
@@ -50,7 +59,7 @@ pub(crate) fn walk<F: Shelf>(
     ensures cause { IfErr result (HaltHasCause (F.faults shelf.old) (F.faults shelf.new) (F.absents shelf.old) (F.absents shelf.new)) }
 {
     match read_trace_file(alloc, shelf, trace, delim) {
-        Ok(tree) => walk_tree(alloc, tree, who),
+        Ok(tree) => walk_tree(walkers, alloc, tree, who),
         Err(halt) => Err(halt),
     }
 }

@@ -9,8 +9,8 @@ use Rattle.gufi_session.proofs.run.run_session.Goals as goal
 pub run_session-requires-sync-Q : goal.run_session-requires-sync-Q
 run_session-requires-sync-Q g c κs = search (shared_sync, sendable) depth 10
 
-pub run_session-requires-after_bounds : goal.run_session-requires-after_bounds
-run_session-requires-after_bounds g c κs within =
+pub run_session-requires-clause-few : goal.run_session-requires-clause-few
+run_session-requires-clause-few g c κs within =
     let few = c.phases.ensures.few in
     let same : act_count c.phases.result.now ≡ act_count c.args.plan.now = ap (λ p. act_count p) c.phases.ensures.phases in
     subst (λ n. n < 2 ^ 30) (sym (total_counts c.phases.result.now)) (omega arith)

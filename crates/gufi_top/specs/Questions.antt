@@ -1,0 +1,11 @@
+-- What the questions ask.
+use Rattle.gufi_top.specs.Verdict.{Asking, stat_asking, find_asking, ls_asking, stats_asking, query_asking}
+use Rattle.gufi_top.specs.declared.question.Question.{Question}
+use Rattle.gufi_top.specs.declared.question.Question.TheVariants.{Stat, Find, Ls, Stats, Query}
+
+abbrev pub asks : Question → Asking
+asks Stat = stat_asking
+asks (Find find) = find_asking find.user_at find.moment find.words.now
+asks (Ls long all) = ls_asking long all
+asks (Stats report) = stats_asking report
+asks (Query query) = query_asking query.user_at query.text.now
