@@ -6,7 +6,9 @@ use Rattle.std.proofs.lemmas.Bool.Decides.{nat_tests}
 use Rattle.std.proofs.lemmas.Slice.Eq.{bytes_eq-Decides}
 use Rattle.gufi_base.specs.Limits.{max_nesting}
 use Rattle.gufi_base.specs.Words.{◌>>=◌}
-use Rattle.gufi_formula.specs.Formulas.{Formula, test, negation, both, either, Level, new_level, with_term, open_ones}
+use Rattle.gufi_formula.specs.declared.level.Level.{Level}
+use Rattle.gufi_formula.specs.Formulas.{Formula, test, negation, both, either}
+use Rattle.gufi_formula.specs.Levels.{new_level, with_term, open_ones}
 use Rattle.gufi_formula.specs.Written.{Rank, of_or, of_and, of_not, EachTest, formula_nesting, written, written_formula}
 use Rattle.gufi_formula.proofs.ReadBack.{Place, before, behind, Reads, read_back, whole_behind}
 use Rattle.gufi_users.specs.Entries.{UserTables}

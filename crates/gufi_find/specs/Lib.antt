@@ -1,6 +1,5 @@
 pub mod Tests
 pub mod Expressions
-pub mod Conditions
 pub mod Faults
 pub mod WordFaults
 pub mod Operands

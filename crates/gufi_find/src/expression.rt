@@ -4,15 +4,16 @@ ghost use Rattle.gufi_base.specs.declared.record.Row.{Row};
 ghost use Rattle.gufi_base.specs.Rows.{Stands, StandsForSome};
 ghost use Rattle.gufi_find.specs.Expressions.{find_holds, is_at_most};
 
-use crate::condition::Condition;
+use crate::test::Test;
 use gufi_base::{Memory, Pred, RowRef, Tester};
+use gufi_formula::Formula;
 use std::alloc::Global;
 use std::marker::Model;
 
 /// An expression, which is true or false of a row and its depth below the start.
 #[derive(Drop)]
 pub struct FindExpr {
-    condition: Condition,
+    formula: Formula<Test>,
     least_depth: u32,
     most_depth: Option<u32>,
 }
@@ -26,15 +27,15 @@ impl Model for FindExpr {
 
     ghost coded = { Prim.hlevel (codes, formula_coded) };
 
-    ghost view = { λ e. record { expr = e.condition; least_depth = e.least_depth; most_depth = e.most_depth } };
+    ghost view = { λ e. record { expr = e.formula; least_depth = e.least_depth; most_depth = e.most_depth } };
 }
 
 impl FindExpr {
-    pub(crate) fn of(condition: Condition, least_depth: u32, most_depth: Option<u32>) -> FindExpr
-        ensures { result ≡ record { expr = condition; least_depth = least_depth; most_depth = most_depth } }
+    pub(crate) fn of(formula: Formula<Test>, least_depth: u32, most_depth: Option<u32>) -> FindExpr
+        ensures { result ≡ record { expr = formula; least_depth = least_depth; most_depth = most_depth } }
     {
         FindExpr {
-            condition,
+            formula,
             least_depth,
             most_depth,
         }
@@ -57,7 +58,7 @@ impl FindExpr {
         requires { StandsForSome row }
         ensures { (of : Row) → Stands row.entry of → result ≡ find_holds self.now of depth }
     {
-        self.is_within(depth) && self.condition.is_true(row)
+        self.is_within(depth) && self.formula.is_true(&row)
     }
 }
 

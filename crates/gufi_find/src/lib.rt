@@ -5,18 +5,15 @@
 #![tactic(auto)]
 
 mod comparison;
-mod condition;
 mod expression;
 mod fault;
 mod laws;
-mod level;
 mod numbers;
 mod operand;
 mod place;
 mod primary;
 mod reading;
 mod state;
-mod step;
 mod test;
 mod word;
 

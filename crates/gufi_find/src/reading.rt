@@ -7,10 +7,10 @@ ghost use Rattle.gufi_find.specs.States.{state_kept};
 
 use crate::expression::FindExpr;
 use crate::fault::{FindError, WordFault};
-use crate::level::Level;
 use crate::place::Place;
 use crate::state::State;
 use gufi_base::Bytes;
+use gufi_formula::OpenLevels;
 use gufi_users::Users;
 use std::alloc::Global;
 
@@ -47,8 +47,7 @@ fn first_state(alloc: Global, words: &[Bytes]) -> State
     };
     State {
         place,
-        level: Level::new(),
-        outer: Vec::new(alloc),
+        levels: OpenLevels::new(alloc),
         least: 0,
         most: None,
     }

@@ -1,28 +1,26 @@
 //! Reading word by word.
 ghost use Rattle.std.specs.Prelude.{◌≡◌, IfOk};
 ghost use Rattle.gufi_find.specs.Reading.{with_item, begun, opened, inverted, close_level, wants_primary, wants_operator, read_word, at_end};
-ghost use Rattle.gufi_formula.specs.Formulas.{with_or};
-ghost use Rattle.gufi_find.specs.States.{level_kept, levels_kept, state_kept};
+ghost use Rattle.gufi_formula.specs.Levels.{with_or};
+ghost use Rattle.gufi_find.specs.States.{state_kept};
 ghost use Rattle.gufi_find.specs.WordFaults.{Gives};
 
-use crate::condition::Condition;
 use crate::expression::FindExpr;
 use crate::fault::{FindKind, WordFault};
-use crate::level::{Level, is_full};
 use crate::operand::{Item, read_operand};
 use crate::place::Place;
 use crate::primary::{Primary, PrimaryName, primary_of};
 use crate::test::Test;
 use crate::word::is_word;
+use gufi_formula::{Formula, OpenLevels};
 use gufi_users::Users;
 use std::alloc::{AllocError, Global};
 
-/// What is wanted next, what is open, the innermost level apart from those outside it, and the bounds of depth so far.
+/// What is wanted next, what is open, and the bounds of depth so far.
 #[derive(Drop)]
 pub(crate) struct State {
     pub(crate) place: Place,
-    pub(crate) level: Level,
-    pub(crate) outer: Vec<Level>,
+    pub(crate) levels: OpenLevels<Test>,
     pub(crate) least: u32,
     pub(crate) most: Option<u32>,
 }
@@ -32,12 +30,10 @@ impl State {
     fn with_test(self, alloc: Global, test: Test) -> Result<State, AllocError>
         ensures { IfOk result (λ s. state_kept s ≡ with_item (Item.OfTest test) (state_kept self)) }
     {
-        let term = Condition::of(alloc, test)?;
-        let level = self.level.with_term(term)?;
+        let levels = self.levels.with_test(alloc, test)?;
         Ok(State {
             place: Place::Operator,
-            level,
-            outer: self.outer,
+            levels,
             least: self.least,
             most: self.most,
         })
@@ -53,8 +49,7 @@ impl State {
                 let state = self.with_test(alloc, Test::DepthBound)?;
                 Ok(State {
                     place: state.place,
-                    level: state.level,
-                    outer: state.outer,
+                    levels: state.levels,
                     least: depth,
                     most: state.most,
                 })
@@ -63,8 +58,7 @@ impl State {
                 let state = self.with_test(alloc, Test::DepthBound)?;
                 Ok(State {
                     place: state.place,
-                    level: state.level,
-                    outer: state.outer,
+                    levels: state.levels,
                     least: state.least,
                     most: Some(depth),
                 })
@@ -76,15 +70,13 @@ impl State {
     fn opened(self) -> Result<State, WordFault>
         ensures { Gives state_kept result (opened (state_kept self)) }
     {
-        if is_full(&self.level, self.outer.as_slice()) {
+        if self.levels.is_full() {
             return Err(WordFault::Kind(FindKind::TooDeep));
         }
-        let mut outer = self.outer;
-        outer.push(self.level)?;
+        let levels = self.levels.nested()?;
         Ok(State {
             place: Place::Primary,
-            level: Level::new(),
-            outer,
+            levels,
             least: self.least,
             most: self.most,
         })
@@ -94,13 +86,12 @@ impl State {
     fn inverted(self) -> Result<State, WordFault>
         ensures { Gives state_kept result (inverted (state_kept self)) }
     {
-        if is_full(&self.level, self.outer.as_slice()) {
+        if self.levels.is_full() {
             return Err(WordFault::Kind(FindKind::TooDeep));
         }
         Ok(State {
             place: Place::Primary,
-            level: self.level.with_not(),
-            outer: self.outer,
+            levels: self.levels.with_not(),
             least: self.least,
             most: self.most,
         })
@@ -108,18 +99,14 @@ impl State {
 
     /// `)`
     fn closed(self) -> Result<State, WordFault>
-        ensures { Gives state_kept result (close_level (levels_kept self.outer.items) (state_kept self)) }
+        ensures { Gives state_kept result (close_level (state_kept self).outer (state_kept self)) }
     {
-        let mut outer = self.outer;
-        let Some(around) = outer.pop() else {
+        let Some(levels) = self.levels.closed()? else {
             return Err(WordFault::Kind(FindKind::Parenthesis));
         };
-        let term = self.level.formula()?;
-        let level = around.closed_by(term)?;
         Ok(State {
             place: self.place,
-            level,
-            outer,
+            levels,
             least: self.least,
             most: self.most,
         })
@@ -166,8 +153,7 @@ impl State {
     {
         State {
             place,
-            level: self.level,
-            outer: self.outer,
+            levels: self.levels,
             least: self.least,
             most: self.most,
         }
@@ -175,13 +161,12 @@ impl State {
 
     /// `-o`
     fn with_or(self) -> Result<State, AllocError>
-        ensures { IfOk result (λ s. state_kept s ≡ record (state_kept self) { place = Place.Primary; level = with_or (level_kept self.level) }) }
+        ensures { IfOk result (λ s. state_kept s ≡ record (state_kept self) { place = Place.Primary; level = with_or (state_kept self).level }) }
     {
-        let level = self.level.with_or()?;
+        let levels = self.levels.with_or()?;
         Ok(State {
             place: Place::Primary,
-            level,
-            outer: self.outer,
+            levels,
             least: self.least,
             most: self.most,
         })
@@ -236,13 +221,13 @@ impl State {
             }
             Place::Operator => {}
         }
-        if !self.outer.is_empty() {
+        if !self.levels.is_outermost() {
             return Err(WordFault::Kind(FindKind::Parenthesis));
         }
-        let condition = match self.level.formula()? {
-            Some(condition) => condition,
-            None => Condition::of(alloc, Test::Always)?,
+        let formula = match self.levels.formula()? {
+            Some(formula) => formula,
+            None => Formula::of(alloc, Test::Always),
         };
-        Ok(FindExpr::of(condition, self.least, self.most))
+        Ok(FindExpr::of(formula, self.least, self.most))
     }
 }

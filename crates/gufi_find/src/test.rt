@@ -1,10 +1,11 @@
 //! The tests of an expression.
-ghost use Rattle.std.specs.Prelude.{◌≡◌, ◌++◌};
+ghost use Rattle.std.specs.Prelude.{◌++◌};
 ghost use Rattle.gufi_find.specs.Tests.{is_true};
 
 use crate::comparison::{Comparison, SizeUnit};
 use crate::numbers::NumberSet;
 use gufi_base::{Kind, RowRef};
+use gufi_formula::Valuation;
 use gufi_glob::Glob;
 
 /// A test of a row. Moments are in seconds since the epoch.
@@ -31,14 +32,15 @@ pub enum Test {
     GroupNotIn(NumberSet),
 }
 
-impl Test {
-    /// Whether a row in borrowed parts meets it.
+/// A row in borrowed parts gives each test its truth.
+impl<'r> Valuation<Test> for RowRef<'r> {
+    ghost truth = { λ row t. is_true t (row.stem.now ++ row.base.now) row.base.now row.meta.now };
+
     #[inline]
-    pub(crate) fn is_true(&self, row: RowRef<'_>) -> bool
-        ensures { result ≡ is_true self.now (row.entry.stem.now ++ row.entry.base.now) row.entry.base.now row.entry.meta.now }
-    {
+    fn is_true(&self, test: &Test) -> bool {
+        let row = *self;
         let meta = row.meta;
-        match self {
+        match test {
             Test::Always | Test::DepthBound => true,
             Test::NameMatches(pattern) => pattern.matches(&[], row.base),
             Test::PathMatches(pattern) => pattern.matches(row.stem, row.base),

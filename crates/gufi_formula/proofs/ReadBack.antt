@@ -4,7 +4,9 @@ use Rattle.std.specs.Prelude.{Option, Some, None}
 use Rattle.std.proofs.lemmas.List.Sums.{sum_by-cons}
 use Rattle.std.specs.List.{sum_by}
 use Rattle.gufi_base.specs.Limits.{max_nesting}
-use Rattle.gufi_formula.specs.Formulas.{Formula, test, negation, both, either, Level, new_level, joined_formula, negated_formula, with_term, with_or, with_not, level_formula, closed_into, open_ones}
+use Rattle.gufi_formula.specs.Formulas.{Formula, test, negation, both, either}
+use Rattle.gufi_formula.specs.declared.level.Level.{Level}
+use Rattle.gufi_formula.specs.Levels.{new_level, joined_formula, negated_formula, with_term, with_or, with_not, level_formula, closed_into, open_ones}
 use Rattle.gufi_formula.specs.Written.{Rank, of_or, of_and, of_not, Spelling, enclosed, written, written_formula, nesting, formula_nesting, EachTest}
 
 -- Where a reader stands: whether it wants a term, or a sign behind one; the innermost level, and those outside it.

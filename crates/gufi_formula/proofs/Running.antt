@@ -2,7 +2,9 @@
 use Rattle.std.proofs.Common.{◌≡◌, ℕ, zero, suc, Bool, true, false, List, [], ◌∷◌, ◌++◌, length, drop, refl, sym, ap, ◌∙◌, append_assoc, append-nil}
 use Rattle.std.specs.Prelude.{◌&&◌, ◌||◌}
 use Rattle.gufi_formula.specs.Formulas.{Formula, test, negation, both, either, holds}
-use Rattle.gufi_formula.specs.Steps.{Step, invert, unless_false, unless_true, both_end, either_end, steps_of, run, with_steps, newest_or, formula_in}
+use Rattle.gufi_formula.specs.Steps.{first_of, steps_of, run, with_steps, newest_or, formula_in, IsKept}
+use Rattle.gufi_formula.specs.declared.step.Step.{Step}
+use Rattle.gufi_formula.specs.declared.step.Step.TheVariants.{Invert, IfTrue, IfFalse, BothEnd, EitherEnd}
 
 module _ {A : Type 0} where
   -- two operands, with what is between and behind them, in the order in which they are taken
@@ -11,54 +13,98 @@ module _ {A : Type 0} where
   operands front back skip mark rest =
       append_assoc front (skip ∷ (back ++ mark ∷ [])) rest ∙ ap (λ l. front ++ (skip ∷ l)) (append_assoc back (mark ∷ []) rest)
 
-  pub with_steps-more : (f : Formula A) (rest : List (Step A)) (stack : List (Formula A)) → with_steps (steps_of f ++ rest) stack ≡ with_steps rest (f ∷ stack)
+  -- the steps of a formula make it of its first test
+  with_steps-more : (f : Formula A) (rest : List (Step A)) (stack : List (Formula A)) → with_steps (steps_of f ++ rest) (test (first_of f) ∷ stack) ≡ with_steps rest (f ∷ stack)
   with_steps-more (test a) rest stack = refl
   with_steps-more (negation f) rest stack =
-      ap (λ l. with_steps l stack) (append_assoc (steps_of f) (invert ∷ []) rest) ∙ with_steps-more f (invert ∷ rest) stack
+      ap (λ l. with_steps l (test (first_of f) ∷ stack)) (append_assoc (steps_of f) (Invert ∷ []) rest) ∙ with_steps-more f (Invert ∷ rest) stack
   with_steps-more (both f g) rest stack =
-      ap (λ l. with_steps l stack) (operands (steps_of f) (steps_of g) (unless_false (length (steps_of g))) both_end rest)
-      ∙ with_steps-more f (unless_false (length (steps_of g)) ∷ (steps_of g ++ (both_end ∷ rest))) stack
-      ∙ with_steps-more g (both_end ∷ rest) (f ∷ stack)
+      ap (λ l. with_steps l (test (first_of f) ∷ stack)) (operands (steps_of f) (steps_of g) (IfTrue (first_of g) (length (steps_of g))) BothEnd rest)
+      ∙ with_steps-more f (IfTrue (first_of g) (length (steps_of g)) ∷ (steps_of g ++ (BothEnd ∷ rest))) stack
+      ∙ with_steps-more g (BothEnd ∷ rest) (f ∷ stack)
   with_steps-more (either f g) rest stack =
-      ap (λ l. with_steps l stack) (operands (steps_of f) (steps_of g) (unless_true (length (steps_of g))) either_end rest)
-      ∙ with_steps-more f (unless_true (length (steps_of g)) ∷ (steps_of g ++ (either_end ∷ rest))) stack
-      ∙ with_steps-more g (either_end ∷ rest) (f ∷ stack)
+      ap (λ l. with_steps l (test (first_of f) ∷ stack)) (operands (steps_of f) (steps_of g) (IfFalse (first_of g) (length (steps_of g))) EitherEnd rest)
+      ∙ with_steps-more f (IfFalse (first_of g) (length (steps_of g)) ∷ (steps_of g ++ (EitherEnd ∷ rest))) stack
+      ∙ with_steps-more g (EitherEnd ∷ rest) (f ∷ stack)
 
-  pub formula_in-steps_of : (d : A) (f : Formula A) → formula_in d (steps_of f) ≡ f
-  formula_in-steps_of d f =
-      ap (λ l. newest_or (test d) (with_steps l [])) (sym (append-nil (steps_of f))) ∙ ap (newest_or (test d)) (with_steps-more f [] [])
+  formula_in-steps_of : (f : Formula A) → formula_in (first_of f) (steps_of f) ≡ f
+  formula_in-steps_of f =
+      ap (λ l. newest_or (test (first_of f)) (with_steps l (test (first_of f) ∷ []))) (sym (append-nil (steps_of f)))
+      ∙ ap (newest_or (test (first_of f))) (with_steps-more f [] [])
+
+  -- the first test and the steps of a formula, and that formula
+  pub record Keeps (first : A) (steps : List (Step A)) (f : Formula A) : Type 0 where
+    pub formula : formula_in first steps ≡ f
+    pub is : IsKept first steps
+
+  keeps : (first : A) (steps : List (Step A)) (f : Formula A) → first_of f ≡ first → steps_of f ≡ steps → Keeps first steps f
+  keeps first steps f first_same steps_same =
+      let formula : formula_in first steps ≡ f =
+      sym (ap (λ a. formula_in a (steps_of f)) first_same ∙ ap (formula_in first) steps_same) ∙ formula_in-steps_of f in
+      record { formula = formula; is = record { test_is = ap first_of formula ∙ first_same; steps_are = ap steps_of formula ∙ steps_same } }
+
+  pub kept_test : (a : A) → Keeps a [] (test a)
+  kept_test a = keeps a [] (test a) refl refl
+
+  pub kept_negation : (first : A) (steps : List (Step A)) → IsKept first steps → Keeps first (steps ++ Invert ∷ []) (negation (formula_in first steps))
+  kept_negation first steps is = keeps first (steps ++ Invert ∷ []) (negation (formula_in first steps)) is.test_is (ap (λ l. l ++ Invert ∷ []) is.steps_are)
+
+  -- two that were kept apart, and then one behind the other
+  joined : (steps : List (Step A)) (second : A) (more : List (Step A)) (f g : Formula A) (skip : A → ℕ → Step A) (mark : Step A)
+      → steps_of f ≡ steps → first_of g ≡ second → steps_of g ≡ more
+      → steps_of f ++ (skip (first_of g) (length (steps_of g)) ∷ (steps_of g ++ mark ∷ [])) ≡ ((steps ++ skip second (length more) ∷ []) ++ more) ++ mark ∷ []
+  joined steps second more f g skip mark is others_first others =
+      ap (λ l. l ++ (skip (first_of g) (length (steps_of g)) ∷ (steps_of g ++ mark ∷ []))) is
+      ∙ ap (λ a. steps ++ (skip a (length (steps_of g)) ∷ (steps_of g ++ mark ∷ []))) others_first
+      ∙ ap (λ l. steps ++ (skip second (length l) ∷ (l ++ mark ∷ []))) others
+      ∙ sym (append_assoc (steps ++ skip second (length more) ∷ []) more (mark ∷ []) ∙ append_assoc steps (skip second (length more) ∷ []) (more ++ mark ∷ []))
+
+  pub kept_both : (first : A) (steps : List (Step A)) (second : A) (more : List (Step A)) → IsKept first steps → IsKept second more
+      → Keeps first (((steps ++ IfTrue second (length more) ∷ []) ++ more) ++ BothEnd ∷ []) (both (formula_in first steps) (formula_in second more))
+  kept_both first steps second more is others =
+      keeps first _ (both (formula_in first steps) (formula_in second more)) is.test_is (joined steps second more (formula_in first steps) (formula_in second more) IfTrue BothEnd is.steps_are others.test_is others.steps_are)
+
+  pub kept_either : (first : A) (steps : List (Step A)) (second : A) (more : List (Step A)) → IsKept first steps → IsKept second more
+      → Keeps first (((steps ++ IfFalse second (length more) ∷ []) ++ more) ++ EitherEnd ∷ []) (either (formula_in first steps) (formula_in second more))
+  kept_either first steps second more is others =
+      keeps first _ (either (formula_in first steps) (formula_in second more)) is.test_is (joined steps second more (formula_in first steps) (formula_in second more) IfFalse EitherEnd is.steps_are others.test_is others.steps_are)
 
   module _ (truth : A → Bool) where
-    pub run-skip : (now : Bool) (front rest : List (Step A)) → run truth now (length front) (front ++ rest) ≡ run truth now 0 rest
-    run-skip now [] rest = refl
-    run-skip now (step ∷ front) rest = run-skip now front rest
+    run_skip : (now : Bool) (front rest : List (Step A)) → run truth now (length front) (front ++ rest) ≡ run truth now 0 rest
+    run_skip now [] rest = refl
+    run_skip now (step ∷ front) rest = run_skip now front rest
 
-    pub run-drop : (now : Bool) (n : ℕ) (steps : List (Step A)) → run truth now n steps ≡ run truth now 0 (drop n steps)
-    run-drop now zero steps = refl
-    run-drop now (suc n) [] = refl
-    run-drop now (suc n) (step ∷ rest) = run-drop now n rest
+    -- steps that are passed over
+    pub run_drop : (now : Bool) (n : ℕ) (steps : List (Step A)) → run truth now n steps ≡ run truth now 0 (drop n steps)
+    run_drop now zero steps = refl
+    run_drop now (suc n) [] = refl
+    run_drop now (suc n) (step ∷ rest) = run_drop now n rest
 
-    pub run-more : (f : Formula A) (now : Bool) (rest : List (Step A)) → run truth now 0 (steps_of f ++ rest) ≡ run truth (holds truth f) 0 rest
-    run-more (test a) now rest = refl
-    run-more (negation f) now rest =
-        ap (run truth now 0) (append_assoc (steps_of f) (invert ∷ []) rest) ∙ run-more f now (invert ∷ rest)
-    run-more (both f g) now rest =
-        ap (run truth now 0) (operands (steps_of f) (steps_of g) (unless_false (length (steps_of g))) both_end rest)
-        ∙ run-more f now (unless_false (length (steps_of g)) ∷ (steps_of g ++ (both_end ∷ rest)))
-        ∙ on (holds truth f) (run-more g true (both_end ∷ rest))
+    run_more : (f : Formula A) (rest : List (Step A)) → run truth (truth (first_of f)) 0 (steps_of f ++ rest) ≡ run truth (holds truth f) 0 rest
+    run_more (test a) rest = refl
+    run_more (negation f) rest =
+        ap (run truth (truth (first_of f)) 0) (append_assoc (steps_of f) (Invert ∷ []) rest) ∙ run_more f (Invert ∷ rest)
+    run_more (both f g) rest =
+        ap (run truth (truth (first_of f)) 0) (operands (steps_of f) (steps_of g) (IfTrue (first_of g) (length (steps_of g))) BothEnd rest)
+        ∙ run_more f (IfTrue (first_of g) (length (steps_of g)) ∷ (steps_of g ++ (BothEnd ∷ rest)))
+        ∙ on (holds truth f) (run_more g (BothEnd ∷ rest))
       where
-        on : (b : Bool) → run truth true 0 (steps_of g ++ (both_end ∷ rest)) ≡ run truth (holds truth g) 0 rest → run truth b 0 (unless_false (length (steps_of g)) ∷ (steps_of g ++ (both_end ∷ rest))) ≡ run truth (b && holds truth g) 0 rest
+        on : (b : Bool) → run truth (truth (first_of g)) 0 (steps_of g ++ (BothEnd ∷ rest)) ≡ run truth (holds truth g) 0 rest
+            → run truth b 0 (IfTrue (first_of g) (length (steps_of g)) ∷ (steps_of g ++ (BothEnd ∷ rest))) ≡ run truth (b && holds truth g) 0 rest
         on true more = more
-        on false more = run-skip false (steps_of g) (both_end ∷ rest)
-    run-more (either f g) now rest =
-        ap (run truth now 0) (operands (steps_of f) (steps_of g) (unless_true (length (steps_of g))) either_end rest)
-        ∙ run-more f now (unless_true (length (steps_of g)) ∷ (steps_of g ++ (either_end ∷ rest)))
-        ∙ on (holds truth f) (run-more g false (either_end ∷ rest))
+        on false more = run_skip false (steps_of g) (BothEnd ∷ rest)
+    run_more (either f g) rest =
+        ap (run truth (truth (first_of f)) 0) (operands (steps_of f) (steps_of g) (IfFalse (first_of g) (length (steps_of g))) EitherEnd rest)
+        ∙ run_more f (IfFalse (first_of g) (length (steps_of g)) ∷ (steps_of g ++ (EitherEnd ∷ rest)))
+        ∙ on (holds truth f) (run_more g (EitherEnd ∷ rest))
       where
-        on : (b : Bool) → run truth false 0 (steps_of g ++ (either_end ∷ rest)) ≡ run truth (holds truth g) 0 rest → run truth b 0 (unless_true (length (steps_of g)) ∷ (steps_of g ++ (either_end ∷ rest))) ≡ run truth (b || holds truth g) 0 rest
-        on true more = run-skip true (steps_of g) (either_end ∷ rest)
+        on : (b : Bool) → run truth (truth (first_of g)) 0 (steps_of g ++ (EitherEnd ∷ rest)) ≡ run truth (holds truth g) 0 rest
+            → run truth b 0 (IfFalse (first_of g) (length (steps_of g)) ∷ (steps_of g ++ (EitherEnd ∷ rest))) ≡ run truth (b || holds truth g) 0 rest
+        on true more = run_skip true (steps_of g) (EitherEnd ∷ rest)
         on false more = more
 
-    -- the steps of a formula are true where it is
-    pub run-holds : (f : Formula A) (now : Bool) → run truth now 0 (steps_of f) ≡ holds truth f
-    run-holds f now = ap (run truth now 0) (sym (append-nil (steps_of f))) ∙ run-more f now []
+    -- what is kept of a formula is true where it is
+    pub run_holds : (first : A) (steps : List (Step A)) → IsKept first steps → run truth (truth first) 0 steps ≡ holds truth (formula_in first steps)
+    run_holds first steps is =
+        let f = formula_in first steps in
+        ap (λ a. run truth (truth a) 0 steps) (sym is.test_is) ∙ ap (run truth (truth (first_of f)) 0) (sym is.steps_are ∙ sym (append-nil (steps_of f))) ∙ run_more f []

@@ -1,4 +1,5 @@
 pub mod Formulas
 pub mod FormulaCodes
 pub mod Steps
+pub mod Levels
 pub mod Written

@@ -1,4 +1,15 @@
 //! Formulas of tests with "and", "or" and "not", which `find` and SELECT share.
 //!
-//! Contracts see a formula as the tree of its tests. It stands on `gufi_base`; the crates of questions stand on it.
+//! Contracts see a formula as the tree of its tests, and what stands open while one is read as levels of such trees.
+//! It stands on `gufi_base`; the crates of questions stand on it, and say what is true of a test.
 #![tactic(auto)]
+
+mod formula;
+mod level;
+mod open_levels;
+mod step;
+mod valuation;
+
+pub use formula::Formula;
+pub use open_levels::OpenLevels;
+pub use valuation::Valuation;

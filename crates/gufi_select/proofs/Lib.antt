@@ -1,10 +1,8 @@
 mod Worked
 pub mod WordLemmas
 pub mod PartLemmas
-pub mod FormulaLemmas
 pub mod PatternLemmas
 pub mod RowLemmas
-pub mod LevelLemmas
 pub mod TokenLemmas
 pub mod ReadLemmas
 pub mod LineLemmas

@@ -4,7 +4,9 @@ use Rattle.std.specs.Prelude.{pos, negsuc, Option, Some, None, Ok}
 use Rattle.std.proofs.lemmas.Bool.Decides.{nat_tests}
 use Rattle.gufi_base.specs.Limits.{max_nesting}
 use Rattle.gufi_base.specs.Words.{◌>>=◌}
-use Rattle.gufi_formula.specs.Formulas.{Formula, test, Level, new_level, with_term, open_ones}
+use Rattle.gufi_formula.specs.declared.level.Level.{Level}
+use Rattle.gufi_formula.specs.Formulas.{Formula, test}
+use Rattle.gufi_formula.specs.Levels.{new_level, with_term, open_ones}
 use Rattle.gufi_formula.specs.Written.{of_or, EachTest, formula_nesting, written_formula}
 use Rattle.gufi_formula.proofs.ReadBack.{Place, before, behind, level_behind, Reads, read_back, whole_behind}
 use Rattle.gufi_select.specs.declared.column.Column.{Column}

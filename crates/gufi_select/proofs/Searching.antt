@@ -27,7 +27,7 @@ use Rattle.gufi_select.specs.contracts.regexp.RegexpSearch as regexp_search
 use Rattle.gufi_select.specs.contracts.regexp.RegexpSearch.TheInside as regexp_search_inside
 use Rattle.gufi_select.specs.contracts.select.SelectTester as tester
 use Rattle.gufi_select.specs.contracts.select.SelectTester.TheInside as tester_inside
-use Rattle.gufi_select.proofs.Sharing.{hirs_sync, signs_sync, program_sync, regex_sync, regex_row_sync, select_sync}
+use Rattle.gufi_select.proofs.Sharing.{hirs_sync, signs_sync, program_sync, regex_row_sync, select_sync}
 use Rattle.gufi_select.proofs.Sending.{column_send}
 
 branch_send : (κ : NamedLft) → IsSend (branch.the_field κ).row

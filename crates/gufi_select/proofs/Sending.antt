@@ -25,8 +25,7 @@ use Rattle.gufi_select.specs.contracts.column.Table as table
 use Rattle.gufi_select.specs.contracts.operator.Operator as operator
 use Rattle.gufi_select.specs.contracts.condition.Value as value
 use Rattle.gufi_select.specs.contracts.condition.Condition as condition
-use Rattle.gufi_select.specs.contracts.step.Step as step
-use Rattle.gufi_select.specs.contracts.formula.Formula as formula
+use Rattle.gufi_formula.proofs.formula.Formula.TheSendSync as formula
 use Rattle.gufi_select.specs.contracts.regexp.Regexp as regexp
 use Rattle.gufi_select.specs.contracts.select.Select as select
 
@@ -78,12 +77,6 @@ table_send = search sendable depth 30
 pub condition_send : IsSend (condition.the_field).row
 condition_send = search (column_send, operator_send, value_send, sendable) depth 20
 
-pub step_send : IsSend step.the_row
-step_send = search (condition_send, sendable) depth 20
-
-pub formula_send : IsSend formula.the_row
-formula_send = search (step_send, sendable, crosses) depth 20
-
 pub regexp_send : IsSend (regexp.the_field).row
 regexp_send = search (column_send, built_send, sendable) depth 20
 
@@ -91,4 +84,4 @@ pub columns_send : IsSend column.the_row
 columns_send = search (sendable, crosses) depth 20
 
 pub select_send : IsSend select.the_row
-select_send = search (columns_send, table_send, regexp_send, formula_send, sendable, crosses) depth 30 fits 8000
+select_send = search (columns_send, table_send, regexp_send, condition_send, formula.the_send, sendable, crosses) depth 30 fits 8000

@@ -26,8 +26,7 @@ use Rattle.gufi_select.specs.contracts.column.Table as table
 use Rattle.gufi_select.specs.contracts.operator.Operator as operator
 use Rattle.gufi_select.specs.contracts.condition.Value as value
 use Rattle.gufi_select.specs.contracts.condition.Condition as condition
-use Rattle.gufi_select.specs.contracts.step.Step as step
-use Rattle.gufi_select.specs.contracts.formula.Formula as formula
+use Rattle.gufi_formula.proofs.formula.Formula.TheSendSync as formula
 use Rattle.gufi_select.specs.contracts.regexp.Regexp as regexp
 use Rattle.gufi_select.specs.contracts.select.Select as select
 use Rattle.gufi_select.specs.contracts.select.SelectQuestion as question
@@ -80,12 +79,6 @@ table_sync = search sendable depth 30
 pub condition_sync : IsSync (condition.the_field).row
 condition_sync = search (column_sync, operator_sync, value_sync, sendable) depth 20
 
-pub step_sync : IsSync step.the_row
-step_sync = search (condition_sync, sendable) depth 20
-
-pub formula_sync : IsSync formula.the_row
-formula_sync = search (step_sync, sendable, crosses) depth 20
-
 pub regexp_sync : IsSync (regexp.the_field).row
 regexp_sync = search (column_sync, built_sync, sendable) depth 20
 
@@ -93,7 +86,7 @@ pub columns_sync : IsSync column.the_row
 columns_sync = search (sendable, crosses) depth 20
 
 pub select_sync : IsSync select.the_row
-select_sync = search (columns_sync, table_sync, regexp_sync, formula_sync, sendable, crosses) depth 30 fits 8000
+select_sync = search (columns_sync, table_sync, regexp_sync, condition_sync, formula.the_sync, sendable, crosses) depth 30 fits 8000
 
 -- and so may the question that it is
 pub question_sync : (κ : NamedLft) → IsSync (question.the_row κ)

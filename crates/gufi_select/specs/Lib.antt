@@ -1,7 +1,6 @@
 pub mod Patterns
 pub mod Columns
 pub mod Parts
-pub mod Kept
 pub mod Names
 pub mod Tokens
 pub mod Faults

@@ -1,7 +1,8 @@
 -- How a SELECT is read, from the left, and its first fault.
 use Rattle.std.specs.Prelude.{ℕ, Bool, true, false, not, List, [], ◌∷◌, ◌++◌, length, map, Option, Some, None, is_some, Result, Ok, Err, ok_or, if◌then◌else◌, pos, neg_ℤ}
 use Rattle.gufi_base.specs.Words.{is_empty, capped_number, ◌>>=◌, ◌>>◌, refuse}
-use Rattle.gufi_formula.specs.Formulas.{test, with_term, with_or, level_formula}
+use Rattle.gufi_formula.specs.Formulas.{test}
+use Rattle.gufi_formula.specs.Levels.{Levels, first_levels, with_term, with_or, level_formula}
 use Rattle.gufi_select.specs.declared.column.Column.{Column}
 use Rattle.gufi_select.specs.declared.column.Table.{Table}
 use Rattle.gufi_select.specs.declared.column.Table.TheVariants.{Rows}
@@ -23,7 +24,7 @@ use Rattle.gufi_select.specs.declared.token.Token.TheVariants as variants
 use Rattle.gufi_select.specs.declared.word.Keyword.TheVariants as words
 use Rattle.gufi_select.specs.declared.word.Word.TheVariants.{OfGrammar, OfColumn, OfTable, Unknown}
 use Rattle.gufi_select.specs.Columns.{is_text_column, Select}
-use Rattle.gufi_select.specs.Levels.{Levels, first_levels, negated, nested, closed}
+use Rattle.gufi_select.specs.Levels.{negated, nested, closed}
 use Rattle.gufi_select.specs.Names.{columns}
 use Rattle.gufi_select.specs.Patterns.{is_bad_pattern}
 use Rattle.gufi_select.specs.Tokens.{PlacedToken, tokens}
@@ -33,14 +34,14 @@ pub record SelectState : Type 0 where
   pub place : Place
   pub columns : List Column
   pub table : Table
-  pub levels : Levels
+  pub levels : Levels Condition
   pub regexp : Option Sought
 
 abbrev pub go : Place → SelectState → Result SelectState SelectKind
 go place s = Ok (record s { place = place })
 
 -- with what stands open then
-abbrev pub in_levels : Place → SelectState → Levels → SelectState
+abbrev pub in_levels : Place → SelectState → Levels Condition → SelectState
 in_levels place s levels = record s { place = place; levels = levels }
 
 -- ---- words that name a column or a table; a keyword isn't allowed in their place

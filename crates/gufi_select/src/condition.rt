@@ -8,6 +8,7 @@ ghost use Rattle.gufi_select.specs.Parts.{seen_parts, order_in, number_in};
 use crate::column::Column;
 use crate::operator::Operator;
 use gufi_base::{Bytes, RowRef};
+use gufi_formula::Valuation;
 use std::cmp::Ordering;
 
 /// A literal.
@@ -104,17 +105,24 @@ fn compares(
     }
 }
 
-impl Condition {
-    /// Whether it is true of a row in borrowed parts, where the REGEXP is true or not.
+/// A row in borrowed parts at its depth, and whether the REGEXP is true of it.
+#[derive(Drop)]
+pub(crate) struct SeenRow<'r> {
+    pub(crate) row: RowRef<'r>,
+    pub(crate) depth: u32,
+    pub(crate) found: bool,
+}
+
+impl<'r> Valuation<Condition> for SeenRow<'r> {
+    ghost truth = { λ s c. condition_holds s.found c (seen_parts s.row s.depth) };
+
     #[inline]
-    pub(crate) fn is_true(&self, row: RowRef<'_>, depth: u32, found: bool) -> bool
-        ensures { result ≡ condition_holds found self.now (seen_parts row.entry depth) }
-    {
-        match self {
+    fn is_true(&self, condition: &Condition) -> bool {
+        match condition {
             Condition::Compares(column, operator, literal) => {
-                compares(*column, *operator, literal, row, depth)
+                compares(*column, *operator, literal, self.row, self.depth)
             }
-            Condition::Finds => found,
+            Condition::Finds => self.found,
         }
     }
 }

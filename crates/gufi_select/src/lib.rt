@@ -7,10 +7,7 @@
 mod column;
 mod condition;
 mod fault;
-mod formula;
 mod laws;
-mod level;
-mod open_levels;
 mod operator;
 mod pattern;
 mod place;
@@ -19,7 +16,6 @@ mod reading;
 mod regexp;
 mod select;
 mod state;
-mod step;
 mod term;
 mod token;
 mod word;

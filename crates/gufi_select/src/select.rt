@@ -4,9 +4,10 @@ ghost use Rattle.gufi_select.specs.Columns.{holds_in, select_holds};
 ghost use Rattle.gufi_select.specs.Parts.{seen_parts};
 
 use crate::column::{Column, Table};
-use crate::formula::Formula;
+use crate::condition::{Condition, SeenRow};
 use crate::regexp::{Regexp, RegexpSearch};
 use gufi_base::{Memory, Pred, RowRef, Tester};
+use gufi_formula::Formula;
 use std::alloc::Global;
 use std::marker::Model;
 
@@ -16,7 +17,7 @@ pub struct Select {
     pub(crate) columns: Vec<Column>,
     table: Table,
     regexp: Option<Regexp>,
-    condition: Option<Formula>,
+    condition: Option<Formula<Condition>>,
 }
 
 impl Model for Select {
@@ -36,7 +37,7 @@ impl Select {
         columns: Vec<Column>,
         table: Table,
         regexp: Option<Regexp>,
-        condition: Option<Formula>,
+        condition: Option<Formula<Condition>>,
     ) -> Select
         ensures { result ≡ record { columns = columns.items; table = table; regexp = regexp; condition = condition } }
     {
@@ -126,11 +127,19 @@ impl<'s> SelectTester<'s> {
         let Some(condition) = &select.condition else {
             return Ok(true);
         };
-        let without = condition.is_true(row, depth, false);
+        let without = condition.is_true(&SeenRow {
+            row,
+            depth,
+            found: false,
+        });
         let Some(regexp) = &mut self.regexp else {
             return Ok(without);
         };
-        let with = condition.is_true(row, depth, true);
+        let with = condition.is_true(&SeenRow {
+            row,
+            depth,
+            found: true,
+        });
         if with == without {
             return Ok(with);
         }

@@ -1,19 +1,17 @@
 //! Reading token by token.
 ghost use Rattle.std.specs.Prelude.{◌≡◌, IfOk};
-ghost use Rattle.gufi_formula.specs.Formulas.{with_or};
-ghost use Rattle.gufi_select.specs.Levels.{Levels};
-ghost use Rattle.gufi_select.specs.Reading.{SelectState, select_start, column_named, table_named, all_columns, with_column, with_condition, in_levels, read_select_word, read_first_column, read_next_column, read_comma_or_from, read_from_word, read_table_name, read_where_or_end, may_end};
-ghost use Rattle.gufi_select.specs.States.{open_kept, state_kept};
+ghost use Rattle.gufi_select.specs.Reading.{select_start, column_named, table_named, all_columns, with_column, read_select_word, read_first_column, read_next_column, read_comma_or_from, read_from_word, read_table_name, read_where_or_end, may_end};
+ghost use Rattle.gufi_select.specs.States.{state_kept};
 ghost use Rattle.gufi_select.specs.TokenFaults.{Gives};
 
 use crate::column::{Column, Table};
 use crate::condition::Condition;
 use crate::fault::{SelectKind, TokenFault};
-use crate::open_levels::OpenLevels;
 use crate::place::Place;
 use crate::token::{Sign, Token};
 use crate::word::{Keyword, Word};
 use gufi_base::Bytes;
+use gufi_formula::OpenLevels;
 use std::alloc::{AllocError, Global};
 
 /// The REGEXP that was read: its pattern, and the offset of that.
@@ -30,7 +28,7 @@ pub(crate) struct State {
     pub(crate) place: Place,
     pub(crate) columns: Vec<Column>,
     pub(crate) table: Table,
-    pub(crate) levels: OpenLevels,
+    pub(crate) levels: OpenLevels<Condition>,
     pub(crate) regexp: Option<Sought>,
 }
 

@@ -19,7 +19,7 @@ impl State {
     fn with_condition(self, alloc: Global, condition: Condition) -> Result<State, AllocError>
         ensures { IfOk result (λ s. state_kept s ≡ with_condition (state_kept self) condition) }
     {
-        let levels = self.levels.with_condition(alloc, condition)?;
+        let levels = self.levels.with_test(alloc, condition)?;
         Ok(State {
             place: Place::Connective,
             columns: self.columns,
@@ -33,12 +33,14 @@ impl State {
     fn negated(self) -> Result<State, TokenFault>
         ensures { Gives state_kept result (read_term (state_kept self) (Token.Word (Word.OfGrammar Keyword.Not))) }
     {
-        let levels = self.levels.negated()?;
+        if self.levels.is_full() {
+            return Err(TokenFault::Kind(SelectKind::TooDeep));
+        }
         Ok(State {
             place: Place::Term,
             columns: self.columns,
             table: self.table,
-            levels,
+            levels: self.levels.with_not(),
             regexp: self.regexp,
         })
     }
@@ -47,6 +49,9 @@ impl State {
     fn nested(self) -> Result<State, TokenFault>
         ensures { Gives state_kept result (read_term (state_kept self) (Token.Sign Sign.Open)) }
     {
+        if self.levels.is_full() {
+            return Err(TokenFault::Kind(SelectKind::TooDeep));
+        }
         let levels = self.levels.nested()?;
         Ok(State {
             place: Place::Term,
@@ -191,7 +196,9 @@ impl State {
     fn closed(self) -> Result<State, TokenFault>
         ensures { Gives state_kept result (read_connective (state_kept self) (Token.Sign Sign.Close)) }
     {
-        let levels = self.levels.closed()?;
+        let Some(levels) = self.levels.closed()? else {
+            return Err(TokenFault::Kind(SelectKind::Unexpected));
+        };
         Ok(State {
             place: Place::Connective,
             columns: self.columns,

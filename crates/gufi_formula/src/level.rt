@@ -1,10 +1,10 @@
 //! What stands open since the last opening parenthesis.
-ghost use Rattle.std.specs.Prelude.{◌≡◌, ◌<◌, IfOk, nat_le};
-ghost use Rattle.std.specs.Bool.{OnFalse};
-ghost use Rattle.gufi_formula.specs.Formulas.{both, either, negation, new_level, joined_formula, negated_formula, with_term, with_or, with_not, level_formula, closed_into, open_ones};
-ghost use Rattle.gufi_find.specs.States.{level_kept, levels_kept};
+ghost use Rattle.std.specs.Prelude.{◌≡◌, ◌<◌, IfOk, nat_le, reverse};
+ghost use Rattle.gufi_base.specs.Limits.{max_nesting};
+ghost use Rattle.gufi_formula.specs.Formulas.{both, either};
+ghost use Rattle.gufi_formula.specs.Levels.{new_level, joined_formula, negated_formula, with_term, with_or, with_not, level_formula, closed_into, open_ones};
 
-use crate::condition::Condition;
+use crate::formula::Formula;
 use std::alloc::AllocError;
 
 /// How many constructs may be open.
@@ -12,13 +12,16 @@ const MAX_NESTING: usize = 64;
 
 /// The terms joined by "or", those joined by "and" behind them, and how many "not" wait for their term.
 #[derive(Drop)]
-pub(crate) struct Level {
-    ors: Option<Condition>,
-    ands: Option<Condition>,
+pub struct Level<T> {
+    ors: Option<Formula<T>>,
+    ands: Option<Formula<T>>,
     nots: usize,
 }
 
-fn joined_by_and(front: Option<Condition>, last: Condition) -> Result<Condition, AllocError>
+fn joined_by_and<T: Drop>(
+    front: Option<Formula<T>>,
+    last: Formula<T>,
+) -> Result<Formula<T>, AllocError>
     ensures { IfOk result (λ f. f ≡ joined_formula both front last) }
 {
     match front {
@@ -27,7 +30,10 @@ fn joined_by_and(front: Option<Condition>, last: Condition) -> Result<Condition,
     }
 }
 
-fn joined_by_or(front: Option<Condition>, last: Condition) -> Result<Condition, AllocError>
+fn joined_by_or<T: Drop>(
+    front: Option<Formula<T>>,
+    last: Formula<T>,
+) -> Result<Formula<T>, AllocError>
     ensures { IfOk result (λ f. f ≡ joined_formula either front last) }
 {
     match front {
@@ -36,21 +42,21 @@ fn joined_by_or(front: Option<Condition>, last: Condition) -> Result<Condition, 
     }
 }
 
-/// The condition behind so many "not".
+/// The formula behind so many "not".
 #[tactic(auto, using(crate::proofs::LevelLemmas::negated_more))]
-fn negated(nots: usize, condition: Condition) -> Result<Condition, AllocError>
-    ensures { IfOk result (λ f. f ≡ negated_formula nots condition) }
+fn negated<T: Drop>(nots: usize, formula: Formula<T>) -> Result<Formula<T>, AllocError>
+    ensures { IfOk result (λ f. f ≡ negated_formula nots formula) }
 {
-    let mut negated = condition;
+    let mut negated = formula;
     'nots: for _ in 0..nots {
         negated = negated.inverted()?;
     }
     Ok(negated)
 }
 
-impl Level {
-    pub(crate) fn new() -> Level
-        ensures { level_kept result ≡ new_level }
+impl<T: Drop> Level<T> {
+    pub(crate) fn new() -> Level<T>
+        ensures { result ≡ new_level }
     {
         Level {
             ors: None,
@@ -60,8 +66,8 @@ impl Level {
     }
 
     /// A term is complete.
-    pub(crate) fn with_term(self, term: Condition) -> Result<Level, AllocError>
-        ensures { IfOk result (λ level. level_kept level ≡ with_term term (level_kept self)) }
+    pub(crate) fn with_term(self, term: Formula<T>) -> Result<Level<T>, AllocError>
+        ensures { IfOk result (λ level. level ≡ with_term term self) }
     {
         let Level { ors, ands, nots } = self;
         let term = negated(nots, term)?;
@@ -74,8 +80,8 @@ impl Level {
     }
 
     /// Its formula, where it has a term.
-    pub(crate) fn formula(self) -> Result<Option<Condition>, AllocError>
-        ensures { IfOk result (λ f. f ≡ level_formula (level_kept self)) }
+    pub(crate) fn formula(self) -> Result<Option<Formula<T>>, AllocError>
+        ensures { IfOk result (λ f. f ≡ level_formula self) }
     {
         let Level { ors, ands, nots: _ } = self;
         match ands {
@@ -85,8 +91,8 @@ impl Level {
     }
 
     /// "or" behind it.
-    pub(crate) fn with_or(self) -> Result<Level, AllocError>
-        ensures { IfOk result (λ level. level_kept level ≡ with_or (level_kept self)) }
+    pub(crate) fn with_or(self) -> Result<Level<T>, AllocError>
+        ensures { IfOk result (λ level. level ≡ with_or self) }
     {
         let ors = self.formula()?;
         Ok(Level {
@@ -97,9 +103,9 @@ impl Level {
     }
 
     /// "not" behind it.
-    pub(crate) fn with_not(self) -> Level
+    pub(crate) fn with_not(self) -> Level<T>
         requires { self.nots < 64 }
-        ensures { level_kept result ≡ with_not (level_kept self) }
+        ensures { result ≡ with_not self }
     {
         Level {
             ors: self.ors,
@@ -109,8 +115,8 @@ impl Level {
     }
 
     /// A closing parenthesis completes a term of it.
-    pub(crate) fn closed_by(self, term: Option<Condition>) -> Result<Level, AllocError>
-        ensures { IfOk result (λ level. level_kept level ≡ closed_into term (level_kept self)) }
+    pub(crate) fn closed_by(self, term: Option<Formula<T>>) -> Result<Level<T>, AllocError>
+        ensures { IfOk result (λ level. level ≡ closed_into term self) }
     {
         match term {
             Some(term) => self.with_term(term),
@@ -119,10 +125,9 @@ impl Level {
     }
 }
 
-/// Whether as many constructs are open as may be.
-pub(crate) fn is_full(level: &Level, outer: &[Level]) -> bool
-    ensures value { result ≡ nat_le 64 (open_ones (level_kept level.now) (levels_kept outer.now)) }
-    ensures room { OnFalse result (level.now.nots < 64) }
+/// Whether as many constructs are open as may be, where the innermost level outside is the last.
+pub(crate) fn is_full<T>(level: &Level<T>, outer: &[Level<T>]) -> bool
+    ensures { result ≡ nat_le max_nesting (open_ones level.now (reverse outer.now)) }
 {
     let mut left = MAX_NESTING
         .saturating_sub(outer.len())

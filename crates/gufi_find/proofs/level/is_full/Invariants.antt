@@ -1,6 +1,0 @@
-use Rattle.std.proofs.Common.{◌≡◌, ◌-◌, length, take}
-use Rattle.std.specs.List.{sum_by}
-use Rattle.gufi_find.proofs.level.is_full.Given as goal
-
-abbrev pub invariant-levels : goal.invariant-levels
-invariant-levels l = l.left ≡ 64 - length l.outer - l.level.nots - sum_by (λ level. level.nots) (take l.other-index l.outer)

@@ -1,0 +1,99 @@
+//! Formulas of tests, kept as steps.
+use crate::step::{Step, run};
+use crate::valuation::Valuation;
+use std::alloc::{AllocError, Global};
+use std::marker::Model;
+
+/// A formula of tests, which contracts see as their tree. Its truth takes no memory, and no more steps than it has.
+#[derive(Drop)]
+pub struct Formula<T> {
+    first: T,
+    steps: Vec<Step<T>>,
+}
+
+impl<T> Model for Formula<T> {
+    ghost use Rattle.gufi_formula.specs.Formulas.{Formula as Tree};
+    ghost use Rattle.gufi_formula.specs.FormulaCodes.{formula_coded};
+
+    ghost Value = { Tree T };
+
+    ghost coded = { formula_coded T.code };
+
+    ghost use Rattle.gufi_formula.specs.Steps.{formula_in, IsKept};
+
+    ghost view = { λ f. formula_in f.first f.steps.items };
+
+    ghost invariant = { λ f. IsKept f.first f.steps.items };
+}
+
+impl<T: Drop> Formula<T> {
+    ghost use Rattle.std.specs.Prelude.{◌≡◌, IfOk};
+    ghost use Rattle.gufi_formula.specs.Formulas.{test as test_alone, negation, both, either};
+
+    /// That of one test.
+    #[tactic(auto, using(crate::proofs::Running::kept_test))]
+    pub fn of(alloc: Global, test: T) -> Formula<T>
+        ensures { result ≡ test_alone test }
+    {
+        Formula {
+            first: test,
+            steps: Vec::new(alloc),
+        }
+    }
+
+    /// Its negation.
+    #[tactic(auto, using(crate::proofs::Running::kept_negation))]
+    pub fn inverted(self) -> Result<Formula<T>, AllocError>
+        ensures { IfOk result (λ f. f ≡ negation self) }
+    {
+        let Formula { first, mut steps } = self;
+        steps.push(Step::Invert)?;
+        Ok(Formula { first, steps })
+    }
+
+    /// It and another.
+    #[tactic(auto, using(crate::proofs::Running::kept_both))]
+    pub fn and(self, other: Formula<T>) -> Result<Formula<T>, AllocError>
+        ensures { IfOk result (λ f. f ≡ both self other) }
+    {
+        let Formula { first, mut steps } = self;
+        let Formula {
+            first: second,
+            steps: mut more,
+        } = other;
+        steps.push(Step::IfTrue(second, more.len()))?;
+        steps.append(&mut more)?;
+        steps.push(Step::BothEnd)?;
+        Ok(Formula { first, steps })
+    }
+
+    /// It or another.
+    #[tactic(auto, using(crate::proofs::Running::kept_either))]
+    pub fn or(self, other: Formula<T>) -> Result<Formula<T>, AllocError>
+        ensures { IfOk result (λ f. f ≡ either self other) }
+    {
+        let Formula { first, mut steps } = self;
+        let Formula {
+            first: second,
+            steps: mut more,
+        } = other;
+        steps.push(Step::IfFalse(second, more.len()))?;
+        steps.append(&mut more)?;
+        steps.push(Step::EitherEnd)?;
+        Ok(Formula { first, steps })
+    }
+}
+
+impl<T> Formula<T> {
+    ghost use Rattle.std.specs.Prelude.{◌≡◌};
+    ghost use Rattle.gufi_formula.specs.Formulas.{holds};
+
+    /// Whether it is true where its tests have these truths.
+    #[tactic(auto, using(crate::proofs::Running::run_holds))]
+    pub fn is_true<V: Valuation<T>>(&self, valuation: &V) -> bool
+        ensures { result ≡ holds (V.truth valuation.now) self.now }
+    {
+        let first = valuation.is_true(&self.first);
+        run(self.steps.as_slice(), first, valuation)
+    }
+}
