@@ -1,8 +1,6 @@
 -- Twelve principals decide whether one directory covers another: the uids of the two and a fresh one, each with every set of the two groups.
-use Rattle.std.proofs.Common.{◌≡◌, ◌≢◌, ◌↔◌, ℕ, ◌<◌, ◌^◌, Bool, true, false, ◌==◌, List, [], ◌∷◌, sym, ◌∙◌, refl, inl, inr, arith, true≢false, not, ◌||◌, IsTrue}
-use Rattle.std.specs.Prelude.{All}
+use Rattle.std.proofs.Common.{◌≡◌, ◌≢◌, ◌↔◌, ℕ, Bool, true, false, ◌==◌, List, [], ◌∷◌, sym, ◌∙◌, refl, inl, inr, arith, true≢false, not, ◌||◌, IsTrue}
 use Rattle.std.proofs.lemmas.Bool.{cases_eq, eq-eqb, ne_eqb, or_right, and_parts, and_from}
-use Rattle.std.proofs.lemmas.List.Elements.{All-nil, All-cons}
 use Rattle.gufi_access.specs.declared.class.Principal.{Principal}
 use Rattle.gufi_access.specs.Access.{Rights, is_member, class_for, is_granted, can_list, Lists, Covers, principal}
 use Rattle.gufi_access.specs.Tried.{keeps, keeps_for, fresh_uid, covers}
@@ -98,44 +96,6 @@ pub tried_each : (d c : Rights) (u : ℕ) → Covers d c → KeepsFor u d c
 unfolding Covers KeepsFor
 tried_each d c u all =
     (all (principal u []), all (principal u (d.gid ∷ [])), all (principal u (c.gid ∷ [])), all (principal u (d.gid ∷ c.gid ∷ [])))
-
--- a number below 4 that is neither 0 nor one of these
-fresh_below : (a b : ℕ) → (n : ℕ) × (n ≢ 0) × (n ≢ a) × (n ≢ b) × (n < 4)
-fresh_below a b =
-    elim (cases_eq a 1) [
-      | inl a1 ↦ elim (cases_eq b 2) [
-        | inl b2 ↦ (3, omega arith, omega arith, omega arith, omega arith)
-        | inr b_else ↦ (2, omega arith, omega arith, λ e. b_else (sym e), omega arith)
-      ]
-      | inr a_else ↦ elim (cases_eq b 1) [
-        | inl b1 ↦ elim (cases_eq a 2) [
-          | inl a2 ↦ (3, omega arith, omega arith, omega arith, omega arith)
-          | inr a_other ↦ (2, omega arith, λ e. a_other (sym e), omega arith, omega arith)
-        ]
-        | inr b_else ↦ (1, omega arith, λ e. a_else (sym e), λ e. b_else (sym e), omega arith)
-      ]
-    ]
-
-keeps_small : (d c : Rights) → d.gid < 2 ^ 32 → c.gid < 2 ^ 32
-    → ((p : Principal) → p.uid < 2 ^ 32 → All (λ g. g < 2 ^ 32) p.groups → Lists p d → Lists p c)
-    → (u : ℕ) → u < 2 ^ 32 → KeepsFor u d c
-unfolding KeepsFor
-keeps_small d c d_gid c_gid small u u_small =
-    let P : ℕ → Type 0 = λ g. g < 2 ^ 32 in (
-      small (principal u []) u_small (All-nil P),
-      small (principal u (d.gid ∷ [])) u_small (All-cons P d.gid [] d_gid (All-nil P)),
-      small (principal u (c.gid ∷ [])) u_small (All-cons P c.gid [] c_gid (All-nil P)),
-      small (principal u (d.gid ∷ c.gid ∷ [])) u_small (All-cons P d.gid (c.gid ∷ []) d_gid (All-cons P c.gid [] c_gid (All-nil P))),
-    )
-
--- principals whose numbers fit 32 bits decide the same
-pub Covers-from_u32 : (d c : Rights) → d.uid < 2 ^ 32 → c.uid < 2 ^ 32 → d.gid < 2 ^ 32 → c.gid < 2 ^ 32
-    → ((p : Principal) → p.uid < 2 ^ 32 → All (λ g. g < 2 ^ 32) p.groups → Lists p d → Lists p c)
-    → Covers d c
-Covers-from_u32 d c d_uid c_uid d_gid c_gid small =
-    let each = keeps_small d c d_gid c_gid small in
-    let fresh = fresh_below d.uid c.uid in
-    tried_suffice d c fresh.0 fresh.1 fresh.2 fresh.3 (each d.uid d_uid) (each c.uid c_uid) (each fresh.0 (omega arith))
 
 keeps-from_test : (who : Principal) (d c : Rights) → keeps who d c ≡ true → Keeps who d c
 keeps-from_test who d c test listed = from_or (can_list who d) (can_list who c) test listed

@@ -45,9 +45,6 @@ may_search who of = is_granted who of 1
 unfoldable pub can_list : Principal → Rights → Bool
 can_list who of = is_granted who of 5
 
-abbrev pub Granted : Principal → Rights → ℕ → Type 0
-Granted who of want = IsTrue (is_granted who of want)
-
 abbrev pub Lists : Principal → Rights → Type 0
 Lists who of = IsTrue (can_list who of)
 

@@ -1,10 +1,9 @@
 -- A text cut at a byte: its parts, and those of two texts one after the other.
 use Rattle.std.proofs.Common.{◌≡◌, ℕ, Bool, true, false, cond, eqb, List, [], ◌∷◌, ◌++◌, refl, sym, ap, ◌∙◌}
-use Rattle.std.specs.List.{onto_first, list_all}
+use Rattle.std.specs.List.{onto_first}
 use Rattle.std.proofs.lemmas.Bool.{cond-false, and_parts, and_from, not-true, not_from_false, eqb-true}
-use Rattle.std.proofs.lemmas.List.{append-nil}
 use Rattle.gufi_base.specs.Words.{split, all_but_last, last_of}
-use Rattle.gufi_base.proofs.Parts.{closed_by, has_no, split_first}
+use Rattle.gufi_base.proofs.Parts.{closed_by, has_no}
 
 pub split_behind : (s : ℕ) (rest bytes p : List ℕ) (ps : List (List ℕ)) → has_no s rest ≡ true → split s bytes ≡ p ∷ ps → split s (rest ++ bytes) ≡ (rest ++ p) ∷ ps
 split_behind s [] bytes p ps h e = e
@@ -57,19 +56,6 @@ pub all_but_last_and_last : {A : Type 0} (d x : A) (xs : List A) → all_but_las
 all_but_last_and_last d x [] = refl
 all_but_last_and_last d x (next ∷ xs) = ap (λ rest. x ∷ rest) (all_but_last_and_last x next xs)
 
-front_cond : (s b : ℕ) (t : Bool) (ps : List (List ℕ)) → eqb b s ≡ t → list_all (has_no s) (all_but_last ps) ≡ true → list_all (has_no s) (all_but_last (cond t ([] ∷ ps) (onto_first b ps))) ≡ true
-front_cond s b true [] e h = refl
-front_cond s b true (p ∷ ps) e h = and_from _ _ refl h
-front_cond s b false [] e h = refl
-front_cond s b false (p ∷ []) e h = refl
-front_cond s b false (p ∷ q ∷ ps) e h =
-    let both = and_parts _ _ h in
-    and_from _ _ (and_from _ _ (not_from_false _ e) both.0) both.1
-
-pub front_has_no : (s : ℕ) (bytes : List ℕ) → list_all (has_no s) (all_but_last (split s bytes)) ≡ true
-front_has_no s [] = refl
-front_has_no s (b ∷ bytes) = front_cond s b (eqb b s) (split s bytes) refl (front_has_no s bytes)
-
 close_cond : (s b : ℕ) (bytes : List ℕ) (t : Bool) (ps : List (List ℕ)) → eqb b s ≡ t → (ps ≡ [] → ⊥) → closed_by s (all_but_last ps) ++ last_of [] ps ≡ bytes
     → closed_by s (all_but_last (cond t ([] ∷ ps) (onto_first b ps))) ++ last_of [] (cond t ([] ∷ ps) (onto_first b ps)) ≡ b ∷ bytes
 close_cond s b bytes t [] e some h = absurd (some refl)
@@ -81,13 +67,3 @@ close_cond s b bytes false (p ∷ q ∷ ps) e some h = ap (λ (x : List ℕ). b 
 pub close_split : (s : ℕ) (bytes : List ℕ) → closed_by s (all_but_last (split s bytes)) ++ last_of [] (split s bytes) ≡ bytes
 close_split s [] = refl
 close_split s (b ∷ bytes) = close_cond s b bytes (eqb b s) (split s bytes) refl (split_some s bytes) (close_split s bytes)
-
-last_ended : (s : ℕ) (front : List ℕ) → last_of [] (split s (front ++ s ∷ [])) ≡ []
-last_ended s front =
-    ap (last_of []) (split_append s front (s ∷ []) ∙ ap (λ (ps : List (List ℕ)). all_but_last (split s front) ++ ps) (split_first s (last_of [] (split s front)) [] (last_has_no s front)))
-    ∙ last_of-append [] (all_but_last (split s front)) (last_of [] (split s front)) ([] ∷ [])
-
--- a text that ends with the byte is its parts, each with the byte behind it
-pub ended_closed : (s : ℕ) (front : List ℕ) → closed_by s (all_but_last (split s (front ++ s ∷ []))) ≡ front ++ s ∷ []
-ended_closed s front =
-    sym (append-nil (closed_by s (all_but_last (split s (front ++ s ∷ []))))) ∙ ap (λ (r : List ℕ). closed_by s (all_but_last (split s (front ++ s ∷ []))) ++ r) (sym (last_ended s front)) ∙ close_split s (front ++ s ∷ [])

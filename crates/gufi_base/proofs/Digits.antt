@@ -1,16 +1,16 @@
 -- Reading the digits of a number from the left.
-use Rattle.std.proofs.Common.{◌≡◌, ℕ, suc, ◌+◌, ◌*◌, ◌^◌, ◌<◌, ◌≤◌, true, false, cond, eqb, List, [], ◌∷◌, ◌++◌, length, get_or, take, drop, Option, Some, None, pos, neg_ℤ, refl, sym, ap, ◌∙◌, arith, ⊎_elim}
-use Rattle.std.specs.Prelude.{not, nat_lt, option_map}
+use Rattle.std.proofs.Common.{◌≡◌, ℕ, suc, ◌+◌, ◌*◌, ◌^◌, ◌<◌, ◌≤◌, true, false, cond, eqb, List, [], ◌∷◌, ◌++◌, length, get_or, take, drop, Some, None, refl, sym, ap, ◌∙◌, arith, ⊎_elim}
+use Rattle.std.specs.Prelude.{not, nat_lt}
 use Rattle.std.specs.List.{list_all}
 use Rattle.std.specs.Char.{is_digit, digit_value}
-use Rattle.std.specs.Str.Parse.{digits_value, digits_value_after, starts_with_minus}
+use Rattle.std.specs.Str.Parse.{digits_value, digits_value_after}
 use Rattle.std.proofs.Math.Nat.{mul-le-mul_left, pow-le-pow_right, pow-suc}
-use Rattle.std.proofs.lemmas.Bool.{cond-false, lt-ltb, le-ltb, and_right, and_from, and_parts, not_from_false, cases_Bool, eqb-true, false≢true}
+use Rattle.std.proofs.lemmas.Bool.{lt-ltb, le-ltb, and_right, and_from, and_parts, not_from_false, cases_Bool, eqb-true, false≢true}
 use Rattle.std.proofs.lemmas.List.{take-append-drop, drop_more, length-take}
 use Rattle.std.proofs.lemmas.List.Folds.{list_all_more}
 use Rattle.std.proofs.lemmas.Int.Digits.{digits_value_more}
 use Rattle.gufi_base.specs.Words.{is_empty, split}
-use Rattle.gufi_base.specs.Numbers.{is_numeral, read_below, read_i64, NumberBefore}
+use Rattle.gufi_base.specs.Numbers.{read_below, NumberBefore}
 use Rattle.gufi_base.proofs.Parts.{has_no, split_first}
 
 -- n is what the digits before the rest write
@@ -88,19 +88,3 @@ ReadsFront-done s text n at b low within is h other end some =
       first = ap (split s) (cut_at text at within ∙ ap (λ k. take at text ++ k ∷ drop (at + 1) text) here) ∙ split_first s (take at text) (drop (at + 1) text) (digits_have_no s (take at text) (ap (λ c. is_digit c 10) (sym end) ∙ other) h.tested);
       within = within;
     }
-
-pub numeral_below : (bytes : List ℕ) (n limit : ℕ) → is_numeral 10 bytes ≡ true → n ≡ digits_value 10 bytes → n < limit → read_below 10 limit bytes ≡ Some n
-numeral_below bytes n limit numeral value small =
-    let test = and_from _ _ numeral (ap (λ k. nat_lt k limit) (sym value) ∙ lt-ltb n limit small) in
-    ap (λ t. cond t (Some (digits_value 10 bytes)) None) test ∙ ap Some (sym value)
-
-no_minus : (bytes : List ℕ) → is_numeral 10 bytes ≡ true → starts_with_minus bytes ≡ false
-no_minus [] h = absurd cc
-no_minus (b ∷ bytes) h =
-    let all : list_all (λ c. is_digit c 10) (b ∷ bytes) ≡ true = (and_parts (not (is_empty (b ∷ bytes))) (list_all (λ c. is_digit c 10) (b ∷ bytes)) h).1 in
-    let digit : is_digit b 10 ≡ true = (and_parts _ _ all).0 in
-    ⊎_elim (λ (t : eqb b 45 ≡ true). absurd (false≢true (ap (λ c. is_digit c 10) (sym (eqb-true b 45 t)) ∙ digit))) (λ f. f) (cases_Bool (eqb b 45))
-
-pub numeral_time : (bytes : List ℕ) (n : ℕ) → is_numeral 10 bytes ≡ true → n ≡ digits_value 10 bytes → n < 10 ^ 18 → read_i64 bytes ≡ Some (pos n)
-numeral_time bytes n numeral value small =
-    cond-false (starts_with_minus bytes) (option_map (λ n. neg_ℤ (pos n)) (read_below 10 (2 ^ 63 + 1) (drop 1 bytes))) (option_map pos (read_below 10 (2 ^ 63) bytes)) (no_minus bytes numeral) ∙ ap (λ (o : Option ℕ). option_map pos o) (numeral_below bytes n (2 ^ 63) numeral value (omega arith))

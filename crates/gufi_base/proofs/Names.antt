@@ -48,10 +48,6 @@ IsText-kept_text path h =
     let e = names-kept_text path h in
     record { whole = ap kept_text e; each = ap (list_all is_name) e ∙ h }
 
--- what of the texts of names holds, holds of a kept text
-pub by_names : (P : List ℕ → Components → Type 0) → ((path : Components) → list_all is_name path ≡ true → P (kept_text path) path) → (text : List ℕ) → IsText text → P text (names text)
-by_names P h text is = subst (λ (t : List ℕ). P t (names text)) is.whole (h (names text) is.each)
-
 -- the same texts have the same names
 pub kept_text-injective : (p q : Components) → list_all is_name p ≡ true → list_all is_name q ≡ true → kept_text p ≡ kept_text q → p ≡ q
 kept_text-injective p q h k e = sym (names-kept_text p h) ∙ ap names e ∙ names-kept_text q k

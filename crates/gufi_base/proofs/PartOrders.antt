@@ -1,12 +1,11 @@
 -- The order of two paths, by their stems and base names.
-use Rattle.std.proofs.Common.{◌≡◌, ◌≢◌, ◌⊎◌, ℕ, ◌<◌, ◌≤◌, true, false, eqb, List, [], ◌∷◌, ◌++◌, length, take, drop, get_or, refl, sym, ap, ◌∙◌, arith, ⊎_elim, length-append}
+use Rattle.std.proofs.Common.{◌≡◌, ◌≢◌, ℕ, ◌<◌, ◌≤◌, true, false, eqb, List, [], ◌∷◌, ◌++◌, length, take, drop, get_or, refl, sym, ap, ◌∙◌, arith, ⊎_elim, length-append}
 use Rattle.std.specs.declared.cmp.Ordering.{Ordering}
 use Rattle.std.specs.declared.cmp.Ordering.TheVariants.{Less, Equal, Greater}
 use Rattle.std.specs.Ordering.{nat_cmp, ordering_then}
 use Rattle.std.specs.Cmp.Lexicographic.{slice_cmp}
 use Rattle.std.specs.List.{list_all}
 use Rattle.std.proofs.lemmas.Bool.{and_parts, not-true, cases_Bool, eqb-true}
-use Rattle.std.proofs.lemmas.Bool.Decides.{nat_tests}
 use Rattle.std.proofs.lemmas.List.{take-append-le, drop-append-le, get_or_append_left, length-drop}
 use Rattle.gufi_base.specs.Names.{is_name}
 use Rattle.gufi_base.specs.Paths.{Components, slashed_text, path_cmp, parent_path, base_name}
@@ -136,19 +135,3 @@ one_directory f l m (x ∷ p) q a b =
     let some : 0 < length f = omega (arith, ap length a.stem, length-append (slashed_text (parent_path (x ∷ p))) (47 ∷ [])) in
     let end : length (drop (length f) f) ≡ 0 = omega (arith, length-drop (length f) f) in
     one_stem (length f) f l f m (x ∷ p) q (IsCut-parts f l (x ∷ p) a some) (IsCut-parts f m q b some) refl (omega arith) (omega arith) end end
-
--- the root is before all others
-pub with_root : (f l g m : List ℕ) (p q : Components) → ArePartsOf f l p → ArePartsOf g m q → (length f ≡ 0) ⊎ (length g ≡ 0) → nat_cmp (length f) (length g) ≡ path_cmp p q
-with_root f l g m [] [] a b h = ap (λ (t : List ℕ). nat_cmp (length t) (length g)) a.stem ∙ ap (λ (t : List ℕ). nat_cmp 0 (length t)) b.stem
-with_root f l g m [] (y ∷ q) a b h =
-    let none : length f ≡ 0 = ap length a.stem in
-    let some : 0 < length g = omega (arith, ap length b.stem, length-append (slashed_text (parent_path (y ∷ q))) (47 ∷ [])) in
-    grind (arith, nat_tests, none, some)
-with_root f l g m (x ∷ p) [] a b h =
-    let none : length g ≡ 0 = ap length b.stem in
-    let some : 0 < length f = omega (arith, ap length a.stem, length-append (slashed_text (parent_path (x ∷ p))) (47 ∷ [])) in
-    grind (arith, nat_tests, none, some)
-with_root f l g m (x ∷ p) (y ∷ q) a b h =
-    let some : 0 < length f = omega (arith, ap length a.stem, length-append (slashed_text (parent_path (x ∷ p))) (47 ∷ [])) in
-    let other : 0 < length g = omega (arith, ap length b.stem, length-append (slashed_text (parent_path (y ∷ q))) (47 ∷ [])) in
-    ⊎_elim (λ e. absurd (omega (arith, e))) (λ e. absurd (omega (arith, e))) h

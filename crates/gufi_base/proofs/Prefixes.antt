@@ -1,17 +1,16 @@
 -- The order of paths, and what leads to what.
-use Rattle.std.proofs.Common.{◌≡◌, ℕ, suc, length, drop, true, false, ◌&&◌, List, [], ◌∷◌, ◌++◌, refl, sym, ap, ◌∙◌, inl, inr, arith}
-use Rattle.std.specs.Prelude.{bytes_eq, nat_lt, ◌⊎◌}
+use Rattle.std.proofs.Common.{◌≡◌, ℕ, length, drop, true, false, ◌&&◌, List, [], ◌∷◌, ◌++◌, refl, sym, ap, ◌∙◌, inl, inr}
+use Rattle.std.specs.Prelude.{bytes_eq, ◌⊎◌}
 use Rattle.std.specs.declared.cmp.Ordering.{Ordering}
 use Rattle.std.specs.declared.cmp.Ordering.TheVariants.{Less, Equal, Greater}
-use Rattle.std.specs.Ordering.{nat_cmp, ordering_then, ordering_reverse, is_eq, is_lt}
+use Rattle.std.specs.Ordering.{nat_cmp, ordering_then, is_eq}
 use Rattle.std.specs.Cmp.{IsTotalOrder}
 use Rattle.std.specs.Cmp.Lexicographic.{slice_cmp}
 use Rattle.std.proofs.lemmas.Bool.{true≢false, false≢true, and_parts, and_from}
-use Rattle.std.proofs.lemmas.Bool.Decides.{nat_tests}
 use Rattle.std.proofs.lemmas.Cmp.{tied_itself, nat_list_cmp_total, lists_total}
 use Rattle.std.proofs.lemmas.Map.Text.{is_eq-slice_cmp}
 use Rattle.std.proofs.lemmas.Slice.Eq.{bytes_eq-Decides}
-use Rattle.gufi_base.specs.Paths.{Components, path_cmp, is_prefix, is_proper_prefix}
+use Rattle.gufi_base.specs.Paths.{Components, path_cmp, is_prefix}
 use Rattle.gufi_base.specs.Rows.{row_cmp}
 
 abbrev pub name_order : List ℕ → List ℕ → Ordering
@@ -30,24 +29,6 @@ rows_total = record {
 -- names that the order holds equal
 names_tied : (m n : List ℕ) → name_order m n ≡ Equal → bytes_eq m n ≡ true
 names_tied m n e = sym (is_eq-slice_cmp m n) ∙ ap is_eq e
-
-tied_names : (m n : List ℕ) → bytes_eq m n ≡ true → name_order m n ≡ Equal
-tied_names m n e = by (name_order m n) (is_eq-slice_cmp m n ∙ e)
-  where
-    by : (o : Ordering) → is_eq o ≡ true → o ≡ Equal
-    by Less h = absurd (false≢true h)
-    by Equal h = refl
-    by Greater h = absurd (false≢true h)
-
--- one name behind the same path
-pub path_cmp-append : (path rest other : Components) → path_cmp (path ++ rest) (path ++ other) ≡ path_cmp rest other
-path_cmp-append [] rest other = refl
-path_cmp-append (n ∷ path) rest other = ap (λ o. ordering_then o (path_cmp (path ++ rest) (path ++ other))) (tied_itself nat_list_cmp_total n) ∙ path_cmp-append path rest other
-
--- a path stands before what lies below it
-pub below_stands_after : (path : Components) (name : List ℕ) (rest : Components) → path_cmp path (path ++ name ∷ rest) ≡ Less
-below_stands_after [] name rest = refl
-below_stands_after (n ∷ path) name rest = ap (λ o. ordering_then o (path_cmp path (path ++ name ∷ rest))) (tied_itself nat_list_cmp_total n) ∙ below_stands_after path name rest
 
 -- a path that leads to another doesn't stand behind it
 pub prefix_stands_before : (path other : Components) → is_prefix path other ≡ true → path_cmp other path ≡ Less → ⊥
@@ -85,48 +66,6 @@ prefix_of_child (f ∷ front) (n ∷ path) name h =
       | inl e ↦ inl (ap (λ x. x ∷ front) same ∙ ap (λ xs. n ∷ xs) e)
       | inr p ↦ inr (and_from _ _ both.0 p)
     ]
-
--- paths that the order holds equal lead to each other
-pub tied_paths : (path other : Components) → path_cmp other path ≡ Equal → is_prefix path other ≡ true
-tied_paths [] other e = refl
-tied_paths (n ∷ path) [] e = cc
-tied_paths (n ∷ path) (m ∷ other) e = by (name_order m n) refl e (λ g. tied_paths path other g)
-  where
-    by : (o : Ordering) → name_order m n ≡ o → ordering_then o (path_cmp other path) ≡ Equal → (path_cmp other path ≡ Equal → is_prefix path other ≡ true) → is_prefix (n ∷ path) (m ∷ other) ≡ true
-    by Less q g ih = cc
-    by Equal q g ih = and_from _ _ (names_tied n m (paths_turned n m q)) (ih g)
-      where
-        paths_turned : (n m : List ℕ) → name_order m n ≡ Equal → name_order n m ≡ Equal
-        paths_turned n m q = nat_list_cmp_total.antisymm n m ∙ ap ordering_reverse q
-    by Greater q g ih = cc
-
-some_behind : (n : ℕ) → nat_lt 0 (suc n) ≡ false → ⊥
-some_behind n h = grind (arith, nat_tests)
-
-fewer_by_one : (a b : ℕ) → nat_lt a b ≡ nat_lt (suc a) (suc b)
-fewer_by_one a b = grind (arith, nat_tests)
-
--- one name more stands where the path itself stands to what doesn't go on from it
-pub child_stands : (path other : Components) (name : List ℕ) → is_proper_prefix path other ≡ false → is_lt (path_cmp (path ++ name ∷ []) other) ≡ is_lt (path_cmp path other)
-child_stands [] [] name h = refl
-child_stands [] (m ∷ other) name h = absurd (some_behind (length other) h)
-child_stands (n ∷ path) [] name h = refl
-child_stands (n ∷ path) (m ∷ other) name h = by (name_order n m) refl (λ k. child_stands path other name k)
-  where
-    fewer : bytes_eq n m ≡ true → is_proper_prefix path other ≡ false
-    fewer e =
-        ap (λ b. is_prefix path other && b) (fewer_by_one (length path) (length other))
-        ∙ sym (ap (λ b. b && is_prefix path other && nat_lt (suc (length path)) (suc (length other))) e) ∙ h
-
-    by : (o : Ordering) → name_order n m ≡ o → (is_proper_prefix path other ≡ false → is_lt (path_cmp (path ++ name ∷ []) other) ≡ is_lt (path_cmp path other))
-        → is_lt (ordering_then (name_order n m) (path_cmp (path ++ name ∷ []) other)) ≡ is_lt (ordering_then (name_order n m) (path_cmp path other))
-    by Less q ih = rw q refl
-    by Equal q ih = rw q (ih (fewer (names_tied n m q)))
-    by Greater q ih = rw q refl
-
--- one name more stands to what goes on as the names do
-pub child_goes_on : (path : Components) (name next : List ℕ) (more : Components) → path_cmp (path ++ name ∷ []) (path ++ next ∷ more) ≡ ordering_then (name_order name next) (path_cmp [] more)
-child_goes_on path name next more = path_cmp-append path (name ∷ []) (next ∷ more)
 
 -- what is left behind a prefix
 pub front_and_rest : (front path : Components) → is_prefix front path ≡ true → path ≡ front ++ drop (length front) path

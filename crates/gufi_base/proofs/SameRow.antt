@@ -1,13 +1,10 @@
--- The parts of a row determine it: its path is found again from the text before the base name, and the base name.
-use Rattle.std.proofs.Common.{◌≡◌, ℕ, List, [], ◌∷◌, ◌++◌, true, refl, sym, ◌∙◌, ap}
+-- The path of a row is found again from the text before its base name, and the base name.
+use Rattle.std.proofs.Common.{◌≡◌, ℕ, List, [], ◌∷◌, ◌++◌, true, refl, ◌∙◌, ap}
 use Rattle.std.specs.List.{list_all}
-use Rattle.gufi_base.specs.declared.record.Row.{Row}
-use Rattle.gufi_base.specs.declared.record.RowRef.{RowRef}
 use Rattle.gufi_base.specs.Names.{is_name}
 use Rattle.gufi_base.specs.Paths.{Components, parent_path, base_name, stem}
 use Rattle.gufi_base.specs.PathTexts.{kept_text}
 use Rattle.gufi_base.specs.PathLists.{path_of_parts}
-use Rattle.gufi_base.specs.Rows.{Stands}
 use Rattle.gufi_base.proofs.Cuts.{all_but_last_and_last}
 use Rattle.gufi_base.proofs.Names.{names-kept_text}
 use Rattle.gufi_base.proofs.Texts.{slashed_text-closed, parent_named}
@@ -20,14 +17,3 @@ parts_again [] named = refl
 parts_again (name ∷ path) named =
     kept_again (parent_path (name ∷ path)) (base_name (name ∷ path)) (stem (name ∷ path)) (parent_named (name ∷ path) named) (slashed_text-closed (parent_path (name ∷ path)))
     ∙ all_but_last_and_last (47 ∷ []) name path
-
--- No two rows have the same parts.
-pub same_row : (ref : RowRef) (a b : Row) → Stands ref a → Stands ref b → a ≡ b
-same_row ref a b x y = λ i. record { path = paths i; rec = record { meta = (sym x.meta ∙ y.meta) i; link = (sym x.link ∙ y.link) i } }
-  where
-    paths : a.path ≡ b.path
-    paths =
-        sym (parts_again a.path x.names)
-        ∙ ap (λ stem. path_of_parts stem (base_name a.path)) (sym x.stem ∙ y.stem)
-        ∙ ap (path_of_parts (stem b.path)) (sym x.base ∙ y.base)
-        ∙ parts_again b.path y.names

@@ -56,14 +56,6 @@ last_name (name ∷ path) text e h long =
 pub LastName-text : (text : List ℕ) → IsText text → 1 < length text → LastName text (names text)
 LastName-text text is long = last_name (names text) text is.whole is.each long
 
-root_names : (path : Components) (text : List ℕ) → kept_text path ≡ text → length text ≤ 1 → path ≡ []
-root_names [] text e short = refl
-root_names ([] ∷ path) text e short = absurd (omega (arith, ap length e))
-root_names ((b ∷ name) ∷ path) text e short = absurd (omega (arith, ap length e))
-
-pub names-root : (text : List ℕ) → IsText text → length text ≤ 1 → names text ≡ []
-names-root text is short = root_names (names text) text is.whole short
-
 -- where the last name begins: the loop that looks for the slash before it
 no_slash_at : (name : List ℕ) (i : ℕ) → has_no 47 name ≡ true → i < length name → get_or name i 0 ≡ 47 → ⊥
 no_slash_at [] i h lt e = absurd (omega arith)

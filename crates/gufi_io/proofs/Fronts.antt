@@ -1,14 +1,10 @@
 -- Lemmas on fronts that were taken.
-use Rattle.std.proofs.Common.{ℕ, List, [], ◌++◌, take, drop, sym, ap, ◌∙◌, append_assoc, append-nil, refl, subst}
+use Rattle.std.proofs.Common.{ℕ, List, ◌++◌, take, drop, sym, ap, ◌∙◌, append_assoc}
 use Rattle.std.specs.Prelude.{Option}
 use Rattle.std.proofs.lemmas.List.{take-append-drop}
 use Rattle.std.specs.Io.KnownBytes.{Appends}
-use Rattle.std.proofs.KnownBytes.{Appends-nil, Appends-trans}
+use Rattle.std.proofs.KnownBytes.{Appends-trans}
 use Rattle.gufi_io.specs.Files.{TakesUpTo}
-
--- at first nothing is taken
-pub TakesUpTo-start : (a : Option (List ℕ)) (bytes : List ℕ) → TakesUpTo a a bytes bytes
-TakesUpTo-start a bytes = record { front = []; parts = refl; taken = Appends-nil a }
 
 -- n more bytes of the rest were taken
 pub TakesUpTo-more : (a b c : Option (List ℕ)) (bytes rest : List ℕ) (n : ℕ) → TakesUpTo a b bytes rest → Appends b c (take n rest) → TakesUpTo a c bytes (drop n rest)
@@ -17,7 +13,3 @@ TakesUpTo-more a b c bytes rest n upto more = record {
   parts = upto.parts ∙ ap (λ l. upto.front ++ l) (sym (take-append-drop n rest)) ∙ sym (append_assoc upto.front (take n rest) (drop n rest));
   taken = Appends-trans a b c upto.front (take n rest) upto.taken more;
 }
-
--- with nothing left all was taken
-pub TakesUpTo-all : (a b : Option (List ℕ)) (bytes : List ℕ) → TakesUpTo a b bytes [] → Appends a b bytes
-TakesUpTo-all a b bytes upto = subst (Appends a b) (sym (upto.parts ∙ append-nil upto.front)) upto.taken

@@ -135,10 +135,6 @@ module _ (lines : List Line) (stored : List Stored) (places : List ℕ) (distinc
     empty = λ e. absurd cc;
   }
 
--- an entry more
-abbrev pub entry_line : Begun → Placed → Line
-entry_line b x = placed_line b.path x
-
 more_is : (stored : List Stored) (places : List ℕ) (b : Begun) (entries : List Placed) (x : Placed) → lines_in stored places (Some b) (entries ++ x ∷ []) ≡ lines_in stored places (Some b) entries ++ placed_line b.path x ∷ []
 more_is stored places b entries x =
     ap (λ (ls : List Line). sort_by line_cmp (zip_lines places (rows_of stored)) ++ begun_line b ∷ ls) (map_push (placed_line b.path) entries x)

@@ -4,7 +4,7 @@ use Rattle.std.specs.Prelude.{MatchOption, cond}
 use Rattle.std.specs.Ordering.{is_lt}
 use Rattle.std.specs.List.{list_any, list_all}
 use Rattle.std.specs.List.Sorted.{IsPermutation}
-use Rattle.std.proofs.lemmas.Bool.{and_parts, and_from, false_from_ne_true, not_from_false, or_right, not-true}
+use Rattle.std.proofs.lemmas.Bool.{and_parts, and_from, false_from_ne_true, not_from_false, or_right}
 use Rattle.std.proofs.lemmas.List.{get_or-map, length-map, append_assoc, map_push}
 use Rattle.std.proofs.lemmas.List.Folds.{list_all-append, Any-from_list_any}
 use Rattle.std.proofs.lemmas.List.Quantifiers.{position-Some}
@@ -31,9 +31,6 @@ no_place tree path up e = false_from_ne_true (has_dir tree path) (λ h.
 some_path : (p : Components) → (p ≡ [] → ⊥) → is_empty p ≡ false
 some_path [] some = absurd (some refl)
 some_path (n ∷ p) some = refl
-
-pub no_home : (tree : List Directory) (path : Components) → path ≡ [] → (is_empty path || not (has_dir tree (parent_path path))) ≡ true
-no_home tree path e = rw e refl
 
 pub home_is : (stored : List Stored) (path : Components) (r : Option ℕ) → AreInOrder stored → (path ≡ [] → ⊥) → r ≡ place_of (directories_of stored) (parent_path path)
     → MatchOption r ((is_empty path || not (has_dir (directories_of stored) (parent_path path))) ≡ true)
@@ -73,17 +70,6 @@ AreInOrder-same xs ys e h = ascends-paths xs ∙ ap (ascends path_cmp) e ∙ sym
 
 pub has_home-same : (xs ys : List Stored) (line : Line) → paths_of xs ≡ paths_of ys → has_home (directories_of xs) line ≡ has_home (directories_of ys) line
 has_home-same xs ys line e = ap (λ b. not (is_dir_line line) && (not (is_empty line.path) && b)) (has_dir-same xs ys (parent_path line.path) e)
-
--- where a line has a home, it isn't without one
-pub homeless : (tree : List Directory) (line : Line) → (is_empty line.path || not (has_dir tree (parent_path line.path))) ≡ true → has_home tree line ≡ true → ⊥
-homeless tree line h k =
-    let both = and_parts (not (is_dir_line line)) (not (is_empty line.path) && has_dir tree (parent_path line.path)) k in
-    let rest = and_parts (not (is_empty line.path)) (has_dir tree (parent_path line.path)) both.1 in
-    let no : (false || not true) ≡ true = rw (not-true (is_empty line.path) rest.0, rest.1) at h in
-    cc
-
-pub home_entry : (tree : List Directory) (line : Line) → has_home tree line ≡ true → is_dir_line line ≡ false
-home_entry tree line k = not-true (is_dir_line line) (and_parts (not (is_dir_line line)) (not (is_empty line.path) && has_dir tree (parent_path line.path)) k).0
 
 pub home_parts : (tree : List Directory) (lines : List Line) (line : Line) → list_all (has_home tree) (lines ++ line ∷ []) ≡ true → (list_all (has_home tree) lines ≡ true) × (has_home tree line ≡ true)
 home_parts tree lines line h =

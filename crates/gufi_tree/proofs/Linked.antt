@@ -17,7 +17,7 @@ use Rattle.gufi_base.specs.Words.{is_empty, ascends, insert_by, sort_by}
 use Rattle.gufi_base.specs.Paths.{Components, path_cmp, path_eq, parent_path, is_child_of}
 use Rattle.gufi_tree.specs.declared.tree.DirId.{DirId}
 use Rattle.gufi_tree.specs.declared.tree.Stored.{Stored}
-use Rattle.gufi_tree.specs.Tree.{Directory, own_rows, dir_cmp, entry_cmp, place_of, has_dir, is_at, HasTreeShape}
+use Rattle.gufi_tree.specs.Tree.{Directory, own_rows, dir_cmp, place_of, has_dir, is_at, HasTreeShape}
 use Rattle.gufi_tree.specs.Stored.{directory_of, directories_of, AreInOrder}
 use Rattle.gufi_tree.specs.Places.{dir_id, path_at, ids_from, child_ids}
 use Rattle.std.specs.Global.{Vec}
@@ -67,9 +67,6 @@ at_place q stored k dir all lt is =
 pub parent_there_at : (stored : List Stored) (k : ℕ) (dir : Stored) → HasTreeShape (directories_of stored) → k < length stored → dir ≡ get_or stored k dir → has_dir (directories_of stored) (parent_path dir.path) ≡ true
 parent_there_at stored k dir shape lt is = at_place (λ (d : Directory). has_dir (directories_of stored) (parent_path d.path)) stored k dir shape.parents lt is
 
-pub entries_at : (stored : List Stored) (k : ℕ) (dir : Stored) → HasTreeShape (directories_of stored) → k < length stored → dir ≡ get_or stored k dir → ascends entry_cmp dir.entries.items ≡ true
-entries_at stored k dir shape lt is = at_place (λ (d : Directory). ascends entry_cmp d.entries) stored k dir shape.entries lt is
-
 -- a place in the list that is seen is one in the list that is kept
 pub within_stored : (stored : List Stored) (tree : List Directory) (k : ℕ) → directories_of stored ≡ tree → k < length tree → k < length stored
 within_stored stored tree k e lt = omega (arith, length-map stored directory_of, ap length e, lt)
@@ -98,13 +95,6 @@ pub parents_done : (stored : List Stored) (parents : List ℕ) (i : ℕ) → len
 parents_done stored parents i len all each =
     record { len = len ∙ all ∙ sym (length-map stored directory_of); each = λ k lt. each k (omega (arith, length-map stored directory_of, all, lt)) }
 
--- a parent's place is that of a directory
-pub parents_within : (stored : List Stored) (parents : List ℕ) → HasParents (directories_of stored) parents → (k : ℕ) → k < length parents → get_or parents k 0 < length parents
-parents_within stored parents h k lt =
-    let within : k < length (directories_of stored) = omega (arith, h.len) in
-    let at = place_within stored (parent_path (path_at (directories_of stored) k)) (get_or parents k 0) (h.each k within) in
-    omega (arith, h.len, at, length-map stored directory_of)
-
 pub ids_under-push : (parent n p : ℕ) (ps : List ℕ) → ids_under parent n (ps ++ p ∷ []) ≡ ids_under parent n ps ++ ids_under parent (n + length ps) (p ∷ [])
 ids_under-push parent n p [] = ap (λ m. ids_under parent m (p ∷ [])) (omega arith)
 ids_under-push parent n p (q ∷ ps) =
@@ -115,18 +105,6 @@ ids_under-push parent n p (q ∷ ps) =
           ≡ cond b (dir_id n ∷ ids_under parent (n + 1) ps) (ids_under parent (n + 1) ps) ++ ids_under parent (n + suc (length ps)) (p ∷ [])
       by true e = ap (λ (ids : List DirId). dir_id n ∷ ids) e
       by false e = e
-
-pub ids_under-own : (place parent k : ℕ) → eqb place 0 ≡ false → k ≡ parent → dir_id place ∷ [] ≡ ids_under k place (parent ∷ [])
-ids_under-own place parent k some same = rw (eq-eqb parent k (sym same), some) refl
-
-pub ids_under-other : (place parent k : ℕ) → (k ≡ parent → ⊥) → [] ≡ ids_under k place (parent ∷ [])
-ids_under-other place parent k other = rw (ne_eqb parent k (λ e. other (sym e))) refl
-
-pub ids_under-root : (place parent k : ℕ) → eqb place 0 ≡ true → [] ≡ ids_under k place (parent ∷ [])
-ids_under-root place parent k root = rw root (by (eqb parent k)) where
-  by : (b : Bool) → [] ≡ cond (b && not true) (dir_id place ∷ []) []
-  by true = refl
-  by false = refl
 
 pub ids_under-more : (parents : List ℕ) (k i : ℕ) (p : ℕ) → i < length parents → p ≡ get_or parents i p → ids_under k 0 (take i parents) ++ ids_under k i (p ∷ []) ≡ ids_under k 0 (take (i + 1) parents)
 ids_under-more parents k i p lt is =

@@ -4,7 +4,7 @@ use Rattle.std.specs.declared.cmp.Ordering.{Ordering}
 use Rattle.std.specs.Ordering.{is_eq, is_lt}
 use Rattle.std.specs.List.{AllByRecursion, flat_map, list_any, list_all}
 use Rattle.std.specs.List.Sorted.{IsPermutation, IsSortedBy}
-use Rattle.std.proofs.lemmas.Bool.{and_parts, and_from, not-true, not-false, false_from_ne_true}
+use Rattle.std.proofs.lemmas.Bool.{and_parts, and_from, not-true, not-false}
 use Rattle.std.proofs.lemmas.List.Folds.{list_any-append, list_all-append, list_all-map}
 use Rattle.std.proofs.lemmas.List.Sorted.{list_any-IsPermutation}
 use Rattle.gufi_base.specs.declared.record.Line.{Line}
@@ -19,7 +19,7 @@ use Rattle.gufi_tree.specs.declared.tree.Entry.{Entry}
 use Rattle.gufi_tree.specs.Tree.{Directory, dir_cmp, entry_cmp, dir_row, entry_row, own_rows, has_dir, is_at, is_kinded}
 use Rattle.gufi_tree.specs.Build.{is_dir_line, names_dir, is_orphan}
 use Rattle.gufi_tree.specs.Gathered.{row_of_line}
-use Rattle.gufi_tree.proofs.Built.{Has, All-Has, All-from_Has, dir_cmp-total, entry_cmp-total}
+use Rattle.gufi_tree.proofs.Built.{Has, All-Has, All-from_Has, entry_cmp-total}
 use Rattle.gufi_tree.proofs.Faultless.{IsFaultless, alike, path_cmp-child}
 
 and_turned : (a b c : Bool) → (a && (b && c)) ≡ (b && (a && c))
@@ -150,15 +150,7 @@ module _ (lines : List Line) (tree : List Directory) (rows : IsPermutation (map 
         list_all-from_Has (λ (d : Directory). has_dir tree (parent_path d.path)) tree
         (λ d k. parent_there d.path (is_dir d.rec.meta.kind) (list_all-Has (λ (v : Directory). not (is_orphan_row tree (dir_row v))) tree d (own_rows_all (λ row. not (is_orphan_row tree row)) tree sound_rows) k))
 
-    -- directories in order have no two alike
-    pub dirs_ascend : IsSortedBy (λ x y. is_lt (dir_cmp x y)) tree → ascends dir_cmp tree ≡ true
-    dirs_ascend up =
-        ascends-from_sorted dir_cmp dir_cmp-total tree up (λ z.
-        let few : times (alike (dir_row z)) (flat_map own_rows tree) ≤ 1 = once_rows (dir_row z) in
-        let part : times (λ (v : Directory). is_eq (dir_cmp z v)) tree ≤ times (alike (dir_row z)) (flat_map own_rows tree) = times_dirs z tree in
-        omega arith)
-
-    -- nor have the entries of a directory
+    -- the entries of a directory, in order, have no two alike
     pub entries_ascend : AllByRecursion (λ (d : Directory). IsSortedBy (λ x y. is_lt (entry_cmp x y)) d.entries) tree → AllByRecursion (λ (d : Directory). ascends entry_cmp d.entries ≡ true) tree
     entries_ascend up =
         All-from_Has (λ (d : Directory). ascends entry_cmp d.entries ≡ true) tree
@@ -167,18 +159,3 @@ module _ (lines : List Line) (tree : List Directory) (rows : IsPermutation (map 
         let own : times (alike (entry_row d.path z)) (map (entry_row d.path) d.entries) ≤ times (alike (entry_row d.path z)) (flat_map own_rows tree) = times_own (entry_row d.path z) tree d k in
         let same : times (λ (v : Entry). is_eq (entry_cmp z v)) d.entries ≡ times (alike (entry_row d.path z)) (map (entry_row d.path) d.entries) = times_entries d.path z d.entries in
         omega arith))
-
-    -- a line's parent is there
-    pub line_parent : (line : Line) → Has lines line → is_empty line.path ≡ false → has_dir tree (parent_path line.path) ≡ true
-    line_parent line k some =
-        let h : not (is_orphan lines line) ≡ true = list_all-Has (λ (other : Line). not (is_orphan lines other)) lines line sound.parents k in
-        let g : not (not (names_dir lines (parent_path line.path))) ≡ true = rw some at h in
-        sym (names_dir-tree (parent_path line.path)) ∙ not-false (names_dir lines (parent_path line.path)) (not-true (not (names_dir lines (parent_path line.path))) g)
-
-    -- an entry's path has a name
-    pub line_named : (line : Line) → Has lines line → is_dir_line line ≡ false → is_empty line.path ≡ false
-    line_named line k entry = false_from_ne_true (is_empty line.path) (λ e.
-        let h : not (is_orphan lines line) ≡ true = list_all-Has (λ (other : Line). not (is_orphan lines other)) lines line sound.parents k in
-        let g : not (not (is_dir_line line)) ≡ true = rw e at h in
-        let f : not (not false) ≡ true = rw entry at g in
-        cc)

@@ -19,9 +19,6 @@ pub record IsRearranged (old new : Stored) : Type 0 where
   pub rec : new.rec ≡ old.rec
   pub entries : IsPermutation old.entries.items new.entries.items
 
-pub IsRearranged-refl : (s : Stored) → IsRearranged s s
-IsRearranged-refl s = record { path = refl; rec = refl; entries = IsPermutation-refl s.entries.items }
-
 own_rearranged : (old new : Stored) → IsRearranged old new
     → IsPermutation (own_rows (record { path = old.path; rec = old.rec; entries = old.entries.items })) (own_rows (record { path = new.path; rec = new.rec; entries = new.entries.items }))
 own_rearranged old new h =

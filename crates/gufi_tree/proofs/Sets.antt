@@ -51,10 +51,6 @@ with_text key text x = or_is (bytes_eq key text) x ∙ ap (λ b. b || x) (bytes_
 pub with_text_behind : (key text : List ℕ) (x : Bool) → cond (bytes_eq key text) true x ≡ (x || bytes_eq text key)
 with_text_behind key text x = with_text key text x ∙ or_flip (bytes_eq text key) x
 
-pub without : (x d : Bool) (t : Bool) → d ≡ false → x ≡ (x || (d && t))
-without x true t e = absurd cc
-without x false t e = sym (or_false x)
-
 pub with_dir : (x d : Bool) (t : Bool) → d ≡ true → (x || t) ≡ (x || (d && t))
 with_dir x true t e = refl
 with_dir x false t e = absurd cc
@@ -96,16 +92,6 @@ dirs_same p (line ∷ lines) h k =
     let both = and_parts (list_all is_name line.path) (are_named lines) k in
     ap (λ b. (is_dir_line line && b) || list_any (has_dir_text (kept_text p)) lines) (same_text p line.path h both.0)
     ∙ ap (λ b. (is_dir_line line && path_eq p line.path) || b) (dirs_same p lines h both.1)
-
-pub orphan_none : (dirs : List ℕ → Bool) (line : Line) → line.path ≡ [] → not (is_dir_line line) ≡ is_orphan_by dirs line
-orphan_none dirs line e = rw e refl
-
-some_path : (p : Components) → (p ≡ [] → ⊥) → is_empty p ≡ false
-some_path [] some = absurd (some refl)
-some_path (n ∷ p) some = refl
-
-pub orphan_some : (dirs : List ℕ → Bool) (line : Line) → (line.path ≡ [] → ⊥) → not (dirs (kept_text (parent_path line.path))) ≡ is_orphan_by dirs line
-orphan_some dirs line some = rw (some_path line.path some) refl
 
 -- the fault of a line, by tests of texts
 fault_same : (all earlier : List Line) (seen dirs : List ℕ → Bool) (line : Line) → are_named all ≡ true → are_named earlier ≡ true → list_all is_name line.path ≡ true

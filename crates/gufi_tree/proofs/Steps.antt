@@ -62,12 +62,6 @@ module _ (stored : List Stored) where
     below = λ lt. absurd (omega (arith, lt, zero_place));
   }
 
-  pub sound_other : (place parent : ℕ) → 0 < place → IsSoundBelow (directories_of stored) place parent → IsSoundAt (directories_of stored) place parent
-  sound_other place parent some h = record {
-    root = λ e. absurd (omega (arith, some, e));
-    below = λ lt. h;
-  }
-
 -- what holds of all directories holds of them in another order
 pub moved_all : {Z : Type 0} (q : Directory → Bool) (a b : List (Arc Stored Z)) → IsPermutation a b → list_all q (directories_of (values_of a)) ≡ true → list_all q (directories_of (values_of b)) ≡ true
 moved_all q a b moved h =
