@@ -1,6 +1,6 @@
 //! The calls on their happy paths, a failure in mid-stream, and the real files and streams.
 use crate::{
-    FileShelf, MemShelf, MemSink, ReadError, StdSink, names_differ, read_all, write_whole,
+    FileShelf, MemShelf, MemSink, ReadError, Sink, StdSink, names_differ, read_all, write_whole,
 };
 use std::alloc::Global;
 use std::fs;
@@ -101,11 +101,14 @@ fn reads_files_of_the_system(rt: HostRuntime) -> Result<(), Fail> {
     Ok(())
 }
 
+// A stream takes a short piece whole (POSIX.1-2017 XSH write), so the counts are those of the bytes.
 #[test]
 fn writes_to_both_streams(rt: HostRuntime) -> Result<(), Fail> {
     let mut output = StdSink::output(rt.stdout());
-    assert!(rt; write_whole(&mut output, b"written\n").is_ok());
+    assert_eq!(rt; output.write(b"written\n").ok(), Some(8));
+    assert!(rt; write_whole(&mut output, b"written whole\n").is_ok());
     let mut errors = StdSink::errors(rt.stderr());
-    assert!(rt; write_whole(&mut errors, b"noted\n").is_ok());
+    assert_eq!(rt; errors.write(b"noted\n").ok(), Some(6));
+    assert!(rt; write_whole(&mut errors, b"noted whole\n").is_ok());
     Ok(())
 }

@@ -9,3 +9,6 @@ mod leaves;
 mod report;
 
 pub use report::{Report, stats_text};
+
+#[cfg(test)]
+mod tests;

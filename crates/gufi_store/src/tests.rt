@@ -5,7 +5,7 @@ ghost use Rattle.gufi_tree.specs.Tree.{own_rows};
 
 use crate::DirStore;
 use gufi_base::{
-    Always, Bytes, Kind, Line, Memory, Meta, Path, PathList, Rec, RowList, Steps, Yield,
+    Always, Bytes, Kind, Line, Memory, Meta, Path, PathList, Rec, Row, RowList, Steps, Yield,
 };
 use gufi_tree::{DirId, Stored, build};
 use std::alloc::Global;
@@ -100,6 +100,18 @@ fn a_directory_is_scanned(rt: HostRuntime) -> Result<(), Memory> {
     Ok(())
 }
 
+/// The letter and the path of each row.
+fn printed(alloc: Global, rows: &[Row]) -> Result<Vec<u8>, Memory> {
+    let mut text = Vec::new(alloc);
+    for row in rows {
+        text.push(row.rec.meta.kind.letter())?;
+        text.push(b' ')?;
+        text.extend_from_slice(row.path.printed())?;
+        text.push(b'\n')?;
+    }
+    Ok(text)
+}
+
 #[test]
 fn scanned_rows_are_sorted(rt: HostRuntime) -> Result<(), Memory> {
     let alloc = rt.alloc();
@@ -107,6 +119,9 @@ fn scanned_rows_are_sorted(rt: HostRuntime) -> Result<(), Memory> {
     assert!(rt; stored.entries.len() == 2);
     let list: RowList = scan_alone(alloc, stored)?;
     let rows = list.sorted(alloc)?;
-    assert_eq!(rt; rows.len(), 3);
+    assert_eq!(rt;
+        printed(alloc, rows.as_slice())?.as_slice(),
+        b"d /d\nl /d/a\nf /d/b\n".as_slice()
+    );
     Ok(())
 }

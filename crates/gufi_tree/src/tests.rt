@@ -56,7 +56,11 @@ fn paths_lead_where_search_is_granted(rt: HostRuntime) -> Result<(), Fail> {
         tree.path_of(alloc, DirId(2))?.printed(),
         b"/p/q".as_slice()
     );
-    assert_eq!(rt; tree.share(DirId(2))?.entries.len(), 1);
+    let stored = tree.share(DirId(2))?;
+    assert_eq!(rt; stored.entries.len(), 1);
+    for entry in &stored.entries {
+        assert_eq!(rt; entry.name.as_slice(), b"y".as_slice());
+    }
     Ok(())
 }
 

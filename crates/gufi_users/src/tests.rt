@@ -88,8 +88,11 @@ fn newlines(alloc: Global, count: usize) -> Result<Vec<u8>, Fail> {
 #[test]
 fn a_file_has_at_most_65536_lines(rt: HostRuntime) -> Result<(), Fail> {
     let alloc = rt.alloc();
-    let mut text = newlines(alloc, 65536)?;
-    assert!(rt; read_passwd(alloc, &text).is_ok());
+    let mut text = newlines(alloc, 65535)?;
+    text.extend_from_slice(b"ana:x:1001:1001:::\n")?;
+    let groups = read_group(alloc, GROUP)?;
+    let users = Users::of(alloc, read_passwd(alloc, &text)?, groups)?;
+    assert_eq!(rt; users.uid_of(b"ana"), Some(1001));
     text.push(b'\n')?;
     let kind = UserKind::TooMany { limit: 65536 };
     assert_fault(&rt, read_passwd(alloc, &text).err(), 65537, kind);

@@ -1,4 +1,4 @@
-use crate::{Command, WordError, read_words};
+use crate::{Command, Common, WordError, read_words};
 use clap::{Arg, ArgAction, ArgMatches, Command as ClapCommand, Error as ClapError};
 use std::alloc::{AllocError, Global};
 use std::test::Fail;
@@ -29,23 +29,123 @@ fn the_first_word_that_cannot_be_taken_is_named(rt: HostRuntime) -> Result<(), F
     Ok(())
 }
 
+/// What the commands that ask an index have in common, as a line: the start by its depth, and which files of users there are.
+fn common_line(alloc: Global, common: &Common) -> Result<String, AllocError> {
+    let (delim, limit, workers) = (common.delim, common.limit, common.workers);
+    let (index, user) = (common.index.as_str(), common.user.as_str());
+    let (at, depth) = (common.user_at, common.start.depth());
+    let (passwd, group) = (common.passwd.is_some(), common.group.is_some());
+    format!(in alloc; "{delim} {limit} {workers} {index} {user} {at} {depth} {passwd} {group}")
+}
+
+/// A command that asks an index, as a line; any other as an empty one.
+fn asking_line(alloc: Global, command: &Command) -> Result<String, AllocError> {
+    match command {
+        Command::Query { common, text } => {
+            let (common, text) = (common_line(alloc, common)?, text.as_str());
+            format!(in alloc; "query {common} {text}")
+        }
+        Command::Find { common, now, words } => {
+            let mut line = format!(in alloc; "find {now:?} {}", common_line(alloc, common)?)?;
+            for word in words.as_slice() {
+                line.push(' ')?;
+                line.push_str(word.as_str())?;
+            }
+            Ok(line)
+        }
+        Command::Ls { common, long, all } => {
+            format!(in alloc; "ls {long} {all} {}", common_line(alloc, common)?)
+        }
+        Command::Stat { common } => format!(in alloc; "stat {}", common_line(alloc, common)?),
+        Command::Stats { common, report } => {
+            format!(in alloc; "stats {report:?} {}", common_line(alloc, common)?)
+        }
+        _ => Ok(String::new(alloc)),
+    }
+}
+
+/// A command as a line: its name, and what was read of its words.
+fn command_line(alloc: Global, command: &Command) -> Result<String, AllocError> {
+    match command {
+        Command::Walk {
+            trace,
+            uid,
+            gids,
+            delim,
+        } => {
+            let (trace, gids) = (trace.as_str(), gids.as_slice());
+            format!(in alloc; "walk {trace} {uid} {gids:?} {delim}")
+        }
+        Command::Trace2index { trace, delim } => {
+            format!(in alloc; "trace2index {} {delim}", trace.as_str())
+        }
+        Command::Rollup {
+            index,
+            delim,
+            limit,
+        } => format!(in alloc; "rollup {} {delim} {limit}", index.as_str()),
+        Command::Session {
+            passwd,
+            group,
+            delim,
+            workers,
+            now,
+            script,
+        } => {
+            let (passwd, group) = (passwd.is_some(), group.is_some());
+            let script = script.as_str();
+            format!(in alloc; "session {passwd} {group} {delim} {workers} {now:?} {script}")
+        }
+        Command::Gen {
+            n,
+            delim,
+            workers,
+            summary,
+        } => format!(in alloc; "gen {n} {delim} {workers} {summary}"),
+        asking => asking_line(alloc, asking),
+    }
+}
+
 #[test]
 fn each_command_is_read(rt: HostRuntime) -> Result<(), Fail> {
-    let lines = [
-        "walk A 102 5,6",
-        "trace2index --delim=| A",
-        "rollup --limit 3 A",
-        "query H ana / SELECT",
-        "find --now=-1 H ana / -size 1",
-        "ls -A H ana /",
-        "stat --limit 3 H ana /p",
-        "stats H ana / uids",
-        "session --workers 4 S",
-        "gen --summary 5",
+    let rows = [
+        ("walk A 102 5,6", "walk A 102 [5, 6] 30"),
+        ("trace2index --delim=| A", "trace2index A 124"),
+        ("rollup --limit 3 A", "rollup A 30 3"),
+        (
+            "query H ana / SELECT",
+            "query 30 0 1 H ana 3 0 false false SELECT",
+        ),
+        (
+            "find --now=-1 --group g H ana / -size 1",
+            "find Some(-1) 30 0 1 H ana 6 0 false true -size 1",
+        ),
+        (
+            "ls -A H ana /",
+            "ls false true 30 0 1 H ana 4 0 false false",
+        ),
+        (
+            "stat --limit 3 H ana /p",
+            "stat 30 3 1 H ana 5 1 false false",
+        ),
+        (
+            "stats H ana / uids",
+            "stats Uids 30 0 1 H ana 3 0 false false",
+        ),
+        (
+            "session --workers 4 --passwd=p S",
+            "session true false 30 4 None S",
+        ),
+        ("gen --summary 5", "gen 5 30 1 true"),
     ];
-    for line in lines {
+    for (line, wanted) in rows {
         let words = words_of(rt.alloc(), line)?;
-        assert!(rt; read_words(rt.alloc(), words.as_slice()).is_ok(), "{line}");
+        let command = read_words(rt.alloc(), words.as_slice())?;
+        assert_eq!(rt;
+            command_line(rt.alloc(), &command)?.as_str(),
+            wanted,
+            "{line}"
+        );
     }
     Ok(())
 }
