@@ -15,7 +15,8 @@ enum Reached {
     Inside,
 }
 
-/// Where a component is after one more byte, while it can still be a name. A second dot behind a first is not looked into.
+/// Where a component is after one more byte. None where it is no name by that byte, or a second dot follows a first at its
+/// start: what stands behind two dots is not looked into.
 #[inline]
 fn after(reached: Reached, byte: u8) -> Option<Reached>
     ensures { result ≡ after reached byte }
@@ -38,7 +39,8 @@ fn after(reached: Reached, byte: u8) -> Option<Reached>
     }
 }
 
-/// Whether bytes are seen at once to be names with single slashes between them. A few such bytes are not.
+/// Whether bytes are seen at once to be names with single slashes between them. Those with a name that begins with two dots
+/// are not.
 pub(crate) fn are_plain(bytes: &[u8]) -> bool
     requires { length bytes.now ≤ 255 }
     ensures { OnTrue result (IsTrue (list_all is_name (split 47 bytes.now))) }

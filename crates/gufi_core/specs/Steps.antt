@@ -175,10 +175,11 @@ all_taken job = flat_map (λ w. w.taken) job.workers
 abbrev pub all_held : JobState → List ℕ
 all_held job = flat_map (λ w. w.taken ++ w.deque ++ w.to_push) job.workers
 
--- Of each number: as many among the first tasks and the kids of all taken ones as among those taken, in a deque or still to push.
+-- a worker that has ended has nothing in its deque and nothing to push
 abbrev pub has_ended_empty : WorkerState → Bool
 has_ended_empty w = not w.ended || (is_empty w.deque && is_empty w.to_push)
 
+-- Of each number: as many among the first tasks and the kids of all taken ones as among those taken, in a deque or still to push.
 pub record Balanced (shape : Shape) (job : JobState) : Type 0 where
   pub counts : (task : ℕ) → count_of (shape.first ++ flat_map (kids_of shape) (all_taken job)) task ≡ count_of (all_held job) task
   pub ended : IsTrue (list_all has_ended_empty job.workers)

@@ -14,12 +14,13 @@ pub enum ReportWord {
 /// What each command has that asks an index.
 #[derive(Drop)]
 pub struct Common {
-    /// The file of users, as those below is; none stands for an empty file.
+    /// The passwd file; none stands for an empty one.
     pub passwd: Option<Text>,
+    /// The group file; none stands for an empty one.
     pub group: Option<Text>,
     /// The byte between the fields of a trace.
     pub delim: u8,
-    /// How many rows may be rolled up into one store.
+    /// How many rows of a trace may be rolled up into one piece; an image keeps its own limit.
     pub limit: u64,
     pub workers: u32,
     pub index: Text,
