@@ -23,6 +23,7 @@ fn no_lines() -> Pieces<'static, 'static>
     ensures { result ≡ [] }
 {
     let mut lines = pieces_of(b"", b"\n");
+    // An empty text has one piece, which is no line.
     let _empty = lines.next();
     lines
 }

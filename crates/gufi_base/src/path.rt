@@ -207,6 +207,7 @@ impl Path {
         }
         let at = last_name_at(self.text.as_slice());
         let mut bytes = without_front(self.text, at);
+        // A kept text ends with a slash, which is no part of its last name.
         let _slash = bytes.pop();
         Some(Name::of_bytes(bytes))
     }

@@ -60,6 +60,7 @@ fn below_of(tree: &Tree, id: DirId, found: &[Below]) -> Below
     requires behind { AreBelow tree.now (id.0 + 1) found.now }
     ensures { IsBelow tree.now id.0 result }
 {
+    // The count tells that the tree has its shape, and that its rows can be counted.
     let _count = tree.dirs();
     let mut rows = tree.entries(id).len() as u64 + 1;
     let mut covered = true;

@@ -23,6 +23,7 @@ fn lies_under(tree: &Tree, flags: &[bool], id: DirId) -> bool
     requires within { id.0 < length tree.now }
     ensures { (d : Directory) → result ≡ is_under (rolled_dirs tree.now flags.now) [] (slice_index_or tree.now id.0 d).path }
 {
+    // The count tells that the tree has its shape: a parent stands before its children.
     let _count = tree.dirs();
     match tree.parent(id) {
         None => false,
@@ -51,6 +52,7 @@ fn with_rolled(report: RollReport, tree: &Tree, flags: &[bool], id: DirId) -> Ro
     requires before { IsReport tree.now flags.now id.0 report }
     ensures { IsReport tree.now flags.now (id.0 + 1) result }
 {
+    // The count tells that the tree has its shape, and that its rows can be counted.
     let _count = tree.dirs();
     let own = tree.entries(id).len() as u64 + 1;
     let top = top_count(tree, flags, id);
@@ -69,7 +71,6 @@ fn with_next(report: RollReport, tree: &Tree, flags: &[bool], id: DirId) -> Roll
     requires before { IsReport tree.now flags.now id.0 report }
     ensures { IsReport tree.now flags.now (id.0 + 1) result }
 {
-    let _count = tree.dirs();
     if flags[id.0 as usize] {
         return with_rolled(report, tree, flags, id);
     }

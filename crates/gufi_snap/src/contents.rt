@@ -99,6 +99,7 @@ impl Contents {
         ensures shape { HasTreeShape self.now }
         ensures deep { All (λ dir. length (path_at self.now id.0) ≤ length dir.path) result.now }
     {
+        // The count tells that the tree has its shape: what lies below a directory stands right behind it.
         let _count = self.tree.dirs();
         let stores = self.stores.as_slice();
         let first = id.0 as usize;
