@@ -12,8 +12,8 @@ use crate::Memory;
 use crate::name::Name;
 use crate::order::same_bytes;
 use crate::path_parts::{
-    base_name_of, count_slashes, last_name_at, parent_of, printed_of, stem_of, text_of_child,
-    text_of_row, without_front,
+    base_name_of, count_slashes, last_name_at, parent_of, printed_of, stem_and_base_of, stem_of,
+    text_of_child, text_of_row, without_front,
 };
 use crate::path_reading::{MAX_NAME, closed, text_of_parts, without_first_slash};
 use crate::path_relations::{begins_with, child_name, names_behind};
@@ -231,6 +231,14 @@ impl Path {
         ensures { result.now ≡ stem self.now }
     {
         stem_of(self.text.as_slice())
+    }
+
+    /// The stem and the base name, by one look for where they part.
+    pub fn stem_and_base(&self) -> (&[u8], &[u8])
+        ensures stem { result.0.now ≡ stem self.now }
+        ensures base { result.1.now ≡ base_name self.now }
+    {
+        stem_and_base_of(self.text.as_slice())
     }
 }
 

@@ -47,10 +47,15 @@ pub(crate) fn without_front(mut bytes: Vec<u8>, count: usize) -> Vec<u8>
     bytes
 }
 
+/// How many slashes there are. It takes no branch at a byte, since slashes come in no order that could be foreseen.
 pub(crate) fn count_slashes(text: &[u8]) -> usize
     ensures { result ≡ length (filter (λ b. b == 47) text.now) }
 {
-    text.iter().filter(|b| **b == b'/').count()
+    let mut count = 0;
+    for k in 0..text.len() {
+        count += usize::from(text[k] == b'/');
+    }
+    count
 }
 
 /// Where the last name of a text begins, behind the slash before it.
@@ -80,24 +85,31 @@ pub(crate) fn parent_of(text: &[u8]) -> Option<&[u8]>
     Some(&text[..last_name_at(text)])
 }
 
+/// The stem of a path, and its base name.
+pub(crate) fn stem_and_base_of(text: &[u8]) -> (&[u8], &[u8])
+    requires { IsText text.now }
+    ensures stem { result.0.now ≡ stem (names text.now) }
+    ensures base { result.1.now ≡ base_name (names text.now) }
+{
+    if text.len() <= 1 {
+        return (&[], text);
+    }
+    let at = last_name_at(text);
+    (&text[..at], &text[at..text.len() - 1])
+}
+
 pub(crate) fn stem_of(text: &[u8]) -> &[u8]
     requires { IsText text.now }
     ensures { result.now ≡ stem (names text.now) }
 {
-    if text.len() <= 1 {
-        return &[];
-    }
-    &text[..last_name_at(text)]
+    stem_and_base_of(text).0
 }
 
 pub(crate) fn base_name_of(text: &[u8]) -> &[u8]
     requires { IsText text.now }
     ensures { result.now ≡ base_name (names text.now) }
 {
-    if text.len() <= 1 {
-        return text;
-    }
-    &text[last_name_at(text)..text.len() - 1]
+    stem_and_base_of(text).1
 }
 
 pub(crate) fn printed_of(text: &[u8]) -> &[u8]

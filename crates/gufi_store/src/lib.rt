@@ -43,9 +43,10 @@ fn own_row(dir: &Stored) -> RowRef<'_>
     requires { IsTrue (list_all is_name dir.now.path) }
     ensures { Stands result (dir_row (directory_of dir.now)) }
 {
+    let (stem, base) = dir.path.stem_and_base();
     RowRef {
-        stem: dir.path.stem(),
-        base: dir.path.base_name(),
+        stem,
+        base,
         meta: &dir.rec.meta,
         link: dir.rec.link.as_slice(),
     }
