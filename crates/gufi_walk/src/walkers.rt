@@ -23,8 +23,11 @@ use std::marker::PhantomData;
 use std::sync::Wait;
 use std::thread::Threads;
 
-/// Of how many directories a task takes all that is at and below it, where there are several walkers.
-const GRAIN: u64 = 64;
+/// How many tasks a walker is to have, one with another, where the tree has directories enough.
+const TASKS: u64 = 32;
+
+/// Of how many directories a task takes all that is at and below it, at least, where there are several walkers.
+const LEAST_GRAIN: u64 = 64;
 
 /// Who walks: so many walkers, each in a thread of the runtime where one can be made, and the gate that is told what begins.
 #[derive(Drop)]
@@ -43,6 +46,17 @@ impl<'a, R, G> Walkers<'a, R, G> {
         let count = count.max(1).min(32);
         Walkers { rt, gate, count }
     }
+}
+
+/// Of how many directories a task takes all that is at and below it: so many that each walker has some tasks.
+fn grain_for(snap: &Snapshot, start: DirId, workers: u32) -> u64
+    requires { start.0 < length snap.now.tree }
+{
+    if workers <= 1 {
+        return u64::MAX;
+    }
+    let share = snap.tree_sum(start).dirs / u64::from(workers);
+    (share / TASKS).max(LEAST_GRAIN)
 }
 
 /// The rows that the principal lists from a directory on and that meet the question.
@@ -74,8 +88,7 @@ where
     ensures { IfOk result (λ y. Y.stands_for y (answer snap.now.tree who.now (path_at snap.now.tree start.0) (P.sat pred.now))) }
 {
     let above = depth_of(snap.tree(), start);
-    let is_alone = workers == 1;
-    let grain = if is_alone { u64::MAX } else { GRAIN };
+    let grain = grain_for(snap, start, workers);
     let collects: PhantomData<Y> = PhantomData;
     let walk = Walk {
         snap,
@@ -85,7 +98,7 @@ where
         pred,
         skip,
         grain,
-        settles: !is_alone,
+        settles: workers > 1,
         collects,
     };
     let pieces = run_pool(rt, alloc, &[start.0], workers, &walk, gate)?;

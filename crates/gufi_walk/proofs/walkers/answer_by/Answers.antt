@@ -12,12 +12,12 @@ use Rattle.gufi_walk.proofs.walkers.answer_by.Goals as goal
 
 pub run_pool-requires-clause-shape : goal.run_pool-requires-clause-shape
 run_pool-requires-clause-shape g c κs within =
-    walk_shape c.args.snap.now.tree c.args.who.now c.tree.ensures.shape c.args.snap.now.limit c.if-is_alone.grain c.args.start.0 c.requires.start c.requires.listed
+    walk_shape c.args.snap.now.tree c.args.who.now c.tree.ensures.shape c.args.snap.now.limit c.grain_for-grain.result c.args.start.0 c.requires.start c.requires.listed
 
 pub rows_of_pieces-requires : goal.rows_of_pieces-requires
 rows_of_pieces-requires g c =
     let snap = c.args.snap.now in
-    let grain = c.if-is_alone.grain in
+    let grain = c.grain_for-grain.result in
     let rows_of : ℕ → List Row = task_rows snap.tree c.args.who.now snap.limit grain (meets (g.P.Pred.sat c.args.pred.now) c.depth_of-above.result) in
     let once = c.in_ok-pieces.ensures.once in
     let are = chunks_tasks (λ piece. piece.items) g.Y.Yield.stands_for rows_of c.in_ok-pieces.pieces.items once.lists once.each in (
@@ -34,7 +34,7 @@ rows_of_pieces-requires g c =
 pub returns : goal.returns
 returns g c =
     let snap = c.args.snap.now in
-    let grain = c.if-is_alone.grain in
+    let grain = c.grain_for-grain.result in
     let sat = g.P.Pred.sat c.args.pred.now in
     let rows_of : ℕ → List Row = task_rows snap.tree c.args.who.now snap.limit grain (meets sat c.depth_of-above.result) in
     let once = c.in_ok-pieces.ensures.once in
