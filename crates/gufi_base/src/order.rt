@@ -20,16 +20,47 @@ fn rank(byte: u8) -> u16
     if byte == b'/' { 0 } else { u16::from(byte) + 1 }
 }
 
-/// Whether two texts have the same sixteen bytes at a place.
+/// How many of `N` bytes at a place two texts have alike before the first that differs.
 #[inline]
-fn same_block(a: &[u8], b: &[u8], at: usize) -> bool
-    requires in_a { at + 16 ≤ length a.now }
-    requires in_b { at + 16 ≤ length b.now }
-    ensures { OnTrue result (take 16 (drop at a.now) ≡ take 16 (drop at b.now)) }
+fn alike_at<const N: usize>(a: &[u8], b: &[u8], at: usize) -> usize
+    requires lanes { N ≤ 64 }
+    requires in_a { at + N ≤ length a.now }
+    requires in_b { at + N ≤ length b.now }
+    ensures within { result ≤ N }
+    ensures alike { take result (drop at a.now) ≡ take result (drop at b.now) }
+    ensures most { result < N → slice_index a.now (at + result) ≢ slice_index b.now (at + result) }
 {
-    let left = u8x16::from_slice(&a[at..]);
-    let right = u8x16::from_slice(&b[at..]);
-    left.simd_eq(right).all()
+    let left = Simd::<u8, N>::from_slice(&a[at..]);
+    let right = Simd::<u8, N>::from_slice(&b[at..]);
+    let unlike = left.simd_ne(right).to_bitmask();
+    if unlike == 0 {
+        N
+    } else {
+        unlike.trailing_zeros() as usize
+    }
+}
+
+/// How many of the first `least` bytes two texts begin with alike: `N` bytes at a time, the last of them once more where they
+/// don't fill a block of their own.
+fn common_by_blocks<const N: usize>(a: &[u8], b: &[u8], least: usize) -> usize
+    requires lanes { (0 < N) × (N ≤ 64) }
+    requires some { N ≤ least }
+    requires in_a { least ≤ length a.now }
+    requires in_b { least ≤ length b.now }
+    ensures same { take result a.now ≡ take result b.now }
+    ensures within { result ≤ least }
+    ensures most { result < least → slice_index a.now result ≢ slice_index b.now result }
+{
+    let last = least - N;
+    let mut same = 0;
+    'by_blocks: while same <= last {
+        let alike = alike_at::<N>(a, b, same);
+        if alike < N {
+            return same + alike;
+        }
+        same += N;
+    }
+    last + alike_at::<N>(a, b, last)
 }
 
 /// How many bytes two texts begin with alike.
@@ -39,11 +70,15 @@ pub(crate) fn common_front(a: &[u8], b: &[u8]) -> usize
     ensures within_b { result ≤ length b.now }
     ensures most { result < length a.now → result < length b.now → slice_index a.now result ≢ slice_index b.now result }
 {
-    let mut same = 0;
-    'by_blocks: while same + 16 <= a.len() && same + 16 <= b.len() && same_block(a, b, same) {
-        same += 16;
+    let least = a.len().min(b.len());
+    if least >= 16 {
+        return common_by_blocks::<16>(a, b, least);
     }
-    'by_bytes: while same < a.len() && same < b.len() && a[same] == b[same] {
+    if least >= 4 {
+        return common_by_blocks::<4>(a, b, least);
+    }
+    let mut same = 0;
+    'by_bytes: while same < least && a[same] == b[same] {
         same += 1;
     }
     same
