@@ -12,6 +12,3 @@ mod index;
 pub use class::{Class, Guard, Principal, class_of, granted, lists};
 pub use cover::covers;
 pub use groups::Groups;
-
-#[cfg(test)]
-mod tests;

@@ -17,6 +17,3 @@ pub use event::Event;
 pub use laws::{ended_jobs_took_owed, runs_hold, steps_keep_balance};
 pub use run::{CoreFault, run_events};
 pub use state::{Core, JobState, Shape, WorkerState};
-
-#[cfg(test)]
-mod tests;

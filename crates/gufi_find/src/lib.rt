@@ -21,6 +21,3 @@ pub use expression::{FindExpr, FindQuestion};
 pub use fault::{FindError, FindKind};
 pub use laws::expressions_read_back;
 pub use reading::read_find;
-
-#[cfg(test)]
-mod tests;

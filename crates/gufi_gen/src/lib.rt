@@ -12,6 +12,3 @@ mod trace;
 
 pub use laws::generated_traces_are_read;
 pub use trace::gen_trace;
-
-#[cfg(test)]
-mod tests;

@@ -18,6 +18,3 @@ mod reader;
 pub use fault::GlobFault;
 pub use glob::Glob;
 pub use laws::matches_are_cuts;
-
-#[cfg(test)]
-mod tests;

@@ -18,6 +18,3 @@ pub use fault::{ImageError, ImageKind};
 pub use laws::{images_have_one_spelling, written_images_read_back};
 pub use reader::read_image;
 pub use writer::write_image;
-
-#[cfg(test)]
-mod tests;

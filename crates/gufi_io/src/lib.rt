@@ -19,6 +19,3 @@ pub use real::{FileShelf, StdSink};
 pub use shelf::{Failed, OpenFault, Shelf};
 pub use sink::Sink;
 pub use whole::{ReadError, WriteFault, read_all, write_whole};
-
-#[cfg(test)]
-mod tests;

@@ -14,6 +14,3 @@ pub use listing::{OneBelow, ls_text};
 pub use mode::mode_text;
 pub use record::stat_text;
 pub use total::total_text;
-
-#[cfg(test)]
-mod tests;

@@ -21,6 +21,3 @@ pub use act::{Act, Command, Made, Question};
 pub use load::{Load, LoadFault, Stop};
 pub use phase::{Phase, run_phase};
 pub use session::{End, Ended, run_session};
-
-#[cfg(test)]
-mod tests;

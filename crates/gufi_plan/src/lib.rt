@@ -13,6 +13,3 @@ pub use act::{PlannedAct, SessionPlan};
 pub use planning::plan_session;
 pub use reading::Setup;
 pub use search::{Query, Search, SharedSearch};
-
-#[cfg(test)]
-mod tests;

@@ -9,4 +9,3 @@ pub mod Starts
 pub mod Runs
 pub mod Totals
 pub mod Openings
-pub mod Heaps

@@ -3,4 +3,3 @@ pub mod Jobs
 pub mod Members
 pub mod Openings
 pub mod Forest
-pub mod Heaps

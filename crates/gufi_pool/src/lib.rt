@@ -19,6 +19,3 @@ mod work;
 
 pub use job::Job;
 pub use pool::run_pool;
-
-#[cfg(test)]
-mod tests;

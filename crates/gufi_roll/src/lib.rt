@@ -10,6 +10,3 @@ mod report;
 
 pub use flags::roll;
 pub use report::{RollReport, roll_report};
-
-#[cfg(test)]
-mod tests;

@@ -96,7 +96,7 @@ fn check<R: AllocGlobal + Abort + Threads + Wait + Sync>(
 }
 
 #[test]
-fn replies_stand_in_the_order_of_the_script(rt: HostRuntime) -> Result<(), Fail> {
+fn publications_are_told_in_the_order_of_the_script(rt: HostRuntime) -> Result<(), Fail> {
     let damaged_trace = Case {
         script: b"publish 0 a
 publish 0 w
@@ -135,6 +135,14 @@ reply 1 at 2 total dirs 2 files 1 links 0 others 0 bytes 7 size 7 7 mtime 20 22 
         note: b"",
         numbers: &[2],
     };
+    for case in [damaged_trace, nothing_published, rolled_up] {
+        check(&rt, &case)?;
+    }
+    Ok(())
+}
+
+#[test]
+fn replies_stand_in_the_order_of_the_script(rt: HostRuntime) -> Result<(), Fail> {
     let asked_with_words = Case {
         script: b"publish 100 d
 rollup 0
@@ -176,7 +184,15 @@ reply 5 at 1 not a directory at depth 2
         note: b"",
         numbers: &[1, 1, 1, 1, 1],
     };
-    let no_file_in_the_second_phase = Case {
+    for case in [asked_with_words, each_form_and_refusal] {
+        check(&rt, &case)?;
+    }
+    Ok(())
+}
+
+#[test]
+fn a_session_ends_before_the_phase_without_its_file(rt: HostRuntime) -> Result<(), Fail> {
+    let ended = Case {
         script: b"ask 1 102 / find
 rollup 0
 barrier
@@ -190,17 +206,7 @@ rollup 1 refused nothing
         note: b"gufi: z not found\n",
         numbers: &[0],
     };
-    for case in [
-        damaged_trace,
-        nothing_published,
-        rolled_up,
-        asked_with_words,
-        each_form_and_refusal,
-        no_file_in_the_second_phase,
-    ] {
-        check(&rt, &case)?;
-    }
-    Ok(())
+    check(&rt, &ended)
 }
 
 fn check_fault<R: AllocGlobal + Abort + Threads + Wait + Sync>(

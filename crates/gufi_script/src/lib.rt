@@ -12,6 +12,3 @@ mod word;
 pub use act::{Act, Form, Script};
 pub use fault::{ScriptError, ScriptKind};
 pub use reader::read_script;
-
-#[cfg(test)]
-mod tests;

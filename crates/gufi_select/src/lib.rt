@@ -25,6 +25,3 @@ pub use laws::conditions_read_back;
 pub use projection::select_text;
 pub use reading::read_select;
 pub use select::{Select, SelectQuestion, SelectTester};
-
-#[cfg(test)]
-mod tests;

@@ -17,6 +17,3 @@ pub use run::run_session;
 pub fn replies_are_private()
     ensures { RepliesArePrivate }
 {}
-
-#[cfg(test)]
-mod tests;

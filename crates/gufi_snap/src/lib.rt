@@ -10,6 +10,3 @@ mod stores;
 mod sums;
 
 pub use snapshot::Snapshot;
-
-#[cfg(test)]
-mod tests;

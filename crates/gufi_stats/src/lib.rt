@@ -9,6 +9,3 @@ mod leaves;
 mod report;
 
 pub use report::{Report, stats_text};
-
-#[cfg(test)]
-mod tests;

@@ -175,6 +175,3 @@ pub fn scan_fold<T: Tester, Y: Yield, L: Ledger>(
     }
     Ok(())
 }
-
-#[cfg(test)]
-mod tests;

@@ -14,6 +14,3 @@ pub use counts::put_counts;
 pub use laws::sums_join;
 pub use skip::{NoSkip, Skip};
 pub use summary::Summary;
-
-#[cfg(test)]
-mod tests;

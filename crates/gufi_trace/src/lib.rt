@@ -21,6 +21,3 @@ pub use laws::traces_mean_sound_trees;
 pub use reader::{TraceReader, read_pieces, read_trace};
 pub use text::put_tree_fault;
 pub use writer::{WriteTraceFault, write_trace, written_traces_read_back};
-
-#[cfg(test)]
-mod tests;

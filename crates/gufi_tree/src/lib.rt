@@ -26,6 +26,3 @@ pub use ordered::tree_of_directories;
 pub use resolve::Resolved;
 pub use stanzas::Stanzas;
 pub use tree::{DirId, Entry, Stored, Tree};
-
-#[cfg(test)]
-mod tests;

@@ -17,6 +17,3 @@ pub use fault::{UserError, UserKind};
 pub use group::{Groups, read_group};
 pub use passwd::{Passwd, read_passwd};
 pub use users::Users;
-
-#[cfg(test)]
-mod tests;

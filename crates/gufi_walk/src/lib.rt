@@ -18,8 +18,3 @@ pub use laws::{answers_are_private, folds_hold_the_answer};
 pub use refusal::Refusal;
 pub use reply::{PathLines, answer_lines, answer_rows, answer_sum, put_refusal};
 pub use walkers::{Walkers, answer};
-
-#[cfg(test)]
-mod tests;
-#[cfg(test)]
-mod walkers_tests;

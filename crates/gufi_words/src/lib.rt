@@ -15,6 +15,3 @@ mod word;
 pub use command::{Command, Common, ReportWord};
 pub use form::read_words;
 pub use word::WordError;
-
-#[cfg(test)]
-mod tests;

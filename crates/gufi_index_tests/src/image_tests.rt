@@ -1,0 +1,194 @@
+use crate::lines::{self, line_of};
+use gufi_access::Guard;
+use gufi_base::{Kind, Meta, Path};
+use gufi_image::{ImageError, ImageKind, read_image, write_image};
+use gufi_snap::Snapshot;
+use gufi_tree::build;
+use std::alloc::Global;
+use std::test::Fail;
+
+fn meta(kind: Kind, inode: u64, mode: u16, owner: (u32, u32)) -> Meta {
+    let (uid, gid) = owner;
+    Meta {
+        inode,
+        nlink: 2,
+        size: 4096,
+        ..lines::meta(kind, Guard { uid, gid, mode })
+    }
+}
+
+/// A root alone, and the 110 bytes of its image.
+fn lone_root(alloc: Global) -> Result<Snapshot, Fail> {
+    let lines = vec![in alloc; line_of(alloc, 1, b"/", meta(Kind::Dir, 1, 0o755, (101, 100)))?]?;
+    Ok(Snapshot::build_uncounted(alloc, build(alloc, lines)?, 0)?)
+}
+
+fn lone_image() -> &'static [u8] {
+    b"GUFIX\0\x01\0\0\0\0\0\0\0\0\0\x01\0\0\0\0\0\0\0\xff\xff\xff\xff\0\0\x01\0\0\0\0\0\0\0\xed\x01\x02\0\0\0\0\0\0\0\x65\0\0\0\x64\0\0\0\0\x10\0\0\0\0\0\0\0\x10\0\0\0\0\0\0\x08\0\0\0\0\0\0\0\x0a\0\0\0\0\0\0\0\x14\0\0\0\0\0\0\0\x1e\0\0\0\0\0\0\0\0\0\0\0\0\0"
+}
+
+/// A root that may not be rolled up, since few may list the directory in it, which may.
+fn with_a_fold(alloc: Global) -> Result<Snapshot, Fail> {
+    let lines = vec![in alloc;
+        line_of(alloc, 1, b"/", meta(Kind::Dir, 1, 0o755, (101, 100)))?,
+        line_of(alloc, 2, b"/c", meta(Kind::Dir, 2, 0o055, (102, 200)))?,
+        line_of(alloc, 3, b"/c/x", meta(Kind::File, 3, 0o644, (102, 200)))?,
+    ]?;
+    Ok(Snapshot::build_uncounted(alloc, build(alloc, lines)?, 100)?)
+}
+
+/// The image of a root with the files c and e and the directories m and n.
+fn wide_image(alloc: Global) -> Result<Vec<u8>, Fail> {
+    let owner = (101, 100);
+    let lines = vec![in alloc;
+        line_of(alloc, 1, b"/", meta(Kind::Dir, 1, 0o755, owner))?,
+        line_of(alloc, 2, b"/c", meta(Kind::File, 1, 0o644, owner))?,
+        line_of(alloc, 3, b"/e", meta(Kind::Link, 1, 0o644, owner))?,
+        line_of(alloc, 4, b"/m", meta(Kind::Dir, 1, 0o755, owner))?,
+        line_of(alloc, 5, b"/n", meta(Kind::Dir, 1, 0o755, owner))?,
+    ]?;
+    let snap = Snapshot::build_uncounted(alloc, build(alloc, lines)?, 0)?;
+    Ok(write_image(alloc, &snap)?)
+}
+
+/// The fault of some bytes, of which there are few.
+fn fault_in(alloc: Global, bytes: &[u8]) -> Option<(u32, ImageKind)> {
+    if bytes.len() > 4096 {
+        return None;
+    }
+    match read_image(alloc, bytes) {
+        Err(ImageError::Fault { offset, kind }) => Some((offset, kind)),
+        _ => None,
+    }
+}
+
+/// One byte of an image made another, and the fault that this makes.
+#[derive(Clone, Copy)]
+struct Damage {
+    place: usize,
+    byte: u8,
+    offset: u32,
+    kind: ImageKind,
+}
+
+fn changed(place: usize, byte: u8, offset: u32, kind: ImageKind) -> Damage {
+    Damage {
+        place,
+        byte,
+        offset,
+        kind,
+    }
+}
+
+fn is_found(alloc: Global, image: &[u8], damage: &Damage) -> Result<bool, Fail> {
+    let mut bytes = Vec::from_slice(alloc, image)?;
+    if damage.place >= bytes.len() {
+        return Ok(false);
+    }
+    bytes[damage.place] = damage.byte;
+    Ok(fault_in(alloc, bytes.as_slice()) == Some((damage.offset, damage.kind)))
+}
+
+/// The first damage that isn't found, by its place.
+fn not_found(alloc: Global, image: &[u8], cases: &[Damage]) -> Result<Option<usize>, Fail> {
+    for case in cases {
+        if !is_found(alloc, image, case)? {
+            return Ok(Some(case.place));
+        }
+    }
+    Ok(None)
+}
+
+/// The directories of an image that is read and written again, where the same bytes come out.
+fn dirs_again(alloc: Global, image: &[u8]) -> Result<Option<u32>, Fail> {
+    if image.len() > 4096 {
+        return Ok(None);
+    }
+    let snap = read_image(alloc, image)?;
+    if write_image(alloc, &snap)?.as_slice() != image {
+        return Ok(None);
+    }
+    Ok(Some(snap.tree().dirs()))
+}
+
+#[test]
+fn an_image_is_written_byte_for_byte(rt: HostRuntime) -> Result<(), Fail> {
+    let alloc = rt.alloc();
+    let image = write_image(alloc, &lone_root(alloc)?)?;
+    assert!(rt; image.as_slice() == lone_image());
+    Ok(())
+}
+
+#[test]
+fn what_is_read_is_written_again(rt: HostRuntime) -> Result<(), Fail> {
+    let alloc = rt.alloc();
+    assert!(rt; dirs_again(alloc, lone_image())? == Some(1));
+    let folded = write_image(alloc, &with_a_fold(alloc)?)?;
+    assert!(rt; dirs_again(alloc, folded.as_slice())? == Some(2));
+    assert!(rt;
+        is_found(
+            alloc,
+            folded.as_slice(),
+            &changed(29, 1, 29, ImageKind::Roll)
+        )?
+    );
+    Ok(())
+}
+
+#[test]
+fn the_first_damaged_field_is_named(rt: HostRuntime) -> Result<(), Fail> {
+    let alloc = rt.alloc();
+    let cases = vec![in alloc;
+        changed(0, 0, 0, ImageKind::Magic),
+        changed(6, 2, 6, ImageKind::Magic),
+        changed(16, 0, 16, ImageKind::Number),
+        changed(18, 4, 16, ImageKind::TooMany { limit: 262144 }),
+        changed(20, 1, 20, ImageKind::Number),
+        changed(23, 1, 20, ImageKind::TooMany { limit: 1048576 }),
+        changed(24, 0, 24, ImageKind::Parent),
+        changed(28, 1, 28, ImageKind::Name),
+        changed(29, 1, 29, ImageKind::Roll),
+        changed(29, 2, 29, ImageKind::Number),
+        changed(39, 16, 38, ImageKind::Number),
+        changed(104, 1, 104, ImageKind::Name),
+        changed(104, 5, 106, ImageKind::Cut),
+        changed(105, 17, 104, ImageKind::Name),
+        changed(106, 1, 106, ImageKind::Number),
+    ]?;
+    assert!(rt; not_found(alloc, lone_image(), cases.as_slice())? == None);
+    Ok(())
+}
+
+#[test]
+fn names_stand_in_order_and_once(rt: HostRuntime) -> Result<(), Fail> {
+    let alloc = rt.alloc();
+    let cases = vec![in alloc;
+        changed(110, b'd', 110, ImageKind::Number),
+        changed(112, b'/', 111, ImageKind::Name),
+        changed(191, b'c', 189, ImageKind::Order),
+        changed(268, 1, 268, ImageKind::Parent),
+        changed(273, b'c', 272, ImageKind::Name),
+        changed(360, b'm', 355, ImageKind::Order),
+    ]?;
+    assert!(rt; not_found(alloc, wide_image(alloc)?.as_slice(), cases.as_slice())? == None);
+    Ok(())
+}
+
+/// The fault of so many first bytes.
+fn fault_of_first(alloc: Global, len: usize) -> Option<(u32, ImageKind)> {
+    let image = lone_image();
+    fault_in(alloc, &image[..len.min(image.len())])
+}
+
+#[test]
+fn bytes_that_are_missing_or_left_are_named(rt: HostRuntime) -> Result<(), Fail> {
+    let alloc = rt.alloc();
+    assert!(rt; fault_of_first(alloc, 5) == Some((0, ImageKind::Magic)));
+    assert!(rt; fault_of_first(alloc, 7) == Some((6, ImageKind::Cut)));
+    assert!(rt; fault_of_first(alloc, 30) == Some((30, ImageKind::Cut)));
+    assert!(rt; fault_of_first(alloc, 109) == Some((106, ImageKind::Cut)));
+    let mut longer = Vec::from_slice(alloc, lone_image())?;
+    longer.push(0)?;
+    assert!(rt; fault_in(alloc, longer.as_slice()) == Some((110, ImageKind::Trailing)));
+    Ok(())
+}

@@ -1,0 +1,89 @@
+use crate::lines::{line_of, meta};
+use gufi_access::Guard;
+use gufi_base::{Kind, Line};
+use gufi_roll::{RollReport, roll, roll_report};
+use gufi_tree::{Tree, build};
+use std::alloc::Global;
+use std::test::Fail;
+
+fn line(alloc: Global, path: &[u8], kind: Kind, uid: u32, mode: u16) -> Result<Line, Fail> {
+    let gid = 100;
+    guarded(alloc, path, kind, Guard { uid, gid, mode })
+}
+
+fn guarded(alloc: Global, path: &[u8], kind: Kind, guard: Guard) -> Result<Line, Fail> {
+    line_of(alloc, 1, path, meta(kind, guard))
+}
+
+#[test]
+fn a_limit_and_a_closed_directory_keep_directories_apart(rt: HostRuntime) -> Result<(), Fail> {
+    let alloc = rt.alloc();
+    let lines = vec![in alloc;
+        line(alloc, b"/", Kind::Dir, 101, 0o755)?,
+        line(alloc, b"/a", Kind::Dir, 101, 0o755)?,
+        line(alloc, b"/a/f", Kind::File, 101, 0o644)?,
+        line(alloc, b"/b", Kind::Dir, 101, 0o700)?,
+        line(alloc, b"/b/c", Kind::Dir, 102, 0o755)?,
+    ]?;
+    let tree = build(alloc, lines)?;
+    for (limit, flags) in [
+        (0, [false, false, false, false]),
+        (1, [false, false, false, true]),
+        (2, [false, true, true, true]),
+        (9, [false, true, true, true]),
+    ] {
+        let rolled = roll(alloc, &tree, limit)?;
+        assert_eq!(rt; rolled.as_slice(), flags.as_slice());
+    }
+    let flags = roll(alloc, &tree, 2)?;
+    let report = RollReport {
+        dirs: 4,
+        rolled: 3,
+        tops: 2,
+        rows: 4,
+    };
+    assert_eq!(rt; roll_report(&tree, flags.as_slice()), report);
+    Ok(())
+}
+
+fn report(alloc: Global, tree: &Tree, limit: u64) -> Result<RollReport, Fail> {
+    let flags = roll(alloc, tree, limit)?;
+    Ok(roll_report(tree, flags.as_slice()))
+}
+
+#[test]
+fn what_is_rolled_up_is_counted(rt: HostRuntime) -> Result<(), Fail> {
+    let alloc = rt.alloc();
+    let guard = Guard {
+        uid: 102,
+        gid: 200,
+        mode: 0o055,
+    };
+    let denied = vec![in alloc;
+        line(alloc, b"/", Kind::Dir, 101, 0o755)?,
+        guarded(alloc, b"/c", Kind::Dir, guard)?,
+        guarded(alloc, b"/c/x", Kind::File, guard)?,
+    ]?;
+    let denied = build(alloc, denied)?;
+    let open = vec![in alloc;
+        line(alloc, b"/", Kind::Dir, 101, 0o755)?,
+        line(alloc, b"/a", Kind::Dir, 101, 0o755)?,
+        line(alloc, b"/a/b", Kind::Dir, 101, 0o755)?,
+    ]?;
+    let open = build(alloc, open)?;
+    for (tree, limit, dirs, rolled, tops, rows) in [
+        (&denied, 100u64, 2u32, 1u32, 1u32, 2u64),
+        (&open, 100, 3, 3, 1, 3),
+        (&open, 2, 3, 2, 1, 2),
+        (&open, 0, 3, 0, 0, 0),
+    ] {
+        let given = RollReport {
+            dirs,
+            rolled,
+            tops,
+            rows,
+        };
+        assert_eq!(rt; report(alloc, tree, limit)?, given);
+    }
+    Ok(())
+}

@@ -1,0 +1,100 @@
+ghost use Rattle.std.specs.Prelude.{◌≡◌, ◌<◌};
+
+use crate::lines::{line_of, meta};
+use gufi_access::Guard;
+use gufi_base::{Always, Kind, Line, Memory, Meta, Steps};
+use gufi_snap::Snapshot;
+use gufi_sums::Summary;
+use gufi_tree::{DirId, build};
+use std::alloc::Global;
+use std::marker::Brand;
+use std::sync::ledger::{Blank, Ledger};
+use std::test::Fail;
+
+/// A line that was changed at the second of its number.
+fn line(alloc: Global, number: u32, path: &[u8], kind: Kind) -> Result<Line, Fail> {
+    let (uid, gid, mode) = (101, 100, 0o755);
+    let meta = Meta {
+        mtime: i64::from(number),
+        ..meta(kind, Guard { uid, gid, mode })
+    };
+    line_of(alloc, number, path, meta)
+}
+
+/// The sum of a piece, by its rows.
+fn scanned<L: Ledger>(
+    alloc: Global,
+    snap: &Snapshot,
+    id: DirId,
+    blank: Blank,
+) -> Result<Summary, Memory>
+    requires name { blank.name ≡ L.name }
+    requires parts { blank.parts ≡ L.parts }
+    requires one { 0 < blank.parts }
+{
+    if id.0 >= snap.tree().dirs() {
+        return Err(Memory);
+    }
+    let mut steps = Steps::<L>::new(blank);
+    let mut sum = Summary::empty();
+    snap.scan_piece(alloc, id, &mut Always, 0, &mut sum, &mut steps)?;
+    Ok(sum)
+}
+
+fn snapshot(alloc: Global, limit: u64) -> Result<Snapshot, Fail> {
+    let lines = vec![in alloc;
+        line(alloc, 1, b"/", Kind::Dir)?,
+        line(alloc, 2, b"/d", Kind::Dir)?,
+        line(alloc, 3, b"/d/e", Kind::Dir)?,
+        line(alloc, 4, b"/d/e/l", Kind::Link)?,
+        line(alloc, 5, b"/d/f", Kind::File)?,
+    ]?;
+    let tree = build(alloc, lines)?;
+    Ok(Snapshot::build_uncounted(alloc, tree, limit)?)
+}
+
+fn counts(sum: &Summary) -> (u64, u64, u64) {
+    (sum.dirs, sum.files, sum.links)
+}
+
+#[test]
+fn sums_are_of_own_rows_and_of_those_below(rt: HostRuntime) -> Result<(), Fail> {
+    let alloc = rt.alloc();
+    let snap = snapshot(alloc, 0)?;
+    let rows = [
+        ((1u64, 0u64, 0u64), (3u64, 1u64, 1u64), (1i64, 5i64)),
+        ((1, 1, 0), (2, 1, 1), (2, 5)),
+        ((1, 0, 1), (1, 0, 1), (3, 4)),
+    ];
+    assert!(rt; snap.tree().dirs() == 3);
+    for place in 0..3u32 {
+        let id = DirId(place);
+        let (own, below, times) = rows[place as usize];
+        assert!(rt; counts(snap.dir_sum(id)) == own);
+        assert!(rt; counts(snap.tree_sum(id)) == below);
+        assert!(rt; snap.tree_sum(id).mtime == Some(times));
+    }
+    Ok(())
+}
+
+#[test]
+fn a_piece_is_a_fold_where_it_is_rolled(rt: HostRuntime) -> Result<(), Fail> {
+    let alloc = rt.alloc();
+    let plain = snapshot(alloc, 0)?;
+    let folded = plain.with_limit(alloc, 4)?;
+    assert!(rt; (plain.limit(), folded.limit()) == (0, 4));
+    for (snap, place, rolled, piece) in [
+        (&plain, 1u32, false, (1u64, 1u64, 0u64)),
+        (&plain, 2, false, (1, 0, 1)),
+        (&folded, 0, false, (1, 0, 0)),
+        (&folded, 1, true, (2, 1, 1)),
+        (&folded, 2, true, (1, 0, 1)),
+    ] {
+        let id = DirId(place);
+        assert!(rt; place < snap.tree().dirs());
+        assert!(rt; snap.rolled(id) == rolled);
+        let found = scanned::<Brand>(alloc, snap, id, Blank::new(1))?;
+        assert!(rt; counts(&found) == piece);
+    }
+    Ok(())
+}

@@ -1,0 +1,82 @@
+//! The four reports over six rows, worked by hand.
+ghost use Rattle.std.specs.Prelude.{◌≡◌, length, IfOk};
+ghost use Rattle.gufi_base.specs.Rows.{row_cmp};
+ghost use Rattle.gufi_base.specs.Words.{ascends};
+
+use crate::lines::{meta, row_of};
+use gufi_access::Guard;
+use gufi_base::{Kind, Meta, Path, Row, path_cmp};
+use gufi_stats::{Report, stats_text};
+use std::alloc::Global;
+use std::cmp::Ordering;
+use std::test::Fail;
+
+const LEVELS: &[u8] = b"level 0 dirs 1 files 0 links 0 others 0 bytes 0
+level 1 dirs 2 files 0 links 1 others 0 bytes 0
+level 2 dirs 0 files 1 links 0 others 1 bytes 7
+";
+
+const UIDS: &[u8] = b"uid 101 dirs 1 files 0 links 0 others 1 bytes 0
+uid 102 dirs 1 files 1 links 0 others 0 bytes 7
+uid 103 dirs 1 files 0 links 1 others 0 bytes 0
+";
+
+const GIDS: &[u8] = b"gid 100 dirs 1 files 0 links 1 others 0 bytes 0
+gid 200 dirs 2 files 1 links 0 others 0 bytes 7
+gid 300 dirs 0 files 0 links 0 others 1 bytes 0
+";
+
+// A row whose file has 7 bytes.
+fn row(alloc: Global, path: &[u8], kind: Kind, uid: u32, gid: u32) -> Result<Row, Fail> {
+    let mode = 0o755;
+    let size = 7;
+    let meta = Meta {
+        size,
+        ..meta(kind, Guard { uid, gid, mode })
+    };
+    row_of(alloc, path, meta)
+}
+
+fn six_rows(alloc: Global) -> Result<Vec<Row>, Fail>
+    ensures { IfOk result (λ rows. length rows.items ≡ 6) }
+{
+    Ok(vec![in alloc;
+        row(alloc, b"/p", Kind::Dir, 103, 200)?,
+        row(alloc, b"/p/a", Kind::Dir, 102, 100)?,
+        row(alloc, b"/p/a/x", Kind::File, 102, 200)?,
+        row(alloc, b"/p/b", Kind::Link, 103, 100)?,
+        row(alloc, b"/p/c", Kind::Dir, 101, 200)?,
+        row(alloc, b"/p/c/s", Kind::Socket, 101, 300)?,
+    ]?)
+}
+
+// Reports ask for rows in path order.
+fn are_in_order(rows: &[Row]) -> bool
+    ensures { result ≡ ascends row_cmp rows.now }
+{
+    let [first, rest @ ..] = rows else {
+        return true;
+    };
+    let [second, ..] = rest else {
+        return true;
+    };
+    path_cmp(&first.path, &second.path) == Ordering::Less && are_in_order(rest)
+}
+
+#[test]
+fn rows_are_counted_and_leaves_are_named(rt: HostRuntime) -> Result<(), Fail> {
+    let alloc = rt.alloc();
+    let rows = six_rows(alloc)?;
+    let start = Path::read(alloc, b"/p")?;
+    assert!(rt; are_in_order(&rows));
+    for (report, by_hand) in [
+        (Report::Levels, LEVELS),
+        (Report::Uids, UIDS),
+        (Report::Gids, GIDS),
+        (Report::Leaves, b"/p/a\n/p/c\n".as_slice()),
+    ] {
+        let text = stats_text(alloc, &rows, &start, report)?;
+        assert_eq!(rt; text.as_slice(), by_hand);
+    }
+    Ok(())
+}

@@ -1,0 +1,98 @@
+//! The rows of a directory, scanned.
+ghost use Rattle.std.specs.Prelude.{◌≡◌, ◌<◌, ◌^◌, length};
+ghost use Rattle.std.specs.Arc.{arc_value};
+ghost use Rattle.gufi_tree.specs.Tree.{own_rows};
+
+use crate::lines::line;
+use gufi_base::{Always, Kind, Memory, PathList, Row, RowList, Steps, Yield};
+use gufi_store::DirStore;
+use gufi_tree::{DirId, Stored, build};
+use std::alloc::Global;
+use std::marker::Brand;
+use std::sync::Arc;
+use std::sync::ledger::{Blank, Ledger};
+use std::test::Fail;
+
+fn scanned<Y: Yield, L: Ledger>(
+    alloc: Global,
+    store: &DirStore,
+    steps: &mut Steps<L>,
+) -> Result<Y, Memory>
+    requires { length (own_rows store.now) < 2 ^ 39 }
+{
+    let mut all = Y::none(alloc)?;
+    store.scan(alloc, &mut Always, 0, &mut all, steps)?;
+    Ok(all)
+}
+
+fn scan_with<Y: Yield, L: Ledger>(
+    alloc: Global,
+    stored: Arc<Stored, Global>,
+    blank: Blank,
+) -> Result<Y, Memory>
+    requires name { blank.name ≡ L.name }
+    requires parts { blank.parts ≡ L.parts }
+    requires one { 0 < blank.parts }
+    requires few { length (arc_value stored).entries.items < 2 ^ 32 }
+{
+    let mut steps = Steps::<L>::new(blank);
+    let store = DirStore::of(stored, &mut steps);
+    scanned(alloc, &store, &mut steps)
+}
+
+fn scan_alone<Y: Yield>(alloc: Global, stored: Arc<Stored, Global>) -> Result<Y, Memory>
+    requires { length (arc_value stored).entries.items < 2 ^ 32 }
+{
+    scan_with::<Y, Brand>(alloc, stored, Blank::new(1))
+}
+
+fn directory(alloc: Global) -> Result<Arc<Stored, Global>, Fail> {
+    let lines = vec![in alloc;
+        line(alloc, 1, b"/", Kind::Dir, 0o755)?,
+        line(alloc, 2, b"/d", Kind::Dir, 0o755)?,
+        line(alloc, 3, b"/d/b", Kind::File, 0o755)?,
+        line(alloc, 4, b"/d/a", Kind::Link, 0o755)?,
+    ]?;
+    let tree = build(alloc, lines)?;
+    if tree.dirs() != 2 {
+        return Err(Fail::new("there are not two directories"));
+    }
+    Ok(tree.share(DirId(1))?)
+}
+
+#[test]
+fn a_directory_is_scanned(rt: HostRuntime) -> Result<(), Fail> {
+    let alloc = rt.alloc();
+    let stored = directory(alloc)?;
+    assert!(rt; stored.entries.len() == 2);
+    let paths: PathList = scan_alone(alloc, stored)?;
+    let text = paths.lines(alloc)?;
+    assert!(rt; text.as_slice() == b"/d\n/d/a\n/d/b\n".as_slice());
+    Ok(())
+}
+
+/// The letter and the path of each row.
+fn printed(alloc: Global, rows: &[Row]) -> Result<Vec<u8>, Memory> {
+    let mut text = Vec::new(alloc);
+    for row in rows {
+        text.push(row.rec.meta.kind.letter())?;
+        text.push(b' ')?;
+        text.extend_from_slice(row.path.printed())?;
+        text.push(b'\n')?;
+    }
+    Ok(text)
+}
+
+#[test]
+fn scanned_rows_are_sorted(rt: HostRuntime) -> Result<(), Fail> {
+    let alloc = rt.alloc();
+    let stored = directory(alloc)?;
+    assert!(rt; stored.entries.len() == 2);
+    let list: RowList = scan_alone(alloc, stored)?;
+    let rows = list.sorted(alloc)?;
+    assert_eq!(rt;
+        printed(alloc, rows.as_slice())?.as_slice(),
+        b"d /d\nl /d/a\nf /d/b\n".as_slice()
+    );
+    Ok(())
+}

@@ -1,0 +1,148 @@
+//! Many walkers: what a gate is told, and that their rows are those of one thread.
+
+ghost use Rattle.std.specs.Prelude.{◌≡◌, ◌<◌};
+
+use crate::lines::line;
+use gufi_access::{Groups, Principal};
+use gufi_base::{Always, Kind, Line, Path, PathList, Steps};
+use gufi_io::{Gate, GateKind, NoGate};
+use gufi_snap::Snapshot;
+use gufi_sums::{NoSkip, Summary};
+use gufi_tree::build;
+use gufi_walk::{Walkers, answer, answer_alone, answer_lines};
+use std::alloc::Global;
+use std::marker::Brand;
+use std::sync::atomic::{AtomicU64, Ordering};
+use std::sync::ledger::{Blank, Ledger};
+use std::test::Fail;
+
+/// Counts tasks and stores.
+#[derive(Drop)]
+struct Counting {
+    tasks: AtomicU64,
+    stores: AtomicU64,
+}
+
+impl Gate for Counting {
+    fn begin(&self, kind: GateKind, _number: u32) {
+        match kind {
+            GateKind::Task => {
+                self.tasks.fetch_add(1, Ordering::SeqCst);
+            }
+            GateKind::Store => {
+                self.stores.fetch_add(1, Ordering::SeqCst);
+            }
+            GateKind::Publish | GateKind::Ask => {}
+        }
+    }
+}
+
+#[test]
+fn a_gate_is_told_of_each_directory_of_the_front(rt: HostRuntime) -> Result<(), Fail> {
+    let alloc = rt.alloc();
+    let lines = vec![in alloc;
+        line(alloc, 1, b"/", Kind::Dir, 0o755)?,
+        line(alloc, 2, b"/a", Kind::Dir, 0o755)?,
+        line(alloc, 3, b"/a/b", Kind::Dir, 0o755)?,
+    ]?;
+    let tree = build(alloc, lines)?;
+    let plain = Snapshot::build_uncounted(alloc, tree, 0)?;
+    let groups = Groups::of(Vec::new(alloc));
+    let who = Principal { uid: 102, groups };
+    let start = Path::root(alloc)?;
+    for (limit, told) in [(100u64, 1u64), (2, 2), (0, 3)] {
+        let snap = plain.with_limit(alloc, limit)?;
+        for workers in [1u32, 4, 32] {
+            let gate = Counting {
+                tasks: AtomicU64::new(0),
+                stores: AtomicU64::new(0),
+            };
+            assert!(rt; 0 < workers && workers <= 32);
+            let sum: Summary = answer(
+                &rt, alloc, &snap, &who, &start, &Always, &NoSkip, workers, &gate,
+            )?;
+            assert_eq!(rt; sum.dirs, 3);
+            assert_eq!(rt; gate.tasks.load(Ordering::SeqCst), told);
+            assert_eq!(rt; gate.stores.load(Ordering::SeqCst), told);
+        }
+    }
+    Ok(())
+}
+
+/// Adds a row to a trace, and its path to what is printed of it.
+fn add(
+    alloc: Global,
+    lines: &mut Vec<Line>,
+    text: &mut Vec<u8>,
+    path: &[u8],
+    kind: Kind,
+) -> Result<(), Fail> {
+    lines.push(line(alloc, 1, path, kind, 0o755)?)?;
+    text.extend_from_slice(path)?;
+    text.push(b'\n')?;
+    Ok(())
+}
+
+/// Adds a directory below the root, with a subdirectory and a file in that.
+fn add_branch(
+    alloc: Global,
+    lines: &mut Vec<Line>,
+    text: &mut Vec<u8>,
+    name: [u8; 2],
+) -> Result<(), Fail> {
+    let [a, b] = name;
+    add(alloc, lines, text, &[b'/', a, b], Kind::Dir)?;
+    add(alloc, lines, text, &[b'/', a, b, b'/', b'd'], Kind::Dir)?;
+    add(
+        alloc,
+        lines,
+        text,
+        &[b'/', a, b, b'/', b'd', b'/', b'f'],
+        Kind::File,
+    )
+}
+
+fn lines_alone<L: Ledger>(
+    alloc: Global,
+    snap: &Snapshot,
+    who: &Principal,
+    start: &Path,
+    blank: Blank,
+) -> Result<Vec<u8>, Fail>
+    requires name { blank.name ≡ L.name }
+    requires parts { blank.parts ≡ L.parts }
+    requires one { 0 < blank.parts }
+{
+    let mut steps = Steps::<L>::new(blank);
+    let paths: PathList = answer_alone(alloc, snap, who, start, &Always, &NoSkip, &mut steps)?;
+    Ok(paths.lines(alloc)?)
+}
+
+#[test]
+fn many_walkers_give_the_rows_of_one_thread(rt: HostRuntime) -> Result<(), Fail> {
+    let alloc = rt.alloc();
+    let mut lines = Vec::new(alloc);
+    let mut text = Vec::new(alloc);
+    add(alloc, &mut lines, &mut text, b"/", Kind::Dir)?;
+    for a in b'a'..b'z' {
+        for b in b'a'..b'z' {
+            add_branch(alloc, &mut lines, &mut text, [a, b])?;
+        }
+    }
+    let count = lines.len();
+    assert!(rt; count == 1876);
+    let tree = build(alloc, lines)?;
+    let snap = Snapshot::build_uncounted(alloc, tree, 0)?;
+    let groups = Groups::of(Vec::new(alloc));
+    let who = Principal { uid: 102, groups };
+    let start = Path::root(alloc)?;
+    let alone = lines_alone::<Brand>(alloc, &snap, &who, &start, Blank::new(1))?;
+    assert_eq!(rt; alone.as_slice(), text.as_slice());
+    for workers in [1u32, 4, 32] {
+        let walkers = Walkers::of(&rt, &NoGate, workers);
+        let lines = answer_lines(&walkers, alloc, &snap, &who, &start, &Always)?;
+        assert_eq!(rt; lines.text.as_slice(), text.as_slice());
+        assert_eq!(rt; lines.count, count);
+    }
+    Ok(())
+}

@@ -1,5 +1,0 @@
-use Rattle.gufi_pool.proofs.Heaps.{heap_shape}
-use Rattle.gufi_pool.proofs.tests.runs_once.Goals as goal
-
-pub run_pool-requires-clause-shape : goal.run_pool-requires-clause-shape
-run_pool-requires-clause-shape g c κs within = heap_shape c.args.size c.requires.some

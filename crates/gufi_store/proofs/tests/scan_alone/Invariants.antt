@@ -1,4 +1,0 @@
-use Rattle.gufi_store.proofs.tests.scan_alone.Given as goal
-
-abbrev pub ghosts-scan_with : goal.ghosts-scan_with
-ghosts-scan_with g a = record { name = a.blank.name; parts = a.blank.parts }

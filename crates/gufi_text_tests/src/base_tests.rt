@@ -1,0 +1,200 @@
+ghost use Rattle.std.specs.Prelude.{◌≡◌, ◌+◌, ◌<◌, List, IfOk, OnOk};
+ghost use Rattle.gufi_base.specs.declared.record.Row.{Row as SeenRow};
+ghost use Rattle.gufi_base.specs.Rows.{StandsForSome};
+
+use gufi_base::{
+    Bytes, Items, Kind, Memory, Meta, Name, NameFault, Nums, Path, PathFault, PathList, Row,
+    RowList, RowRef, Text, Yield, path_text, put_i64, put_u64, put_u128, read_i64, read_octal,
+    read_u64,
+};
+use std::alloc::Global;
+use std::test::Fail;
+
+#[test]
+fn paths_are_read(rt: HostRuntime) -> Result<(), Fail> {
+    let rows = [
+        (b"".as_slice(), b"/".as_slice()),
+        (b"//a/./b/".as_slice(), b"/a/b".as_slice()),
+        (b"/a/.b/c..".as_slice(), b"/a/.b/c..".as_slice()),
+    ];
+    for (bytes, printed) in rows {
+        let path = Path::read(rt.alloc(), bytes)?;
+        assert_eq!(rt; path_text(rt.alloc(), &path)?.as_slice(), printed);
+    }
+    let faults = [
+        (b"/a/../b\n".as_slice(), PathFault::DotDot),
+        (b"/a\n".as_slice(), PathFault::BadByte),
+        ([97u8; 256].as_slice(), PathFault::LongName),
+    ];
+    for (bytes, fault) in faults {
+        assert_eq!(rt; Path::read(rt.alloc(), bytes).err(), Some(fault));
+    }
+    assert_eq!(rt; Path::root(rt.alloc())?.printed(), b"/".as_slice());
+    Ok(())
+}
+
+#[test]
+fn plain_paths_go_on_from_others(rt: HostRuntime) -> Result<(), Fail> {
+    let root = Path::read(rt.alloc(), b"/fs")?;
+    let parent = match root.names_behind(b"/fs/a/.b") {
+        Some(names) => Path::of_names(rt.alloc(), names)?,
+        None => Path::root(rt.alloc())?,
+    };
+    assert_eq!(rt; parent.printed(), b"/a/.b".as_slice());
+    let child = match parent.child_name(&root, b"/fs/a/.b/c d") {
+        Some(name) => {
+            let kept = Name::of_checked(rt.alloc(), name)?;
+            assert_eq!(rt; kept.as_slice(), b"c d".as_slice());
+            parent.child(rt.alloc(), name)?
+        }
+        None => Path::root(rt.alloc())?,
+    };
+    assert_eq!(rt; child.printed(), b"/a/.b/c d".as_slice());
+    assert!(rt; root.names_behind(b"/fs/a//b").is_none());
+    assert!(rt; parent.child_name(&root, b"/fs/a/.b/c/d").is_none());
+    Ok(())
+}
+
+#[test]
+fn names_and_lists_are_made(rt: HostRuntime) -> Result<(), Fail> {
+    assert_eq!(rt; Name::of(rt.alloc(), b"a b")?.as_slice(), b"a b".as_slice());
+    assert_eq!(rt; Name::of(rt.alloc(), b"..").err(), Some(NameFault::Bad));
+    assert_eq!(rt;
+        Bytes::from_slice(rt.alloc(), b"a")?.into_vec().as_slice(),
+        b"a".as_slice()
+    );
+    assert_eq!(rt;
+        Items::of(vec![in rt.alloc(); true]?).into_vec().as_slice(),
+        [true].as_slice()
+    );
+    assert_eq!(rt;
+        Nums::of(vec![in rt.alloc(); 1u32]?).as_slice(),
+        [1u32].as_slice()
+    );
+    assert_eq!(rt; Text::of(format!(in rt.alloc(); "a")?).as_str(), "a");
+    Ok(())
+}
+
+#[test]
+fn numbers_are_read_and_written(rt: HostRuntime) -> Result<(), Fail> {
+    assert_eq!(rt; read_u64(b"00000000000000000000007"), Some(7));
+    assert_eq!(rt;
+        read_u64(b"18446744073709551615"),
+        Some(18446744073709551615)
+    );
+    assert_eq!(rt; read_u64(b"18446744073709551616"), None);
+    assert_eq!(rt;
+        read_i64(b"-9223372036854775808"),
+        Some(-9223372036854775808)
+    );
+    assert_eq!(rt; read_i64(b"-"), None);
+    assert_eq!(rt; read_octal(b"7777"), Some(4095));
+    assert_eq!(rt; read_octal(b"8"), None);
+    let mut out = Vec::new(rt.alloc());
+    put_u64(&mut out, 0)?;
+    put_u128(&mut out, 340282366920938463463374607431768211455)?;
+    put_i64(&mut out, -9223372036854775808)?;
+    assert_eq!(rt;
+        out.as_slice(),
+        b"0340282366920938463463374607431768211455-9223372036854775808".as_slice()
+    );
+    Ok(())
+}
+
+fn meta() -> Meta {
+    Meta {
+        kind: Kind::Dir,
+        inode: 1,
+        mode: 0o755,
+        nlink: 1,
+        uid: 0,
+        gid: 0,
+        size: 0,
+        blksize: 4096,
+        blocks: 8,
+        atime: 0,
+        mtime: 0,
+        ctime: 0,
+    }
+}
+
+/// The row of a path, whose link is the path's kept text.
+fn row_of<'a>(path: &'a Path, meta: &'a Meta) -> RowRef<'a>
+    ensures { StandsForSome result }
+{
+    RowRef {
+        stem: path.stem(),
+        base: path.base_name(),
+        meta,
+        link: path.text(),
+    }
+}
+
+fn take_row<Y: Yield>(alloc: Global, rows: &mut Y, path: &Path, meta: &Meta) -> Result<(), Memory>
+    requires few { Y.count rows.old < 9 }
+    requires rows { (given : List SeenRow) × Y.stands_for rows.old given }
+    ensures count { OnOk result (Y.count rows.new ≡ Y.count rows.old + 1) }
+    ensures rows { OnOk result ((given : List SeenRow) × Y.stands_for rows.new given) }
+{
+    rows.take(alloc, row_of(path, meta))?;
+    Ok(())
+}
+
+fn scanned<Y: Yield>(alloc: Global, paths: &[Path; 3]) -> Result<Y, Memory>
+    ensures count { IfOk result (λ rows. Y.count rows ≡ 3) }
+    ensures rows { IfOk result (λ rows. (given : List SeenRow) × Y.stands_for rows given) }
+{
+    let meta = meta();
+    let mut rows = Y::none(alloc)?;
+    take_row(alloc, &mut rows, &paths[0], &meta)?;
+    take_row(alloc, &mut rows, &paths[1], &meta)?;
+    take_row(alloc, &mut rows, &paths[2], &meta)?;
+    rows.settle(alloc)?;
+    Ok(rows)
+}
+
+/// The rows of two directories, as a walk gives them.
+fn walked<Y: Yield>(alloc: Global, outer: &[Path; 3], inner: &[Path; 3]) -> Result<Y, Memory> {
+    let mut rows: Y = scanned(alloc, outer)?;
+    let more: Y = scanned(alloc, inner)?;
+    rows.merge(alloc, more)?;
+    Ok(rows)
+}
+
+fn printed(alloc: Global, rows: &[Row]) -> Result<Vec<u8>, Memory> {
+    let mut text = Vec::new(alloc);
+    for row in rows {
+        text.extend_from_slice(row.path.printed())?;
+        text.push(b' ')?;
+        text.extend_from_slice(row.rec.link.as_slice())?;
+        text.push(b'\n')?;
+    }
+    Ok(text)
+}
+
+#[test]
+fn walked_rows_come_in_path_order(rt: HostRuntime) -> Result<(), Fail> {
+    let alloc = rt.alloc();
+    let outer = [
+        Path::read(alloc, b"/d")?,
+        Path::read(alloc, b"/d/z")?,
+        Path::read(alloc, b"/d/m")?,
+    ];
+    let inner = [
+        Path::read(alloc, b"/d/m/b")?,
+        Path::read(alloc, b"/d/m/c")?,
+        Path::read(alloc, b"/d/m/c/a")?,
+    ];
+    let paths: PathList = walked(alloc, &outer, &inner)?;
+    assert_eq!(rt;
+        paths.lines(alloc)?.as_slice(),
+        b"/d\n/d/m\n/d/m/b\n/d/m/c\n/d/m/c/a\n/d/z\n".as_slice()
+    );
+    let list: RowList = walked(alloc, &outer, &inner)?;
+    let rows = list.sorted(alloc)?;
+    assert_eq!(rt;
+        printed(alloc, rows.as_slice())?.as_slice(),
+        b"/d /d/\n/d/m /d/m/\n/d/m/b /d/m/b/\n/d/m/c /d/m/c/\n/d/m/c/a /d/m/c/a/\n/d/z /d/z/\n".as_slice()
+    );
+    Ok(())
+}

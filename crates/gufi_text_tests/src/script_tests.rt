@@ -1,0 +1,91 @@
+//! Scripts read, and each fault of a line once.
+use gufi_script::{Act, Form, ScriptError, ScriptKind, read_script};
+use std::test::Fail;
+
+#[test]
+fn acts_are_read_by_their_lines(rt: HostRuntime) -> Result<(), Fail> {
+    let text =
+        b"publish 100 a%20b\n# no act\n \t\nrollup 007\nbarrier\nask 16 102:5 //p/./q query SELECT%20* FROM\trows";
+    let script = read_script(rt.alloc(), text)?;
+    let acts = script.acts.as_slice();
+    let lines: [u32; 4] = [1, 4, 5, 6];
+    assert_eq!(rt; acts.len(), lines.len());
+    for (act, line) in acts.iter().zip(lines) {
+        assert_eq!(rt; act.0, line);
+    }
+    match &acts[0].1 {
+        Act::Publish { limit, file } => {
+            assert_eq!(rt; *limit, 100);
+            assert_eq!(rt; file.as_str(), "a b");
+        }
+        _ => assert!(rt; false),
+    }
+    match &acts[1].1 {
+        Act::Rollup { limit } => assert_eq!(rt; *limit, 7),
+        _ => assert!(rt; false),
+    }
+    match &acts[3].1 {
+        Act::Ask {
+            lane,
+            user,
+            path,
+            form,
+            words,
+        } => {
+            assert_eq!(rt; *lane, 16);
+            assert_eq!(rt; user.as_slice(), b"102:5".as_slice());
+            assert_eq!(rt; path.printed(), b"/p/q".as_slice());
+            assert_eq!(rt; *form, Form::Query);
+            assert_eq!(rt; words.as_slice().len(), 3);
+            assert_eq!(rt; words.as_slice()[0].as_slice(), b"SELECT *".as_slice());
+            assert_eq!(rt; words.as_slice()[2].as_slice(), b"rows".as_slice());
+        }
+        _ => assert!(rt; false),
+    }
+    Ok(())
+}
+
+#[test]
+fn each_fault_is_told_by_its_line(rt: HostRuntime) -> Result<(), Fail> {
+    let faults = [
+        (b"barrier\nbarrier %4".as_slice(), 2, ScriptKind::Escape),
+        (b"refresh / f\nask".as_slice(), 1, ScriptKind::Verb),
+        (b"\n\npublish 1".as_slice(), 3, ScriptKind::Count),
+        (b"ask 17 102 / query".as_slice(), 1, ScriptKind::Count),
+        (b"rollup -1".as_slice(), 1, ScriptKind::Number),
+        (
+            b"barrier\nask 17 102 / find".as_slice(),
+            2,
+            ScriptKind::Lane,
+        ),
+        (b"ask 0 102 /.. x".as_slice(), 1, ScriptKind::Lane),
+        (b"ask 1 102 /.. x".as_slice(), 1, ScriptKind::Path),
+        (b"publish 1 %ff".as_slice(), 1, ScriptKind::File),
+        (b"ask 1 102 / ls".as_slice(), 1, ScriptKind::Form),
+    ];
+    for (text, line, kind) in faults {
+        assert_eq!(rt;
+            read_script(rt.alloc(), text).err(),
+            Some(ScriptError::Fault { line, kind })
+        );
+    }
+    Ok(())
+}
+
+#[test]
+fn scripts_have_so_many_lines_and_publications(rt: HostRuntime) -> Result<(), Fail> {
+    for (text, count, limit) in [("barrier\n", 4097, 4096), ("rollup 1\n", 1001, 1000)] {
+        let mut script = String::new(rt.alloc());
+        for _line in 0..count {
+            script.push_str(text)?;
+        }
+        assert_eq!(rt;
+            read_script(rt.alloc(), script.as_bytes()).err(),
+            Some(ScriptError::Fault {
+                line: limit + 1,
+                kind: ScriptKind::TooMany { limit },
+            })
+        );
+    }
+    Ok(())
+}

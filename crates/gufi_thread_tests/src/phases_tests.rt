@@ -1,0 +1,196 @@
+//! Two phases worked by hand: the numbers that a reply may bear, the order of what is written, and how a session ends early.
+ghost use Rattle.std.specs.Prelude.{◌≡◌, ◌%◌, ◌∷◌, [], Ok, length, ok_or, option_map, IfOk};
+ghost use Rattle.gufi_phases.specs.declared.act.Act.TheVariants.{Publish, Ask};
+
+use gufi_base::{Memory, Text};
+use gufi_io::{MemShelf, MemSink, NoGate, ReadError, Shelf, names_differ, read_all};
+use gufi_phases::{Act, Command, End, Ended, Load, LoadFault, Made, Question, Stop, run_session};
+use std::alloc::Global;
+use std::process::Abort;
+use std::sync::{Arc, Wait};
+use std::test::Fail;
+use std::thread::Threads;
+
+/// Publishes a number.
+#[derive(Drop)]
+struct Put {
+    value: u64,
+}
+
+impl Command<u64> for Put {
+    ghost outcome = { λ put _. Ok put.value };
+
+    ghost line = { λ _ _ _. 112 ∷ [] };
+
+    fn carry_out(&self, _alloc: Global, _last: &Option<Arc<u64>>) -> Result<Made<u64>, Memory> {
+        Ok(Made::Added { item: self.value })
+    }
+
+    fn added_line(&self, alloc: Global, _command: u32, _number: u64) -> Result<Vec<u8>, Memory> {
+        Ok(vec![in alloc; b'p']?)
+    }
+
+    fn refused_line(&self, alloc: Global, _command: u32, _text: &[u8]) -> Result<Vec<u8>, Memory> {
+        Ok(vec![in alloc; b'p']?)
+    }
+}
+
+/// Is answered by its mark and the number.
+#[derive(Drop)]
+struct Which {
+    mark: u8,
+}
+
+impl Question<u64> for Which {
+    ghost reply = { λ q _ n _. q.mark ∷ n % 256 ∷ [] };
+
+    fn reply_to_none(&self, alloc: Global, _ask: u32) -> Result<Vec<u8>, Memory> {
+        Ok(vec![in alloc; self.mark, 0]?)
+    }
+}
+
+/// The mark and the number.
+fn marked(alloc: Global, question: &Which, number: u64) -> Result<Vec<u8>, Memory>
+    ensures { IfOk result (λ text. text.items ≡ question.now.mark ∷ number % 256 ∷ []) }
+{
+    Ok(vec![in alloc; question.mark, (number % 256) as u8]?)
+}
+
+/// Asks lane 1 and another one, publishes the length of a file, and asks lane 1 again.
+#[derive(Drop)]
+struct Planned {
+    file: String,
+    lane: u32,
+}
+
+impl<F: Shelf> Load<Put, Which, F> for Planned {
+    ghost use Rattle.std.specs.String.{string_bytes};
+    ghost use Rattle.gufi_phases.specs.declared.act.Act.TheVariants.{Publish, Ask};
+    ghost use Rattle.gufi_phases.specs.declared.load.Stop.TheVariants.{NoFile};
+
+    ghost loaded = { λ p files. ok_or (option_map (λ bytes. Ask 1 (record { mark = 97 }) ∷ Ask p.lane (record { mark = 98 }) ∷ Publish (record { value = length bytes }) ∷ Ask 1 (record { mark = 99 }) ∷ []) (files (string_bytes p.file))) (NoFile (string_bytes p.file)) };
+
+    ghost size = { λ _. 4 };
+
+    fn load(&self, alloc: Global, shelf: &mut F) -> Result<Vec<Act<Put, Which>>, LoadFault> {
+        match read_all(alloc, shelf, self.file.as_str(), 8) {
+            Ok(bytes) => match four_acts(alloc, self.lane, bytes.len() as u64) {
+                Ok(acts) => Ok(acts),
+                Err(Memory) => Err(LoadFault::Memory),
+            },
+            Err(ReadError::NoFile) => Err(LoadFault::Stopped {
+                stop: Stop::NoFile {
+                    file: Text::of(String::from_str(alloc, self.file.as_str())?),
+                },
+            }),
+            Err(ReadError::ReadFault) => Err(LoadFault::ReadFault),
+            Err(_) => Err(LoadFault::Memory),
+        }
+    }
+}
+
+fn four_acts(alloc: Global, lane: u32, value: u64) -> Result<Vec<Act<Put, Which>>, Memory>
+    ensures { IfOk result (λ acts. acts.items ≡ Ask 1 (record { mark = 97 }) ∷ Ask lane (record { mark = 98 }) ∷ Publish (record { value = value }) ∷ Ask 1 (record { mark = 99 }) ∷ []) }
+{
+    Ok(vec![in alloc;
+        Act::Ask {
+            lane: 1,
+            question: Which { mark: b'a' }
+        },
+        Act::Ask {
+            lane,
+            question: Which { mark: b'b' }
+        },
+        Act::Publish {
+            command: Put { value }
+        },
+        Act::Ask {
+            lane: 1,
+            question: Which { mark: b'c' }
+        },
+    ]?)
+}
+
+/// Runs a phase over the file `a`, and one over `b`.
+fn run_two<R: Threads + Wait + Sync + Abort>(
+    rt: &R,
+    alloc: Global,
+    held: Vec<(String, Vec<u8>)>,
+    bad_writes: Vec<u64>,
+) -> Result<(Ended, MemSink), Fail> {
+    assert!(rt; names_differ(&held));
+    let mut shelf = MemShelf::new(held, 2, Vec::new(alloc), Vec::new(alloc));
+    let mut out = MemSink::new(vec![in alloc; 0; 32]?, 32, bad_writes);
+    let first = Planned {
+        file: String::from_str(alloc, "a")?,
+        lane: 2,
+    };
+    let second = Planned {
+        file: String::from_str(alloc, "b")?,
+        lane: 3,
+    };
+    let plan = [first, second];
+    let ended = run_session::<u64, Put, Which, _, MemShelf, Planned, MemSink, NoGate, R>(
+        rt,
+        alloc,
+        &NoGate,
+        &|question: &Which, _ask: u32, number: u64, _item: &u64| -> Result<Vec<u8>, Memory> {
+            marked(alloc, question, number)
+        },
+        &plan,
+        &mut shelf,
+        &mut out,
+    );
+    Ok((ended, out))
+}
+
+/// The files of those names, of two bytes each.
+fn files(alloc: Global, names: &[&str]) -> Result<Vec<(String, Vec<u8>)>, Fail> {
+    let mut files = Vec::new(alloc);
+    for name in names {
+        files.push((String::from_str(alloc, *name)?, vec![in alloc; 1, 2]?))?;
+    }
+    Ok(files)
+}
+
+#[test]
+fn numbers_fit_their_phases(rt: HostRuntime) -> Result<(), Fail> {
+    let alloc = rt.alloc();
+    let (ended, out) = run_two(&rt, alloc, files(alloc, &["a", "b"])?, Vec::new(alloc))?;
+    assert!(rt; matches!(&ended.end, End::Done));
+    let numbers = &ended.numbers;
+    assert_eq!(rt; numbers.len(), 6);
+    assert!(rt; numbers[0] <= numbers[2] && numbers[1] <= 1 && numbers[2] <= 1);
+    assert!(rt; numbers[3] >= 1 && numbers[4] >= 1 && numbers[5] >= numbers[3] && numbers[5] <= 2);
+    let text = out.taken();
+    assert_eq!(rt; text.len(), 14);
+    assert!(rt; text[0] == b'a' && text[1] as u64 == numbers[0] && text[2] == b'b');
+    assert!(rt; text[4] == b'p' && text[12] == b'c' && text[13] as u64 == numbers[5]);
+    Ok(())
+}
+
+#[test]
+fn ends_at_a_file_that_is_not_held(rt: HostRuntime) -> Result<(), Fail> {
+    let alloc = rt.alloc();
+    let (ended, out) = run_two(&rt, alloc, files(alloc, &["a"])?, Vec::new(alloc))?;
+    let End::Stopped {
+        stop: Stop::NoFile { file },
+    } = &ended.end
+    else {
+        panic!(rt; "not ended by a file");
+    };
+    assert_eq!(rt; file.as_str(), "b");
+    assert_eq!(rt; ended.numbers.len(), 3);
+    assert_eq!(rt; out.taken().len(), 7);
+    Ok(())
+}
+
+#[test]
+fn a_write_fails(rt: HostRuntime) -> Result<(), Fail> {
+    let alloc = rt.alloc();
+    let (ended, out) = run_two(&rt, alloc, files(alloc, &["a", "b"])?, vec![in alloc; 2]?)?;
+    assert!(rt; matches!(&ended.end, End::WriteFault));
+    assert_eq!(rt; ended.numbers.len(), 6);
+    assert_eq!(rt; out.taken().len(), 7);
+    Ok(())
+}
