@@ -5,12 +5,9 @@ pub mod PathTexts
 pub mod TextOrder
 pub mod PlainTexts
 pub mod Paths
+pub mod PathParts
 pub mod Numbers
 pub mod Kinds
 pub mod Rows
 pub mod Delimiters
 pub mod TraceRows
-pub mod PathLists
-pub mod PathLines
-pub mod PathPlaces
-pub mod RowLists

@@ -4,16 +4,12 @@
 //! It stands on no crate of the index, and all others may stand on it.
 #![tactic(auto)]
 
-mod kept;
 mod lines;
 mod list;
 mod name;
 mod number;
 mod order;
 mod path;
-mod path_lines;
-mod path_list;
-mod path_order;
 mod path_parts;
 mod path_reading;
 mod path_relations;
@@ -21,23 +17,18 @@ mod piece;
 mod plain;
 mod predicate;
 mod record;
-mod row_list;
-mod spot;
 mod steps;
-mod stretch;
 mod yields;
 
 pub use lines::lines_of;
 pub use list::{Bytes, Items, Nums, Text};
 pub use name::{Name, NameFault, name_cmp};
 pub use number::{put_i64, put_u64, put_u128, read_i64, read_octal, read_u32, read_u64};
-pub use order::{path_cmp, text_cmp};
+pub use order::{common_front, path_cmp, same_bytes, text_cmp};
 pub use path::{Path, PathFault, path_text};
-pub use path_list::PathList;
 pub use piece::{Pieces, pieces_of};
 pub use predicate::{Always, Pred, Tester};
 pub use record::{Kind, Line, Meta, Rec, Row, RowRef, read_kind};
-pub use row_list::RowList;
 use std::alloc::{AllocError, AllocFailed};
 pub use steps::Steps;
 pub use yields::Yield;

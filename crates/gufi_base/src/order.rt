@@ -64,7 +64,7 @@ fn common_by_blocks<const N: usize>(a: &[u8], b: &[u8], least: usize) -> usize
 }
 
 /// How many bytes two texts begin with alike.
-pub(crate) fn common_front(a: &[u8], b: &[u8]) -> usize
+pub fn common_front(a: &[u8], b: &[u8]) -> usize
     ensures same { take result a.now ≡ take result b.now }
     ensures within_a { result ≤ length a.now }
     ensures within_b { result ≤ length b.now }
@@ -85,7 +85,7 @@ pub(crate) fn common_front(a: &[u8], b: &[u8]) -> usize
 }
 
 /// Whether two texts are the same.
-pub(crate) fn same_bytes(a: &[u8], b: &[u8]) -> bool
+pub fn same_bytes(a: &[u8], b: &[u8]) -> bool
     ensures { result ≡ bytes_eq a.now b.now }
 {
     if a.len() != b.len() {

@@ -6,7 +6,7 @@ ghost use Rattle.gufi_base.specs.Words.{GivesUnless, split, is_empty as has_no_e
 ghost use Rattle.gufi_base.specs.Names.{is_name};
 ghost use Rattle.gufi_base.specs.Paths.{Components, read_path, path_text, is_prefix, parent_path, base_name, stem, is_child_of};
 ghost use Rattle.gufi_base.specs.PathTexts.{kept_text};
-ghost use Rattle.gufi_base.specs.PathLists.{ArePartsOf};
+ghost use Rattle.gufi_base.specs.PathParts.{ArePartsOf};
 
 use crate::Memory;
 use crate::name::Name;
@@ -119,7 +119,7 @@ impl Path {
     }
 
     /// The path of a row, from its stem and its base name. One allocation.
-    pub(crate) fn of_parts(alloc: Global, stem: &[u8], base: &[u8]) -> Result<Path, AllocError>
+    pub fn of_parts(alloc: Global, stem: &[u8], base: &[u8]) -> Result<Path, AllocError>
         requires { (path : Components) × ArePartsOf stem.now base.now path }
         ensures { IfOk result (λ made. (path : Components) → ArePartsOf stem.now base.now path → made ≡ path) }
     {

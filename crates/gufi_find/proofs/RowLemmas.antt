@@ -4,7 +4,7 @@ use Rattle.gufi_base.specs.declared.record.Row.{Row}
 use Rattle.gufi_base.specs.declared.record.RowRef.{RowRef}
 use Rattle.gufi_base.specs.Rows.{Stands}
 use Rattle.gufi_base.specs.Paths.{base_name}
-use Rattle.gufi_base.proofs.PathLists.{path_text-parts}
+use Rattle.gufi_base.proofs.CutParts.{path_text-parts}
 use Rattle.gufi_formula.specs.Formulas.{Formula, holds}
 use Rattle.gufi_find.specs.declared.test.Test.{Test}
 use Rattle.gufi_find.specs.Tests.{is_true, test_holds}

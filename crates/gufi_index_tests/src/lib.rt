@@ -1,4 +1,4 @@
-//! Tests of the index: access rules, trees, stores, sums, snapshots, traces, images, listings, reports and walks.
+//! Tests of the index: access rules, lists of rows, trees, stores, sums, snapshots, traces, images, listings, reports and walks.
 //!
 //! They stand beside the crates that they call, since a crate with tests is proved twice.
 #![tactic(auto)]
@@ -15,6 +15,8 @@ mod lines;
 mod list_tests;
 #[cfg(test)]
 mod roll_tests;
+#[cfg(test)]
+mod rows_tests;
 #[cfg(test)]
 mod snap_tests;
 #[cfg(test)]

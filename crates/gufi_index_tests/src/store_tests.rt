@@ -4,7 +4,8 @@ ghost use Rattle.std.specs.Arc.{arc_value};
 ghost use Rattle.gufi_tree.specs.Tree.{own_rows};
 
 use crate::lines::line;
-use gufi_base::{Always, Kind, Memory, PathList, Row, RowList, Steps, Yield};
+use gufi_base::{Always, Kind, Memory, Row, Steps, Yield};
+use gufi_rows::{PathList, RowList};
 use gufi_store::DirStore;
 use gufi_tree::{DirId, Stored, build};
 use std::alloc::Global;

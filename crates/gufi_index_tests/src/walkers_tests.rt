@@ -4,8 +4,9 @@ ghost use Rattle.std.specs.Prelude.{◌≡◌, ◌<◌};
 
 use crate::lines::line;
 use gufi_access::{Groups, Principal};
-use gufi_base::{Always, Kind, Line, Path, PathList, Steps};
+use gufi_base::{Always, Kind, Line, Path, Steps};
 use gufi_io::{Gate, GateKind, NoGate};
+use gufi_rows::PathList;
 use gufi_snap::Snapshot;
 use gufi_sums::{NoSkip, Summary};
 use gufi_tree::build;

@@ -5,7 +5,7 @@ use Rattle.gufi_io.specs.Files.{Files}
 use Rattle.gufi_base.specs.declared.record.Row.{Row}
 use Rattle.gufi_base.specs.Words.{is_empty, line}
 use Rattle.gufi_base.specs.Paths.{Components}
-use Rattle.gufi_base.specs.PathLines.{path_lines}
+use Rattle.gufi_rows.specs.PathLines.{path_lines}
 use Rattle.gufi_tree.specs.Tree.{Directory}
 use Rattle.gufi_snap.specs.Snap.{Snap}
 use Rattle.gufi_trace.specs.TraceText.{trace_means, TraceFailure, failure_text}

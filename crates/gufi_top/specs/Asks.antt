@@ -4,7 +4,7 @@ use Rattle.std.specs.List.{flat_map}
 use Rattle.gufi_base.specs.declared.record.Row.{Row}
 use Rattle.gufi_base.specs.Words.{◌>>=◌, line}
 use Rattle.gufi_base.specs.Paths.{Components, path_eq}
-use Rattle.gufi_base.specs.PathLines.{path_lines}
+use Rattle.gufi_rows.specs.PathLines.{path_lines}
 use Rattle.gufi_access.specs.declared.class.Principal.{Principal}
 use Rattle.gufi_tree.specs.Tree.{Directory}
 use Rattle.gufi_sums.specs.declared.summary.Summary.{Summary}

@@ -6,7 +6,7 @@ use Rattle.gufi_base.specs.declared.record.Row.{Row}
 use Rattle.gufi_base.specs.Words.{ascends}
 use Rattle.gufi_base.specs.Paths.{Components}
 use Rattle.gufi_base.specs.Rows.{row_cmp}
-use Rattle.gufi_base.specs.PathLines.{path_lines, ArePathsOf}
+use Rattle.gufi_rows.specs.PathLines.{path_lines, ArePathsOf}
 use Rattle.gufi_access.specs.declared.class.Principal.{Principal}
 use Rattle.gufi_tree.specs.Tree.{Directory, HasTreeShape}
 use Rattle.gufi_walk.specs.Answer.{answer}

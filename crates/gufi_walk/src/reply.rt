@@ -1,7 +1,7 @@
 //! What is made of an answer: its printed paths, its rows, their sum; and a refusal in words.
 
 ghost use Rattle.std.specs.Prelude.{◌≡◌, ◌≢◌, ◌++◌, length, Some, None, IfOk, IfErr, OnOk, decimal};
-ghost use Rattle.gufi_base.specs.PathLines.{path_lines};
+ghost use Rattle.gufi_rows.specs.PathLines.{path_lines};
 ghost use Rattle.gufi_sums.specs.Total.{total};
 ghost use Rattle.gufi_tree.specs.Resolve.{resolve};
 ghost use Rattle.gufi_walk.specs.Answer.{answer, refusal_of};
@@ -10,8 +10,9 @@ ghost use Rattle.gufi_walk.specs.Refusals.{class_text, refusal_text};
 use crate::refusal::Refusal;
 use crate::walkers::{Walkers, answer};
 use gufi_access::{Class, Principal};
-use gufi_base::{Memory, Path, PathList, Pred, Row, RowList, put_u64};
+use gufi_base::{Memory, Path, Pred, Row, put_u64};
 use gufi_io::Gate;
+use gufi_rows::{PathList, RowList};
 use gufi_snap::Snapshot;
 use gufi_sums::{NoSkip, Summary};
 use std::alloc::Global;

@@ -1,5 +1,5 @@
 use Rattle.std.proofs.Common.{◌∙◌, sym}
-use Rattle.gufi_base.specs.PathLines.{ArePathsOf-counted}
+use Rattle.gufi_rows.specs.PathLines.{ArePathsOf-counted}
 use Rattle.gufi_walk.proofs.Replies.{lines_of_answer}
 use Rattle.gufi_walk.specs.Answer.{answer}
 use Rattle.gufi_walk.proofs.reply.answer_lines.Goals as goal

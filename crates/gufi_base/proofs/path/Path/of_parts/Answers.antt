@@ -1,5 +1,5 @@
 use Rattle.std.proofs.Common.{arith}
-use Rattle.gufi_base.proofs.RowLists.{IsText-parts}
+use Rattle.gufi_base.proofs.CutParts.{IsText-parts}
 use Rattle.gufi_base.proofs.path.Path.of_parts.Goals as goal
 
 pub invariant_of-result : goal.invariant_of-result

@@ -1,7 +1,0 @@
-use Rattle.std.proofs.Common.{◌≡◌, ◌++◌, take}
-use Rattle.std.specs.Prelude.{map}
-use Rattle.gufi_base.specs.PathLists.{spot_behind}
-use Rattle.gufi_base.proofs.path_list.put_spots.Given as goal
-
-abbrev pub invariant-loop-spot : goal.invariant-loop-spot
-invariant-loop-spot l = l.spots.items ≡ l.fn.spots.items ++ map (spot_behind l.by) (take l.spot-index l.more)

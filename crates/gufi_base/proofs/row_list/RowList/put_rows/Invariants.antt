@@ -1,8 +1,0 @@
-use Rattle.std.proofs.Common.{◌≡◌, ◌++◌}
-use Rattle.gufi_base.specs.PathLists.{picked}
-use Rattle.gufi_base.specs.PathPlaces.{places_between}
-use Rattle.gufi_base.specs.RowLists.{no_row}
-use Rattle.gufi_base.proofs.row_list.RowList.put_rows.Given as goal
-
-abbrev pub invariant-loop-place : goal.invariant-loop-place
-invariant-loop-place l = l.rows.items ≡ l.fn.rows.items ++ picked l.self no_row (places_between l.fn.stretch.from l.place)

@@ -1,0 +1,92 @@
+ghost use Rattle.std.specs.Prelude.{◌≡◌, ◌+◌, ◌<◌, List, IfOk, OnOk};
+ghost use Rattle.gufi_base.specs.declared.record.Row.{Row as SeenRow};
+ghost use Rattle.gufi_base.specs.Rows.{StandsForSome};
+
+use crate::lines::meta;
+use gufi_access::Guard;
+use gufi_base::{Kind, Memory, Meta, Path, Row, RowRef, Yield};
+use gufi_rows::{PathList, RowList};
+use std::alloc::Global;
+use std::test::Fail;
+
+/// The row of a path, whose link is the path's kept text.
+fn row_of<'a>(path: &'a Path, meta: &'a Meta) -> RowRef<'a>
+    ensures { StandsForSome result }
+{
+    RowRef {
+        stem: path.stem(),
+        base: path.base_name(),
+        meta,
+        link: path.text(),
+    }
+}
+
+fn take_row<Y: Yield>(alloc: Global, rows: &mut Y, path: &Path, meta: &Meta) -> Result<(), Memory>
+    requires few { Y.count rows.old < 9 }
+    requires rows { (given : List SeenRow) × Y.stands_for rows.old given }
+    ensures count { OnOk result (Y.count rows.new ≡ Y.count rows.old + 1) }
+    ensures rows { OnOk result ((given : List SeenRow) × Y.stands_for rows.new given) }
+{
+    rows.take(alloc, row_of(path, meta))?;
+    Ok(())
+}
+
+fn scanned<Y: Yield>(alloc: Global, paths: &[Path; 3]) -> Result<Y, Memory>
+    ensures count { IfOk result (λ rows. Y.count rows ≡ 3) }
+    ensures rows { IfOk result (λ rows. (given : List SeenRow) × Y.stands_for rows given) }
+{
+    let (uid, gid, mode) = (101, 100, 0o755);
+    let meta = meta(Kind::Dir, Guard { uid, gid, mode });
+    let mut rows = Y::none(alloc)?;
+    take_row(alloc, &mut rows, &paths[0], &meta)?;
+    take_row(alloc, &mut rows, &paths[1], &meta)?;
+    take_row(alloc, &mut rows, &paths[2], &meta)?;
+    rows.settle(alloc)?;
+    Ok(rows)
+}
+
+/// The rows of two directories, as a walk gives them.
+fn walked<Y: Yield>(alloc: Global, outer: &[Path; 3], inner: &[Path; 3]) -> Result<Y, Memory> {
+    let mut rows: Y = scanned(alloc, outer)?;
+    let more: Y = scanned(alloc, inner)?;
+    rows.merge(alloc, more)?;
+    Ok(rows)
+}
+
+fn printed(alloc: Global, rows: &[Row]) -> Result<Vec<u8>, Memory> {
+    let mut text = Vec::new(alloc);
+    for row in rows {
+        text.extend_from_slice(row.path.printed())?;
+        text.push(b' ')?;
+        text.extend_from_slice(row.rec.link.as_slice())?;
+        text.push(b'\n')?;
+    }
+    Ok(text)
+}
+
+#[test]
+fn walked_rows_come_in_path_order(rt: HostRuntime) -> Result<(), Fail> {
+    let alloc = rt.alloc();
+    let outer = [
+        Path::read(alloc, b"/d")?,
+        Path::read(alloc, b"/d/z")?,
+        Path::read(alloc, b"/d/m")?,
+    ];
+    let inner = [
+        Path::read(alloc, b"/d/m/b")?,
+        Path::read(alloc, b"/d/m/c")?,
+        Path::read(alloc, b"/d/m/c/a")?,
+    ];
+    let paths: PathList = walked(alloc, &outer, &inner)?;
+    assert_eq!(rt;
+        paths.lines(alloc)?.as_slice(),
+        b"/d\n/d/m\n/d/m/b\n/d/m/c\n/d/m/c/a\n/d/z\n".as_slice()
+    );
+    let list: RowList = walked(alloc, &outer, &inner)?;
+    let rows = list.sorted(alloc)?;
+    assert_eq!(rt;
+        printed(alloc, rows.as_slice())?.as_slice(),
+        b"/d /d/\n/d/m /d/m/\n/d/m/b /d/m/b/\n/d/m/c /d/m/c/\n/d/m/c/a /d/m/c/a/\n/d/z /d/z/\n".as_slice()
+    );
+    Ok(())
+}

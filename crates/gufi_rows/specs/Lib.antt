@@ -1,0 +1,4 @@
+pub mod PathLists
+pub mod PathLines
+pub mod PathPlaces
+pub mod RowLists

@@ -1,0 +1,17 @@
+//! Lists of rows and of paths, as a walk collects them: in texts, without memory of its own for each row.
+//!
+//! Contracts see a list as the list of its rows or paths. What a walk gives is nearly in path order, and is put in order by
+//! merging its stretches.
+//! It stands on `gufi_base`; queries stand on it.
+#![tactic(auto)]
+
+mod kept;
+mod path_lines;
+mod path_list;
+mod path_order;
+mod row_list;
+mod spot;
+mod stretch;
+
+pub use path_list::PathList;
+pub use row_list::RowList;
