@@ -1,11 +1,26 @@
--- What a file's not being read whole means, and where it comes from.
-use Rattle.std.specs.Prelude.{ℕ, ◌<◌, List, length, ⊤, Option}
+-- What reading a file to its end comes to, and where it comes from that it isn't read.
+use Rattle.std.specs.Prelude.{◌≡◌, ℕ, ◌<◌, ◌≤◌, List, length, ⊤, Option}
 use Rattle.gufi_io.specs.Causes.{Rose}
-use Rattle.gufi_io.specs.Files.{Files, Lacks, HoldsFront}
+use Rattle.gufi_io.specs.Files.{Files, Holds, Lacks, IsReadUpTo, HoldsFront}
 use Rattle.gufi_io.specs.declared.shelf.OpenFault.{OpenFault}
 use Rattle.gufi_io.specs.declared.shelf.OpenFault.TheVariants as open_fault
 use Rattle.gufi_io.specs.declared.whole.ReadError.{ReadError}
 use Rattle.gufi_io.specs.declared.whole.ReadError.TheVariants.{NoFile, ReadFault, TooLong, Memory}
+
+-- of the file of that name so many bytes were taken, and these are left
+pub record IsTakenUpTo {T : Type 0} (has_taken : T → List ℕ → Type 0) (told : Option Files) (name : List ℕ) (left : Option (List ℕ)) (out : T) (size : ℕ) : Type 0 where
+  pub bytes : List ℕ
+  pub taken : has_taken out bytes
+  pub count : length bytes ≡ size
+  pub upto : IsReadUpTo told name bytes left
+
+-- all of the file was taken, which has at most so many bytes
+abbrev pub HasTakenFile : {T : Type 0} → (T → List ℕ → Type 0) → Option Files → List ℕ → ℕ → T → Type 0
+HasTakenFile has_taken told name max out = (bytes : List ℕ) × has_taken out bytes × Holds told name bytes × (length bytes ≤ max)
+
+-- a front of the file was taken, which has more bytes than so many
+abbrev pub HasTakenTooMany : {T : Type 0} → (T → List ℕ → Type 0) → Option Files → List ℕ → ℕ → T → Type 0
+HasTakenTooMany has_taken told name max out = (bytes : List ℕ) × has_taken out bytes × HoldsFront told name bytes × (max < length bytes)
 
 abbrev pub read_error_of : OpenFault → ReadError
 read_error_of open_fault.NoFile = NoFile

@@ -18,4 +18,6 @@ pub use memory::{MemShelf, MemSink, names_differ};
 pub use real::{FileShelf, StdSink};
 pub use shelf::{Failed, OpenFault, Shelf};
 pub use sink::Sink;
-pub use whole::{ReadError, WriteFault, read_all, write_whole};
+pub use whole::{
+    ReadError, RestError, TakeBytes, WriteFault, piece_buffer, read_all, read_rest, write_whole,
+};

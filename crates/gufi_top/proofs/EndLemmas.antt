@@ -1,11 +1,11 @@
 -- Lemmas on how a run ends.
-use Rattle.std.proofs.Common.{◌≡◌, ◌≢◌, ◌≤◌, ◌⊎◌, ⊎_elim, ℕ, List, [], length, refl, sym, ◌∙◌, inl, inr, arith}
+use Rattle.std.proofs.Common.{◌≡◌, ◌≢◌, ◌≤◌, ◌⊎◌, ⊎_elim, ℕ, List, [], length, refl, sym, ◌∙◌, inl, arith}
 use Rattle.std.specs.Prelude.{Option, Some, None, option_map, Result, Ok, Err, Vec}
 use Rattle.std.specs.declared.alloc.Global.{Global}
 use Rattle.std.specs.Io.KnownBytes.{Appends}
 use Rattle.std.proofs.KnownBytes.{Appends-nil}
 use Rattle.gufi_io.specs.Causes.{Rose}
-use Rattle.gufi_io.specs.Files.{Files, TakesFront}
+use Rattle.gufi_io.specs.Files.{Files}
 use Rattle.gufi_phases.specs.declared.load.Stop.{Stop}
 use Rattle.gufi_phases.specs.declared.load.Stop.TheVariants as stops
 use Rattle.gufi_phases.specs.declared.session.End.{End}
@@ -19,8 +19,8 @@ use Rattle.gufi_top.specs.Reasons.{Reason, stop_reason}
 use Rattle.gufi_top.specs.Verdict.{Verdict, writes, runs, run_over}
 use Rattle.gufi_top.specs.Calls.{GivesOver, OfWordsOnlyIf, IsPastWords, HaltHasCause}
 use Rattle.gufi_top.specs.Views.{text_view}
-use Rattle.gufi_top.specs.Ends.{IsVerdictStatus, BreaksOff, MayEnd, MayBreakOff, MayBeCut, MayBeNoted, TakesNote, EndedBy, BrokenOffBy, TextEnds, WriteFaultedBy, read_fault_note, write_fault_note, memory_note}
-use Rattle.gufi_top.specs.Endings.{HasRun, HaltTells, StopTells, EndTells}
+use Rattle.gufi_top.specs.Ends.{IsVerdictStatus, BreaksOff, MayBreakOff, MayBeCut, TakesNote, EndedBy, BrokenOffBy, TextEnds, WriteFaultedBy, read_fault_note, memory_note}
+use Rattle.gufi_top.specs.Endings.{HasRun, HaltTells, EndTells}
 use Rattle.gufi_top.specs.declared.halt.Text.{Text}
 use Rattle.gufi_top.specs.declared.halt.Halt.{Halt}
 use Rattle.gufi_top.specs.declared.halt.Halt.TheVariants as halts

@@ -1,5 +1,5 @@
 -- Lemmas on the file of an index.
-use Rattle.std.proofs.Common.{◌≡◌, ℕ, ◌<◌, ◌≤◌, List, ◌++◌, length, take, refl, sym, ap, ◌∙◌, append-nil, true, false}
+use Rattle.std.proofs.Common.{◌≡◌, ℕ, ◌≤◌, List, ◌++◌, length, take, refl, sym, ap, ◌∙◌, append-nil, true, false}
 use Rattle.std.specs.Prelude.{Bool, Option, Some, None, Result, Ok, Err, Vec}
 use Rattle.std.specs.declared.alloc.Global.{Global}
 use Rattle.std.specs.Io.KnownBytes.{Consumes, IsAtEnd}
@@ -13,12 +13,12 @@ use Rattle.gufi_image.specs.Reading.{image_means}
 use Rattle.gufi_image.specs.declared.fault.ImageKind.{ImageKind}
 use Rattle.gufi_image.specs.declared.fault.ImageError.TheVariants as errors
 use Rattle.gufi_top.specs.declared.halt.Halt.{Halt}
-use Rattle.gufi_top.specs.declared.halt.Halt.TheVariants as halts
-use Rattle.gufi_top.specs.Reasons.{held, past_limit, file_in, trace_in, image_reason, image_within, image_in, rolled_under, traced_in, is_image, index_by, index_in}
+use Rattle.gufi_top.specs.Reasons.{held, file_in, trace_in, image_reason, image_within, image_in, rolled_under, traced_in, is_image, index_by, index_in}
 use Rattle.gufi_top.specs.Calls.{Gives, GivesOver}
 use Rattle.gufi_top.specs.Views.{bytes_view}
 use Rattle.gufi_top.specs.Fed.{BeginsAs}
-use Rattle.gufi_top.proofs.ReadingLemmas.{file_whole, file_too_long, upto_more, given_as, stays}
+use Rattle.gufi_io.proofs.Fronts.{upto_more}
+use Rattle.gufi_top.proofs.ReadingLemmas.{given_as, stays}
 use Rattle.gufi_top.proofs.StepLemmas.{over_ok, over_err, given_over}
 
 -- ---- what a file begins with
@@ -49,19 +49,7 @@ begins_whole (Some files) name front left upto end = (front, whole_held files na
 
 pub ruleset fronts = (front_more, begins_long, begins_whole)
 
--- ---- an image, whose bytes are gathered
-
-pub gathered : (told : Option Files) (max : ℕ) (name : List ℕ) (bytes : Vec ℕ Global) (left : Option (List ℕ)) → IsReadUpTo told name bytes.items left → IsAtEnd left → length bytes.items ≤ max
-    → GivesOver told bytes_view (Ok bytes) (file_in max name)
-gathered None max name bytes left upto end few = tt
-gathered (Some files) max name bytes left upto end few = file_whole (Some files) max name bytes (whole_held files name bytes.items left upto end) few
-
-pub gathered_too_long : (told : Option Files) (max : ℕ) (name bytes : List ℕ) (left : Option (List ℕ)) (note : Vec ℕ Global) → IsReadUpTo told name bytes left → max < length bytes → note.items ≡ (past_limit name max).note
-    → GivesOver told bytes_view (Err (halts.Refused 6 note)) (file_in max name)
-gathered_too_long None max name bytes left note upto long is = tt
-gathered_too_long (Some files) max name bytes left note upto long is = file_too_long (Some files) max name bytes note (upto.0, upto.2) long is
-
-pub ruleset gathering = (front_more, gathered, gathered_too_long)
+-- ---- an image
 
 pub within_ok : (name bytes : List ℕ) (snap : Snap) → GivesUnless errors.Memory (Ok snap) (image_means bytes) → Gives (λ (s : Snap). s) (Ok snap) (image_within name bytes)
 unfolding image_within

@@ -1,9 +1,8 @@
 -- Lemmas on files that are read.
-use Rattle.std.proofs.Common.{◌≡◌, ℕ, ◌+◌, ◌<◌, ◌≤◌, List, ◌++◌, length, take, refl, sym, ap, ◌∙◌, append_assoc, append-nil, arith, true}
+use Rattle.std.proofs.Common.{◌≡◌, ℕ, ◌<◌, ◌≤◌, List, ◌++◌, length, refl, sym, ap, ◌∙◌, arith, true}
 use Rattle.std.specs.Prelude.{Option, Some, None, Result, Ok, Err, nat_lt, Vec}
 use Rattle.std.specs.declared.alloc.Global.{Global}
-use Rattle.std.specs.Io.KnownBytes.{Consumes, IsAtEnd}
-use Rattle.std.proofs.lemmas.List.{length-append, length-take}
+use Rattle.std.proofs.lemmas.List.{length-append}
 use Rattle.std.proofs.lemmas.Bool.Decides.{nat_tests}
 use Rattle.gufi_io.specs.Files.{Files, Holds, Lacks, HoldsFront, IsReadUpTo}
 use Rattle.gufi_base.specs.Words.{◌>>=◌, result_map_err, GivesUnless}
@@ -57,40 +56,8 @@ pub ruleset opening = unheld
 
 -- ---- a file that is fed as it comes
 
-pub upto_more : (told : Option Files) (name stream piece : List ℕ) (left left' : Option (List ℕ)) → IsReadUpTo told name stream left → Consumes left left' piece → IsReadUpTo told name (stream ++ piece) left'
-upto_more None name stream piece left left' upto more = tt
-upto_more (Some files) name stream piece None left' upto more = absurd cc
-upto_more (Some files) name stream piece (Some xs) None upto more = absurd more
-upto_more (Some files) name stream piece (Some xs) (Some ys) upto more =
-    let same : xs ≡ upto.0 = cc in
-    (ys, refl, upto.2 ∙ ap (λ (t : List ℕ). Some (stream ++ t)) (sym same ∙ more) ∙ ap Some (sym (append_assoc stream piece ys)))
-
-pub fed_more : (told : Option Files) (name buf piece : List ℕ) (left left' : Option (List ℕ)) (reader reader' : Reading) (size n : ℕ) → IsFedUpTo told name left reader size → Consumes left left' (take n buf) → n ≤ length buf → piece ≡ take n buf
-    → ((stream : List ℕ) → HasRead reader stream → HasRead reader' (stream ++ piece)) → IsFedUpTo told name left' reader' (size + n)
-fed_more told name buf piece left left' reader reader' size n fed more few is reads =
-    record {
-      stream = fed.stream ++ piece;
-      read = reads fed.stream fed.read;
-      count = omega (arith, length-append fed.stream piece, fed.count, ap length is, length-take n buf);
-      upto = upto_more told name fed.stream piece left left' fed.upto (rw is more);
-    }
-
-pub fed_all : (told : Option Files) (name : List ℕ) (left : Option (List ℕ)) (reader : Reading) (size : ℕ) → IsFedUpTo told name left reader size → IsAtEnd left → size ≤ max_trace → HasReadFile told name reader
-fed_all None name left reader size fed end few = tt
-fed_all (Some files) name None reader size fed end few = absurd (let upto = fed.upto in cc)
-fed_all (Some files) name (Some xs) reader size fed end few =
-    let same : xs ≡ fed.upto.0 = (let e = fed.upto.1 in cc) in
-    (fed.stream, fed.upto.2 ∙ ap (λ (t : List ℕ). Some (fed.stream ++ t)) (sym same ∙ end) ∙ ap Some (append-nil fed.stream), omega (arith, fed.count), fed.read)
-
-pub fed_too_long : (told : Option Files) (name : List ℕ) (left : Option (List ℕ)) (reader : Reading) (size : ℕ) (note : Vec ℕ Global) → IsFedUpTo told name left reader size → max_trace < size → note.items ≡ (past_limit name max_trace).note
-    → GivesOver told bytes_view (Err (halts.Refused 6 note)) (file_in max_trace name)
-fed_too_long None name left reader size note fed long is = tt
-fed_too_long (Some files) name left reader size note fed long is = file_too_long (Some files) max_trace name fed.stream note (fed.upto.0, fed.upto.2) (omega (arith, fed.count)) is
-
-pub ruleset feeding = (fed_more, fed_all, fed_too_long)
-
 pub fed_from_front : (told : Option Files) (name front : List ℕ) (left : Option (List ℕ)) (reader : Reading) → HasRead reader front → IsReadUpTo told name front left → IsFedUpTo told name left reader (length front)
-fed_from_front told name front left reader read upto = record { stream = front; read = read; count = refl; upto = upto }
+fed_from_front told name front left reader read upto = record { bytes = front; taken = read; count = refl; upto = upto }
 
 -- ---- lines, and the tree of them
 

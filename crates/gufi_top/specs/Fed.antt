@@ -3,7 +3,8 @@ use Rattle.std.specs.Prelude.{◌≡◌, ℕ, ◌≤◌, Bool, List, length, ⊤
 use Rattle.gufi_base.specs.Limits.{max_trace}
 use Rattle.gufi_base.specs.Words.{◌>>=◌, result_map_err}
 use Rattle.gufi_base.specs.declared.record.Line.{Line}
-use Rattle.gufi_io.specs.Files.{Files, IsReadUpTo}
+use Rattle.gufi_io.specs.Files.{Files}
+use Rattle.gufi_io.specs.Whole.{IsTakenUpTo}
 use Rattle.gufi_trace.specs.TraceText.{trace_lines, of_line}
 use Rattle.gufi_trace.specs.Reader.{Reading, HasRead}
 use Rattle.gufi_top.specs.Reasons.{Reason, file_in, trace_reason, is_image}
@@ -21,11 +22,8 @@ HasReadFile None name reader = ⊤
 HasReadFile (Some files) name reader = (bytes : List ℕ) × (files name ≡ Some bytes) × (length bytes ≤ max_trace) × HasRead reader bytes
 
 -- so many bytes were read of a file, which the reader has read, and these are left
-pub record IsFedUpTo (told : Option Files) (name : List ℕ) (left : Option (List ℕ)) (reader : Reading) (size : ℕ) : Type 0 where
-  pub stream : List ℕ
-  pub read : HasRead reader stream
-  pub count : length stream ≡ size
-  pub upto : IsReadUpTo told name stream left
+abbrev pub IsFedUpTo : Option Files → List ℕ → Option (List ℕ) → Reading → ℕ → Type 0
+IsFedUpTo = IsTakenUpTo HasRead
 
 -- the file begins as an image does, or doesn't, where its bytes are told
 abbrev pub BeginsAs : Option Files → List ℕ → Bool → Type 0

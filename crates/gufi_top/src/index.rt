@@ -10,10 +10,10 @@ ghost use Rattle.gufi_top.specs.Fed.{BeginsAs};
 
 use crate::halt::{Halt, refused};
 use crate::note;
-use crate::reading::{open_named, piece_buffer, rest_of_trace};
+use crate::reading::{open_named, rest_of_trace};
 use crate::walk::snapshot_of;
 use gufi_image::{ImageError, ImageKind, read_image};
-use gufi_io::Shelf;
+use gufi_io::{RestError, Shelf, piece_buffer, read_rest};
 use gufi_snap::Snapshot;
 use gufi_tree::Tree;
 use std::alloc::Global;
@@ -66,7 +66,7 @@ fn read_front<F: Shelf>(
 }
 
 // The bytes of the image in hand, of which these were read. Each byte is copied once, into memory that grows by doubling.
-#[tactic(auto, using(crate::proofs::IndexLemmas::gathering))]
+#[tactic(auto, using(crate::proofs::ReadingLemmas::reading))]
 fn gather_rest<F: Shelf>(
     alloc: Global,
     shelf: &mut F,
@@ -82,17 +82,13 @@ fn gather_rest<F: Shelf>(
     ensures past_words { IfErr result IsPastWords }
     ensures cause { IfErr result (HaltHasCause (F.faults shelf.old) (F.faults shelf.new) (F.absents shelf.old) (F.absents shelf.new)) }
 {
-    'pieces: while bytes.len() <= MAX_IMAGE as usize {
-        let Ok(count) = shelf.read(room) else {
-            return Err(Halt::ReadFault);
-        };
-        if count == 0 {
-            return Ok(bytes);
-        }
-        let (piece, _) = room.split_at(count);
-        bytes.extend_from_slice(piece)?;
+    let size = bytes.len();
+    match read_rest(alloc, shelf, name, room, MAX_IMAGE, size, &mut bytes) {
+        Ok(()) => Ok(bytes),
+        Err(RestError::ReadFault) => Err(Halt::ReadFault),
+        Err(RestError::TooLong) => refused(6, note::past_limit(alloc, name, MAX_IMAGE)?),
+        Err(RestError::Memory) => Err(Halt::Memory),
     }
-    refused(6, note::past_limit(alloc, name, MAX_IMAGE)?)
 }
 
 // An image isn't read: a field is faulty, or a limit is passed.

@@ -1,5 +1,5 @@
 //! The files that the words name.
-ghost use Rattle.std.specs.Prelude.{◌≡◌, ◌≢◌, ◌≤◌, ◌<◌, ◌+◌, [], true, length, vec_len, IfErr, IfOk, OnOk, IsTrue, Err};
+ghost use Rattle.std.specs.Prelude.{◌≡◌, ◌≢◌, ◌≤◌, ◌<◌, ◌+◌, [], true, length, IfErr, IfOk, OnOk, IsTrue, Err};
 ghost use Rattle.gufi_base.specs.Words.{result_map_err};
 ghost use Rattle.gufi_base.specs.Limits.{max_dirs, max_entries, max_trace};
 ghost use Rattle.gufi_tree.specs.Build.{tree_of};
@@ -15,16 +15,15 @@ ghost use Rattle.gufi_top.specs.Fed.{lines_in, HasReadFile, IsFedUpTo};
 use crate::halt::{Halt, refused};
 use crate::note;
 use gufi_base::Memory;
-use gufi_io::{OpenFault, ReadError, Shelf, read_all};
+use gufi_io::{
+    OpenFault, ReadError, RestError, Shelf, TakeBytes, piece_buffer, read_all, read_rest,
+};
 use gufi_trace::{TraceError, TraceFault, TraceKind, TraceReader, read_trace};
 use gufi_tree::{Stanzas, Tree, TreeFault, build_stanzas};
 use std::alloc::{AllocError, Global};
 
 /// How many bytes a trace may have.
 pub(crate) const MAX_TRACE: u32 = 536_870_912;
-
-/// How many bytes of a trace are read at once.
-const PIECE: usize = 65536;
 
 // The bytes of a file that the words name.
 #[tactic(auto, using(crate::proofs::ReadingLemmas::reading), unfolding(crate::specs::Reasons::file_in))]
@@ -63,13 +62,6 @@ fn refuse_line<T>(alloc: Global, name: &str, fault: TraceFault) -> Result<T, Hal
     refused(5, note::trace_line(alloc, name, &fault)?)
 }
 
-// A buffer for the pieces of a file: few system calls, and a piece that stays in the processor's caches.
-pub(crate) fn piece_buffer(alloc: Global) -> Result<Vec<u8>, AllocError>
-    ensures { IfOk result (λ buffer. 0 < vec_len buffer) }
-{
-    vec![in alloc; 0; PIECE]
-}
-
 // Takes the file of that name in hand.
 #[tactic(auto, using(crate::proofs::ReadingLemmas::opening))]
 pub(crate) fn open_named<F: Shelf>(alloc: Global, shelf: &mut F, name: &str) -> Result<(), Halt>
@@ -99,18 +91,31 @@ fn reader_of(alloc: Global, delim: u8, front: &[u8]) -> Result<TraceReader, Memo
     Ok(reader)
 }
 
+// A reader of a trace that takes a file. A faulty line waits in it, since that the file is too long comes before it.
+#[derive(Drop)]
+struct Feed {
+    reader: TraceReader,
+}
+
+impl TakeBytes for Feed {
+    ghost has_taken = { λ first feed bytes. HasRead feed.reader bytes × (feed.reader.delim ≡ first.reader.delim) };
+
+    fn take_piece(&mut self, alloc: Global, piece: &[u8]) -> Result<(), AllocError> {
+        let _ = self.reader.feed(alloc, piece);
+        Ok(())
+    }
+}
+
 // Feeds the rest of the file in hand to a reader that has read so many bytes of it, to its end or until it is longer than
 // a trace may be.
-//
-// A faulty line waits in the reader, since that the file is too long comes before it.
-#[tactic(auto, using(crate::proofs::ReadingLemmas::feeding), unfolding(crate::specs::Reasons::file_in))]
+#[tactic(auto, using(crate::proofs::ReadingLemmas::file_too_long))]
 fn feed_rest<F: Shelf>(
     alloc: Global,
     shelf: &mut F,
     name: &str,
     room: &mut [u8],
-    mut reader: TraceReader,
-    mut size: usize,
+    reader: TraceReader,
+    size: usize,
 ) -> Result<TraceReader, Halt>
     requires in_hand { IsTrue (F.in_hand shelf.old) }
     requires room { 0 < length room.old }
@@ -121,18 +126,13 @@ fn feed_rest<F: Shelf>(
     ensures past_words { IfErr result IsPastWords }
     ensures cause { IfErr result (HaltHasCause (F.faults shelf.old) (F.faults shelf.new) (F.absents shelf.old) (F.absents shelf.new)) }
 {
-    'pieces: while size <= MAX_TRACE as usize {
-        let Ok(count) = shelf.read(room) else {
-            return Err(Halt::ReadFault);
-        };
-        if count == 0 {
-            return Ok(reader);
-        }
-        let (piece, _) = room.split_at(count);
-        let _ = reader.feed(alloc, piece);
-        size += count;
+    let mut feed = Feed { reader };
+    match read_rest(alloc, shelf, name, room, MAX_TRACE, size, &mut feed) {
+        Ok(()) => Ok(feed.reader),
+        Err(RestError::ReadFault) => Err(Halt::ReadFault),
+        Err(RestError::TooLong) => refused(6, note::past_limit(alloc, name, MAX_TRACE)?),
+        Err(RestError::Memory) => Err(Halt::Memory),
     }
-    refused(6, note::past_limit(alloc, name, MAX_TRACE)?)
 }
 
 // The lines of the trace in hand by their stanzas, of which this front was read. Its bytes are never all in memory.
