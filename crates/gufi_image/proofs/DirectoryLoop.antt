@@ -24,7 +24,7 @@ dirs_in shared = directories_of (values_of shared)
 abbrev pub front_of : {Z : Type 0} → List (Arc Stored Z) → List Flag → Front
 front_of shared flags = record { dirs = dirs_in shared; flags = flags }
 
-dirs_push : {Z : Type 0} (shared pushed : List (Arc Stored Z)) (one : Arc Stored Z) (stored : Stored) → pushed ≡ shared ++ one ∷ [] → arc_value one ≡ stored → dirs_in pushed ≡ dirs_in shared ++ directory_of stored ∷ []
+pub dirs_push : {Z : Type 0} (shared pushed : List (Arc Stored Z)) (one : Arc Stored Z) (stored : Stored) → pushed ≡ shared ++ one ∷ [] → arc_value one ≡ stored → dirs_in pushed ≡ dirs_in shared ++ directory_of stored ∷ []
 dirs_push {Z} shared pushed one stored push value =
     ap (λ (s : List (Arc Stored Z)). dirs_in s) push
     ∙ ap (λ (s : List Stored). directories_of s) (map-append arc_value shared (one ∷ []))

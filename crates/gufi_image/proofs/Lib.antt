@@ -16,5 +16,6 @@ mod EntryLoop
 mod Fronts
 mod Shape
 mod DirectoryLoop
+mod Parents
 mod Flags
 mod Worked

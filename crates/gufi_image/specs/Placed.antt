@@ -1,11 +1,12 @@
 -- How the parts of an image lie to those before them.
-use Rattle.std.specs.Prelude.{◌≡◌, ℕ, ◌+◌, ◌≤◌, ◌<◌, ◌^◌, true, false, not, ◌||◌, List, [], ◌∷◌, ◌++◌, length, slice_get, Some, IsTrue}
+use Rattle.std.specs.Prelude.{◌≡◌, ℕ, ◌+◌, ◌≤◌, ◌<◌, ◌^◌, true, false, not, ◌||◌, List, [], ◌∷◌, ◌++◌, length, slice_get, slice_index, Some, IsTrue}
 use Rattle.std.specs.List.{list_all, flat_map}
 use Rattle.gufi_base.specs.Words.{is_empty, ascends}
 use Rattle.gufi_base.specs.Kinds.{is_dir}
 use Rattle.gufi_base.specs.Paths.{Components, parent_path}
 use Rattle.gufi_tree.specs.declared.tree.Entry.{Entry}
 use Rattle.gufi_tree.specs.Tree.{Directory, dir_cmp, entry_cmp, entry_count, has_dir, has_entry_named, is_kinded, own_rows, HasTreeShape}
+use Rattle.gufi_tree.specs.Places.{path_at}
 use Rattle.gufi_image.specs.Directories.{follows}
 
 -- entries in name order, of which none is a directory
@@ -47,6 +48,20 @@ pub record IsFront (dirs : List Directory) : Type 0 where
   pub kinds : IsTrue (list_all is_kinded dirs)
   pub apart : IsTrue (list_all (λ dir. list_all (λ entry. not (has_dir dirs (dir.path ++ entry.name ∷ []))) dir.entries) dirs)
   pub root : IsTrue (is_empty dirs || has_dir dirs [])
+
+-- the directory at a place is the one that a path lies in
+abbrev pub IsAbove : List Directory → ℕ → Components → Type 0
+IsAbove dirs number path = (number < length dirs) × (path_at dirs number ≡ parent_path path)
+
+-- the place of the directory that a path behind these lies in; the root lies in itself
+abbrev pub LiesIn : List Directory → Components → ℕ → Type 0
+LiesIn [] path number = number ≡ 0
+LiesIn (first ∷ dirs) path number = IsAbove (first ∷ dirs) number path
+
+-- each number is the place of the directory that the one at its place lies in
+pub record AreParents (dirs : List Directory) (numbers : List ℕ) : Type 0 where
+  pub len : length numbers ≡ length dirs
+  pub each : (k : ℕ) → k < length dirs → IsAbove dirs (slice_index numbers k) (path_at dirs k)
 
 -- so many directories, with so many entries at most
 pub record AreDirectories (number total : ℕ) (dirs : List Directory) : Type 0 where

@@ -8,7 +8,7 @@ ghost use Rattle.gufi_tree.specs.Stored.{directory_of, directories_of, values_of
 ghost use Rattle.gufi_image.specs.Fields.{Gives};
 ghost use Rattle.gufi_image.specs.Directories.{root_at, below_at, follows, first_at, other_at, path_at, flag_at, directory_at, directories_at};
 ghost use Rattle.gufi_image.specs.Sorted.{AreSorted, IsParent};
-ghost use Rattle.gufi_image.specs.Placed.{IsBelow, IsChild, IsPlaced, IsNext, AreDirectories};
+ghost use Rattle.gufi_image.specs.Placed.{IsBelow, IsChild, IsPlaced, IsNext, IsAbove, LiesIn, AreDirectories, AreParents};
 ghost use Rattle.gufi_image.specs.Views.{flagged, front};
 
 use crate::entry::entries_at;
@@ -30,17 +30,26 @@ pub(crate) struct Flag {
     pub left: usize,
 }
 
-/// A directory with its flag.
+/// A path, with the place of the directory that it lies in; the root lies in itself.
+#[derive(Drop)]
+pub(crate) struct Located {
+    pub path: Path,
+    pub parent: u32,
+}
+
+/// A directory with the place of its parent and its flag.
 #[derive(Drop)]
 pub(crate) struct Found {
     pub stored: Stored,
+    pub parent: u32,
     pub flag: Flag,
 }
 
-/// Directories with their flags, and how many entries they have.
+/// Directories with the places of their parents and their flags, and how many entries they have.
 #[derive(Drop)]
 pub(crate) struct Directories {
     pub stored: Vec<Arc<Stored, Global>>,
+    pub parents: Vec<u32>,
     pub flags: Vec<Flag>,
     pub entries: u32,
 }
@@ -141,6 +150,7 @@ fn other_at<'a>(
     requires { AreSorted (directories_of (values_of before.now)) }
     ensures gives { Gives (λ x. (x.0, x.1.now)) result (other_at (directories_of (values_of before.now)) number rest.now bytes.now) }
     ensures child { IfOk result (λ x. IsChild (directories_of (values_of before.now)) x.0) }
+    ensures above { IfOk result (λ x. IsAbove (directories_of (values_of before.now)) number x.0) }
 {
     let Some(parent) = parent_of(before, number) else {
         return Err(flaw(bytes, ImageKind::Parent));
@@ -158,16 +168,20 @@ fn path_at<'a>(
     alloc: Global,
     bytes: &'a [u8],
     before: &[Arc<Stored, Global>],
-) -> Result<(Path, &'a [u8]), Refused>
+) -> Result<(Located, &'a [u8]), Refused>
     requires { AreSorted (directories_of (values_of before.now)) }
-    ensures gives { Gives (λ x. (x.0, x.1.now)) result (path_at (directories_of (values_of before.now)) bytes.now) }
-    ensures placed { IfOk result (λ x. IsPlaced (directories_of (values_of before.now)) x.0) }
+    ensures gives { Gives (λ x. (x.0.path, x.1.now)) result (path_at (directories_of (values_of before.now)) bytes.now) }
+    ensures placed { IfOk result (λ x. IsPlaced (directories_of (values_of before.now)) x.0.path) }
+    ensures parent { IfOk result (λ x. LiesIn (directories_of (values_of before.now)) x.0.path x.0.parent) }
 {
     let (number, rest) = u32_at(bytes)?;
     if before.is_empty() {
-        return first_at(alloc, bytes, rest, number);
+        let (path, rest) = first_at(alloc, bytes, rest, number)?;
+        return Ok((Located { path, parent: 0 }, rest));
     }
-    other_at(alloc, bytes, rest, before, number)
+    let (path, rest) = other_at(alloc, bytes, rest, before, number)?;
+    let parent = number;
+    Ok((Located { path, parent }, rest))
 }
 
 #[tactic(auto, unfolding(crate::specs::Directories::flag_at))]
@@ -198,8 +212,10 @@ fn directory_at<'a>(
     requires so_far { so_far ≡ entry_count (directories_of (values_of before.now)) }
     ensures gives { Gives (λ x. (flagged x.0, x.1.now)) result (directory_at total (directories_of (values_of before.now)) bytes.now) }
     ensures next { IfOk result (λ x. IsNext total (directories_of (values_of before.now)) (directory_of x.0.stored)) }
+    ensures parent { IfOk result (λ x. LiesIn (directories_of (values_of before.now)) x.0.stored.path x.0.parent) }
 {
-    let (path, rest) = path_at(alloc, bytes, before)?;
+    let (located, rest) = path_at(alloc, bytes, before)?;
+    let Located { path, parent } = located;
     let (flag, rest) = flag_at(rest)?;
     let (rec, counts) = record_at(alloc, rest, Kind::Dir)?;
     let (count, rest) = u32_at(counts)?;
@@ -209,7 +225,12 @@ fn directory_at<'a>(
     let above = Above::of(&path);
     let (entries, rest) = entries_at(alloc, rest, &above, count)?;
     let stored = Stored { path, rec, entries };
-    Ok((Found { stored, flag }, rest))
+    let found = Found {
+        stored,
+        parent,
+        flag,
+    };
+    Ok((found, rest))
 }
 
 fn entries_in(dir: &Stored) -> usize
@@ -228,15 +249,18 @@ pub(crate) fn directories_at(
     ensures gives { Gives (λ x. (front x.0, x.1.now)) result (directories_at count total bytes.now) }
     ensures entries { IfOk result (λ x. x.0.entries ≡ entry_count (directories_of (values_of x.0.stored.items))) }
     ensures directories { IfOk result (λ x. AreDirectories count total (directories_of (values_of x.0.stored.items))) }
+    ensures parents { IfOk result (λ x. AreParents (directories_of (values_of x.0.stored.items)) x.0.parents.items) }
 {
     let few = (count as usize).min(bytes.len() / LEAST_DIRECTORY);
     let mut stored = Vec::with_capacity(alloc, few)?;
+    let mut parents = Vec::with_capacity(alloc, few)?;
     let mut flags = Vec::with_capacity(alloc, few)?;
     let mut so_far = 0u32;
     let mut rest = bytes;
     for _ in 0..count {
         let (found, after) = directory_at(alloc, rest, &stored, so_far, total)?;
         so_far += entries_in(&found.stored) as u32;
+        parents.push(found.parent)?;
         flags.push(found.flag)?;
         stored.push(Arc::new(alloc, found.stored)?)?;
         rest = after;
@@ -245,6 +269,7 @@ pub(crate) fn directories_at(
     Ok((
         Directories {
             stored,
+            parents,
             flags,
             entries,
         },

@@ -6,6 +6,7 @@ ghost use Rattle.std.specs.Bool.{nat_eq};
 ghost use Rattle.std.specs.List.{starts_with};
 ghost use Rattle.gufi_base.specs.Limits.{max_dirs, max_entries, max_image};
 ghost use Rattle.gufi_base.specs.Words.{GivesUnless};
+ghost use Rattle.gufi_tree.specs.Kept.{HasParents};
 ghost use Rattle.gufi_tree.specs.Stored.{directories_of, values_of};
 ghost use Rattle.gufi_roll.specs.CanRoll.{roll_flags};
 ghost use Rattle.gufi_image.specs.Bytes.{magic};
@@ -105,6 +106,7 @@ fn head_at(bytes: &[u8]) -> Result<(Head, &[u8]), Refused>
 fn all_at(alloc: Global, bytes: &[u8]) -> Result<Parts, Refused>
     ensures gives { Gives flags_of result (all_at bytes.now) }
     ensures whole { IfOk result (λ parts. IsWhole (directories_of (values_of parts.directories.stored.items))) }
+    ensures parents { IfOk result (λ parts. HasParents (directories_of (values_of parts.directories.stored.items)) parts.directories.parents.items) }
 {
     let (head, rest) = head_at(bytes)?;
     let (directories, rest) = directories_at(alloc, rest, head.dirs, head.entries)?;
@@ -155,7 +157,7 @@ fn snapshot_at(alloc: Global, bytes: &[u8]) -> Result<Snapshot, Refused>
     let limit = parts.limit;
     let directories = parts.directories;
     let flags = directories.flags;
-    let tree = tree_of_directories(alloc, directories.stored)?;
+    let tree = tree_of_directories(alloc, directories.stored, directories.parents)?;
     let snap = Snapshot::build_uncounted(alloc, tree, limit)?;
     flags_hold(&snap, flags.as_slice())?;
     Ok(snap)
@@ -163,7 +165,7 @@ fn snapshot_at(alloc: Global, bytes: &[u8]) -> Result<Snapshot, Refused>
 
 /// The snapshot whose image the bytes are, or the first fault from the left, with its offset.
 ///
-/// One pass over the bytes. No more memory is taken than the snapshot's and five bytes for each directory.
+/// One pass over the bytes. No more memory is taken than the snapshot's and sixteen bytes for each directory.
 #[tactic(auto, unfolding(crate::specs::Reading::image_means))]
 pub fn read_image(alloc: Global, bytes: &[u8]) -> Result<Snapshot, ImageError>
     requires { length bytes.now ≤ max_image }

@@ -9,6 +9,7 @@ pub mod Values
 pub mod Homes
 pub mod Arranged
 pub mod Linked
+pub mod Laid
 pub mod Resolving
 pub mod Apart
 pub mod Filters

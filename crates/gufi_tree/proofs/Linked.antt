@@ -1,30 +1,29 @@
 -- Where the parents and the subdirectories of directories are.
-use Rattle.std.proofs.Common.{◌≡◌, ℕ, zero, suc, ◌+◌, ◌^◌, ◌<◌, ◌≤◌, Bool, true, false, not, ◌&&◌, cond, eqb, List, [], ◌∷◌, ◌++◌, map, length, take, get_or, Option, Some, None, is_some, refl, sym, ap, ◌∙◌, arith, subst, ◌⊎◌, inl, inr, ⊎_elim}
+use Rattle.std.proofs.Common.{◌≡◌, ℕ, zero, suc, ◌+◌, ◌<◌, ◌≤◌, Bool, true, false, not, ◌&&◌, cond, eqb, List, [], ◌∷◌, ◌++◌, map, length, get_or, Option, Some, None, is_some, refl, sym, ap, ◌∙◌, arith, ◌⊎◌, inl, inr, ⊎_elim}
 use Rattle.std.specs.declared.cmp.Ordering.TheVariants.{Less, Equal, Greater}
 use Rattle.std.specs.declared.cmp.Ordering.{Ordering}
 use Rattle.std.specs.Ordering.{is_lt}
-use Rattle.std.specs.List.{list_any, list_all, filter, flat_map}
+use Rattle.std.specs.List.{list_any, list_all, filter}
 use Rattle.std.proofs.lemmas.List.Sums.{length-filter, count_by-le-length}
 use Rattle.gufi_base.specs.declared.record.Line.{Line}
 use Rattle.gufi_tree.specs.Build.{is_dir_line, directory_of_line, directories_of_lines}
 use Rattle.gufi_tree.specs.Gathered.{IsArranged}
 use Rattle.std.proofs.lemmas.Bool.{and_parts, cases_eq, eq-eqb, eqb-true, ne_eqb, false≢true, or_cases}
 use Rattle.std.proofs.lemmas.Bool.Decides.{same_from_decides}
-use Rattle.std.proofs.lemmas.List.{get_or-map, length-map, get_or_push, get_or_append_left, take_more, length-take}
+use Rattle.std.proofs.lemmas.List.{get_or-map, length-map, get_or_push, get_or_append_left}
 use Rattle.std.proofs.lemmas.List.Folds.{Any-from_list_any}
 use Rattle.std.proofs.lemmas.List.Quantifiers.{position-Some}
 use Rattle.gufi_base.specs.Words.{is_empty, ascends, insert_by, sort_by}
 use Rattle.gufi_base.specs.Paths.{Components, path_cmp, path_eq, parent_path, is_child_of}
 use Rattle.gufi_tree.specs.declared.tree.DirId.{DirId}
 use Rattle.gufi_tree.specs.declared.tree.Stored.{Stored}
-use Rattle.gufi_tree.specs.Tree.{Directory, own_rows, dir_cmp, place_of, has_dir, is_at, HasTreeShape}
+use Rattle.gufi_tree.specs.Tree.{Directory, dir_cmp, place_of, has_dir, is_at, HasTreeShape}
 use Rattle.gufi_tree.specs.Stored.{directory_of, directories_of, AreInOrder}
 use Rattle.gufi_tree.specs.Places.{dir_id, path_at, ids_from, child_ids}
-use Rattle.std.specs.Global.{Vec}
 use Rattle.gufi_base.specs.Names.{is_name}
 use Rattle.gufi_base.specs.PathTexts.{kept_text, names}
 use Rattle.gufi_base.proofs.Names.{names-kept_text}
-use Rattle.gufi_tree.specs.Kept.{HasParents, IsKept, ids_under}
+use Rattle.gufi_tree.specs.Kept.{HasParents, ids_under}
 use Rattle.gufi_tree.proofs.Built.{path_eq-Decides}
 use Rattle.gufi_tree.proofs.Searched.{place_of-at, in_order}
 use Rattle.gufi_tree.proofs.Homes.{no_place}
@@ -94,23 +93,6 @@ pub parents_done : (stored : List Stored) (parents : List ℕ) (i : ℕ) → len
     → HasParents (directories_of stored) parents
 parents_done stored parents i len all each =
     record { len = len ∙ all ∙ sym (length-map stored directory_of); each = λ k lt. each k (omega (arith, length-map stored directory_of, all, lt)) }
-
-pub ids_under-push : (parent n p : ℕ) (ps : List ℕ) → ids_under parent n (ps ++ p ∷ []) ≡ ids_under parent n ps ++ ids_under parent (n + length ps) (p ∷ [])
-ids_under-push parent n p [] = ap (λ m. ids_under parent m (p ∷ [])) (omega arith)
-ids_under-push parent n p (q ∷ ps) =
-    let shift : n + 1 + length ps ≡ n + suc (length ps) = omega arith in
-    by (eqb q parent && not (eqb n 0)) (ids_under-push parent (n + 1) p ps ∙ ap (λ m. ids_under parent (n + 1) ps ++ ids_under parent m (p ∷ [])) shift) where
-      by : (b : Bool) → ids_under parent (n + 1) (ps ++ p ∷ []) ≡ ids_under parent (n + 1) ps ++ ids_under parent (n + suc (length ps)) (p ∷ [])
-          → cond b (dir_id n ∷ ids_under parent (n + 1) (ps ++ p ∷ [])) (ids_under parent (n + 1) (ps ++ p ∷ []))
-          ≡ cond b (dir_id n ∷ ids_under parent (n + 1) ps) (ids_under parent (n + 1) ps) ++ ids_under parent (n + suc (length ps)) (p ∷ [])
-      by true e = ap (λ (ids : List DirId). dir_id n ∷ ids) e
-      by false e = e
-
-pub ids_under-more : (parents : List ℕ) (k i : ℕ) (p : ℕ) → i < length parents → p ≡ get_or parents i p → ids_under k 0 (take i parents) ++ ids_under k i (p ∷ []) ≡ ids_under k 0 (take (i + 1) parents)
-ids_under-more parents k i p lt is =
-    let len : 0 + length (take i parents) ≡ i = omega (arith, length-take i parents) in
-    sym (ap (ids_under k 0) (take_more parents i p lt) ∙ ids_under-push k 0 (get_or parents i p) (take i parents)
-    ∙ ap (λ n. ids_under k 0 (take i parents) ++ ids_under k n (get_or parents i p ∷ [])) len ∙ ap (λ q. ids_under k 0 (take i parents) ++ ids_under k i (q ∷ [])) (sym is))
 
 ids_same : (path : Components) (k n : ℕ) (ds : List Directory) (ps : List ℕ) → length ps ≡ length ds
     → ((j : ℕ) (d : Directory) → j < length ds → (eqb (get_or ps j 0) k && not (eqb (n + j) 0)) ≡ is_child_of path (get_or ds j d).path)
@@ -208,24 +190,6 @@ few_directories lines =
 
 pub few_stored : (lines : List Line) (stored : List Stored) (n : ℕ) → IsArranged lines stored → length lines < n → length stored < n
 few_stored lines stored n h few = omega (arith, few_directories lines, ap length h.tree, length-map stored directory_of, few)
-
--- what is kept beside directories is theirs
-pub kept : (stored seen : List Stored) (parents given : List ℕ) (lists : List (Vec DirId)) → HasTreeShape (directories_of stored) → length stored < 2 ^ 32 → length (flat_map own_rows (directories_of stored)) < 2 ^ 32 → seen ≡ stored → HasParents (directories_of seen) parents → given ≡ parents
-    → length lists ≡ length given → ((k : ℕ) (d : Vec DirId) → k < length given → (get_or lists k d).items ≡ ids_under k 0 given) → IsKept stored parents lists
-kept stored seen parents given lists shape few rows is h same len each =
-    let Q : List Stored → Type 0 = λ s. HasParents (directories_of s) parents in
-    let places : HasParents (directories_of stored) parents = subst Q is h in
-    record {
-      shape = shape;
-      few = few;
-      rows = rows;
-      parents = places;
-      subdirs = record {
-        len = len ∙ ap length same ∙ places.len;
-        each = λ k d lt.
-            each k d (omega (arith, ap length same, places.len, lt)) ∙ ap (ids_under k 0) same ∙ ids_under-children (directories_of stored) parents shape places k lt;
-      };
-    }
 
 -- a search of a kept text is one of its path
 pub found_place : (seen : List Stored) (tree : List Directory) (path : Components) (text : List ℕ) (o : Option ℕ) → directories_of seen ≡ tree → text ≡ kept_text path → list_all is_name path ≡ true

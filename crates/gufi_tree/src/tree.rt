@@ -10,7 +10,7 @@ ghost use Rattle.gufi_tree.specs.Places.{dir_id, path_at, parent_id, child_ids};
 ghost use Rattle.std.specs.Arc.{arc_value};
 ghost use Rattle.gufi_tree.specs.Stored.{directory_of, directories_of, values_of};
 
-use crate::link::{parents_of, subdirs_of};
+use crate::link::{Links, parents_of};
 use crate::shared::{find_shared, value_at};
 use gufi_access::Guard;
 use gufi_base::{Memory, Name, Path, Rec};
@@ -33,16 +33,15 @@ pub struct Entry {
 #[derive(Drop)]
 pub struct Stored {
     pub path: Path,
-    pub rec: Rec,
     pub entries: Vec<Entry>,
+    pub rec: Rec,
 }
 
 /// The directories in path order.
 #[derive(Drop)]
 pub struct Tree {
     stored: Vec<Arc<Stored, Global>>,
-    parents: Vec<u32>,
-    subdirs: Vec<Vec<DirId>>,
+    links: Links,
 }
 
 impl Model for Tree {
@@ -56,7 +55,7 @@ impl Model for Tree {
 
     ghost view = { λ a. directories_of (values_of a.stored.items) };
 
-    ghost invariant = { λ a. IsKept (values_of a.stored.items) a.parents.items a.subdirs.items };
+    ghost invariant = { λ a. IsKept (values_of a.stored.items) a.links };
 }
 
 impl Tree {
@@ -83,12 +82,8 @@ impl Tree {
         requires parents { HasParents (directories_of (values_of stored.items)) parents.items }
         ensures { IfOk result (λ tree. tree ≡ directories_of (values_of stored.items)) }
     {
-        let subdirs = subdirs_of(alloc, parents.as_slice())?;
-        Ok(Tree {
-            stored,
-            parents,
-            subdirs,
-        })
+        let links = Links::of(alloc, parents)?;
+        Ok(Tree { stored, links })
     }
 
     /// How many directories there are.
@@ -165,7 +160,7 @@ impl Tree {
         if id.0 == 0 {
             return None;
         }
-        Some(DirId(self.parents[id.0 as usize]))
+        Some(self.links.parent(id.0 as usize))
     }
 
     /// The entries of a directory, in name order.
@@ -182,7 +177,7 @@ impl Tree {
         requires { id.0 < length self.now }
         ensures { result.now ≡ child_ids self.now (path_at self.now id.0) }
     {
-        self.subdirs[id.0 as usize].as_slice()
+        self.links.subdirs(id.0 as usize)
     }
 
     /// The directory with a path. `O(log n)` comparisons.

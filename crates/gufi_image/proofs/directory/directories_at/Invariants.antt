@@ -2,7 +2,7 @@ use Rattle.std.proofs.Common.{◌≡◌, ◌-◌}
 use Rattle.gufi_tree.specs.Stored.{directories_of, values_of}
 use Rattle.gufi_tree.specs.Tree.{entry_count}
 use Rattle.gufi_image.specs.Directories.{one_directory, no_front}
-use Rattle.gufi_image.specs.Placed.{AreDirectories}
+use Rattle.gufi_image.specs.Placed.{AreDirectories, AreParents}
 use Rattle.gufi_image.specs.Repeated.{repeated}
 use Rattle.gufi_image.proofs.directory.directories_at.Given as goal
 
@@ -11,4 +11,5 @@ invariant-loop l = record {
   so_far : repeated (one_directory l.total) (l.count - l.counter) (record { dirs = directories_of (values_of l.stored.items); flags = l.flags.items }) l.rest ≡ repeated (one_directory l.total) l.count no_front l.bytes;
   count : l.so_far ≡ entry_count (directories_of (values_of l.stored.items));
   directories : AreDirectories l.counter l.total (directories_of (values_of l.stored.items));
+  parents : AreParents (directories_of (values_of l.stored.items)) l.parents.items;
 }

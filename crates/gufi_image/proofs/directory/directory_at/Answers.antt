@@ -9,5 +9,5 @@ returns-clause-next c = record {
   few = omega (arith, c.requires.so_far, c.if-count-so_far.false, entries_count c.in_ok-count.count c.of-above.result c.in_ok-count.rest.now (c.in_ok-entries.entries.items, c.in_ok-entries.rest.now) c.in_ok-entries.ensures.gives);
   kind = ap (λ (k : Kind). is_dir k) c.in_ok-rec.ensures.kind;
   entries = c.in_ok-entries.ensures.entries;
-  placed = c.in_ok-path.ensures.placed;
+  placed = c.in_ok-located.ensures.placed;
 }
