@@ -59,28 +59,28 @@ pub fn read_kind(text: &[u8]) -> Option<Kind>
 
 /// What a file system says of a file: sizes in bytes, blocks of 512 bytes, times in seconds since the epoch.
 ///
-/// Fields lie in this order, so the short ones come last.
+/// Fields lie in this order: first those that guard a directory, then those that questions ask for most.
 #[derive(Clone, Copy, Debug, PartialEq, Eq)]
 pub struct Meta {
-    pub inode: u64,
-    pub nlink: u64,
     pub uid: u32,
     pub gid: u32,
-    pub size: u64,
-    pub blksize: u64,
-    pub blocks: u64,
-    pub atime: i64,
-    pub mtime: i64,
-    pub ctime: i64,
     pub mode: u16,
     pub kind: Kind,
+    pub size: u64,
+    pub mtime: i64,
+    pub blocks: u64,
+    pub nlink: u64,
+    pub inode: u64,
+    pub atime: i64,
+    pub ctime: i64,
+    pub blksize: u64,
 }
 
 /// The record of a file, with the target of a link.
 #[derive(Drop)]
 pub struct Rec {
-    pub meta: Meta,
     pub link: Bytes,
+    pub meta: Meta,
 }
 
 /// One directory or entry of the index.
