@@ -1,4 +1,4 @@
-//! Tests of the index: access rules, lists of rows, trees, stores, sums, snapshots, traces, images, listings, reports and walks.
+//! Tests of the index: access rules, lists of rows, pages, trees, stores, sums, snapshots, traces, images, listings, reports and walks.
 //!
 //! They stand beside the crates that they call, since a crate with tests is proved twice.
 #![tactic(auto)]
@@ -13,6 +13,8 @@ mod image_tests;
 mod lines;
 #[cfg(test)]
 mod list_tests;
+#[cfg(test)]
+mod page_tests;
 #[cfg(test)]
 mod roll_tests;
 #[cfg(test)]

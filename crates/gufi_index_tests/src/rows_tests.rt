@@ -10,7 +10,7 @@ use std::alloc::Global;
 use std::test::Fail;
 
 /// The row of a path, whose link is the path's kept text.
-fn row_of<'a>(path: &'a Path, meta: &'a Meta) -> RowRef<'a>
+pub(crate) fn row_of<'a>(path: &'a Path, meta: &'a Meta) -> RowRef<'a>
     ensures { StandsForSome result }
 {
     RowRef {

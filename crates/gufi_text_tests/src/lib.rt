@@ -1,23 +1,14 @@
-//! Tests of what is read and written as text: names, paths, numbers, words, users, patterns, questions and scripts.
+//! Tests of what is read and written as text below the questions: names, paths, numbers, files, users and scripts.
 //!
-//! They stand beside the crates that they call, since a crate with tests is proved twice.
+//! They stand beside the crates that they call, since a crate with tests is proved twice; and apart from the tests of other
+//! texts, since a test is proved the sooner the fewer libraries its crate loads.
 #![tactic(auto)]
 
 #[cfg(test)]
 mod base_tests;
 #[cfg(test)]
-mod find_tests;
-#[cfg(test)]
-mod glob_tests;
-#[cfg(test)]
 mod io_tests;
-#[cfg(test)]
-mod plan_tests;
 #[cfg(test)]
 mod script_tests;
 #[cfg(test)]
-mod select_tests;
-#[cfg(test)]
 mod users_tests;
-#[cfg(test)]
-mod words_tests;

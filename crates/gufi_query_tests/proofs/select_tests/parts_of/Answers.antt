@@ -1,6 +1,6 @@
 use Rattle.std.proofs.Common.{refl}
 use Rattle.gufi_base.specs.declared.record.Row.{Row}
-use Rattle.gufi_text_tests.proofs.select_tests.parts_of.Goals as goal
+use Rattle.gufi_query_tests.proofs.select_tests.parts_of.Goals as goal
 
 pub returns : goal.returns
 returns c =

@@ -1,7 +1,7 @@
 use Rattle.std.proofs.Common.{refl, [], ◌∷◌}
 use Rattle.std.specs.Prelude.{codes}
 use Rattle.gufi_base.specs.declared.record.Row.{Row}
-use Rattle.gufi_text_tests.proofs.find_tests.run_file.Goals as goal
+use Rattle.gufi_query_tests.proofs.find_tests.run_file.Goals as goal
 
 pub returns : goal.returns
 returns c =

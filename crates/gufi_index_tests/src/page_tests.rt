@@ -1,0 +1,97 @@
+use crate::lines::meta;
+use crate::rows_tests::row_of;
+use gufi_access::Guard;
+use gufi_base::{Bytes, Kind, Memory, Meta, Path, Rec, Row};
+use gufi_page::{Cursor, Page, pack};
+use std::alloc::Global;
+use std::test::Fail;
+
+/// The record of a link.
+fn link_meta() -> Meta {
+    let (uid, gid, mode) = (101, 100, 0o777);
+    meta(Kind::Link, Guard { uid, gid, mode })
+}
+
+fn link_row(alloc: Global, path: &[u8], target: &[u8]) -> Result<Row, Fail> {
+    let path = Path::read(alloc, path)?;
+    let link = Bytes::from_slice(alloc, target)?;
+    let meta = link_meta();
+    Ok(Row {
+        path,
+        rec: Rec { meta, link },
+    })
+}
+
+/// So many rows: of each the stem, the base name and the link, with a blank between two.
+fn printed(alloc: Global, mut cursor: Cursor<'_>, count: u32) -> Result<Vec<u8>, Memory> {
+    let mut text = Vec::new(alloc);
+    for _ in 0..count {
+        if let Some(row) = cursor.next() {
+            text.extend_from_slice(row.stem)?;
+            text.push(b' ')?;
+            text.extend_from_slice(row.base)?;
+            text.push(b' ')?;
+            text.extend_from_slice(row.link)?;
+            text.push(b'\n')?;
+        }
+    }
+    Ok(text)
+}
+
+#[test]
+fn the_longest_name_and_link_come_back(rt: HostRuntime) -> Result<(), Fail> {
+    let alloc = rt.alloc();
+    let name = [b'n'; 255];
+    let target = [b't'; 4096];
+    let rows = vec![in alloc;
+        link_row(alloc, name.as_slice(), b"")?,
+        link_row(alloc, b"/p", target.as_slice())?,
+    ]?;
+    let page = pack(alloc, rows.as_slice())?;
+    let mut expected = Vec::new(alloc);
+    for part in [
+        b"/ ".as_slice(),
+        name.as_slice(),
+        b" \n/ p ",
+        target.as_slice(),
+        b"\n",
+    ] {
+        expected.extend_from_slice(part)?;
+    }
+    let text = printed(alloc, page.rows(), page.len())?;
+    assert_eq!(rt; text.as_slice(), expected.as_slice());
+    let mut cursor = page.rows();
+    for _ in &rows {
+        assert_eq!(rt; cursor.next().map(|row| *row.meta), Some(link_meta()));
+    }
+    assert!(rt; cursor.next().is_none());
+    Ok(())
+}
+
+#[test]
+fn a_range_has_the_stems_of_its_rows(rt: HostRuntime) -> Result<(), Fail> {
+    let alloc = rt.alloc();
+    let paths = [
+        Path::read(alloc, b"/d")?,
+        Path::read(alloc, b"/e")?,
+        Path::read(alloc, b"/d/a")?,
+        Path::read(alloc, b"/d/b")?,
+        Path::read(alloc, b"/d/b/c")?,
+        Path::read(alloc, b"/e/a")?,
+    ];
+    let meta = link_meta();
+    let mut page = Page::new(alloc);
+    for path in &paths {
+        page.push(row_of(path, &meta))?;
+    }
+    assert_eq!(rt; page.len(), 6);
+    assert_eq!(rt;
+        printed(alloc, page.range(1, 4), 9)?.as_slice(),
+        b"/ e /e/\n/d/ a /d/a/\n/d/ b /d/b/\n/d/b/ c /d/b/c/\n".as_slice()
+    );
+    assert_eq!(rt;
+        printed(alloc, page.range(4, 2), 9)?.as_slice(),
+        b"/d/b/ c /d/b/c/\n/e/ a /e/a/\n".as_slice()
+    );
+    Ok(())
+}

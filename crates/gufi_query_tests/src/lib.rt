@@ -1,0 +1,13 @@
+//! Tests of questions: patterns, expressions of `find`, SELECTs, and the plans of sessions that ask them.
+//!
+//! They stand beside the crates that they call, since a crate with tests is proved twice.
+#![tactic(auto)]
+
+#[cfg(test)]
+mod find_tests;
+#[cfg(test)]
+mod glob_tests;
+#[cfg(test)]
+mod plan_tests;
+#[cfg(test)]
+mod select_tests;
