@@ -32,13 +32,13 @@ all_named : (front rest : Components) → list_all is_name front ≡ true → li
 all_named front rest h k = list_all-append is_name front rest ∙ and_from _ _ h k
 
 -- what bytes spell that are a path's kept text and names with single slashes between them
-behind_names : (path : Components) (bytes rest : List ℕ) → list_all is_name path ≡ true → list_all is_name (split 47 rest) ≡ true → bytes ≡ kept_text path ++ rest → length bytes ≤ 256 → read_path bytes ≡ Ok (path ++ split 47 rest)
-behind_names path bytes rest h k e short =
+behind_names : (path : Components) (bytes rest : List ℕ) → list_all is_name path ≡ true → list_all is_name (split 47 rest) ≡ true → bytes ≡ kept_text path ++ rest → length bytes ≤ 4096 → length (split 47 bytes) ≤ 256 → read_path bytes ≡ Ok (path ++ split 47 rest)
+behind_names path bytes rest h k e short few =
     let is : split 47 (closed_names path ++ rest) ≡ path ++ split 47 rest = split_behind_closed 47 path rest (no_slashes path h) in
-    read_path-plain (closed_names path ++ rest) bytes (inr e) (omega (arith, ap length e)) (ap (list_all is_name) is ∙ all_named path (split 47 rest) h k) ∙ ap (λ (p : Components). Ok p) is
+    read_path-plain (closed_names path ++ rest) bytes (inr e) short few (ap (list_all is_name) is ∙ all_named path (split 47 rest) h k) ∙ ap (λ (p : Components). Ok p) is
 
-pub read_behind : (root bytes rest : List ℕ) → IsText root → list_all is_name (split 47 rest) ≡ true → bytes ≡ root ++ rest → length bytes ≤ 256 → read_path bytes ≡ Ok (names root ++ split 47 rest)
-read_behind root bytes rest is h e short = behind_names (names root) bytes rest is.each h (e ∙ ap (λ (t : List ℕ). t ++ rest) (sym is.whole)) short
+pub read_behind : (root bytes rest : List ℕ) → IsText root → list_all is_name (split 47 rest) ≡ true → bytes ≡ root ++ rest → length bytes ≤ 4096 → length (split 47 bytes) ≤ 256 → read_path bytes ≡ Ok (names root ++ split 47 rest)
+read_behind root bytes rest is h e short few = behind_names (names root) bytes rest is.each h (e ∙ ap (λ (t : List ℕ). t ++ rest) (sym is.whole)) short few
 
 kept_text_append : (front path : Components) → slashed_text front ++ kept_text path ≡ kept_text (front ++ path)
 kept_text_append front path =
@@ -53,15 +53,15 @@ without_slash root is =
     let n : length root - 1 ≡ length front = omega (arith, ap length whole, length-append front (47 ∷ [])) in
     ap (λ k. take k root) n ∙ ap (take (length front)) whole ∙ take-append_seam front (47 ∷ [])
 
-pub read_child : (root parent bytes front below name : List ℕ) → IsText root → IsText parent → front ≡ take (length root - 1) root → bytes ≡ front ++ below → below ≡ parent ++ name → is_name name ≡ true → length bytes ≤ 256
+pub read_child : (root parent bytes front below name : List ℕ) → IsText root → IsText parent → front ≡ take (length root - 1) root → bytes ≡ front ++ below → below ≡ parent ++ name → is_name name ≡ true → length bytes ≤ 4096 → length (split 47 bytes) ≤ 256
     → read_path bytes ≡ Ok (names root ++ (names parent ++ name ∷ []))
-read_child root parent bytes front below name is p f e b h short =
+read_child root parent bytes front below name is p f e b h short few =
     let path = names root ++ names parent in
     let whole : bytes ≡ kept_text path ++ name =
     e ∙ ap (λ (t : List ℕ). t ++ below) (f ∙ without_slash root is) ∙ ap (λ (t : List ℕ). slashed_text (names root) ++ t) (b ∙ ap (λ (t : List ℕ). t ++ name) (sym p.whole))
     ∙ sym (append_assoc (slashed_text (names root)) (kept_text (names parent)) name) ∙ ap (λ (t : List ℕ). t ++ name) (kept_text_append (names root) (names parent)) in
     let one : split 47 name ≡ name ∷ [] = split_one 47 name (name_has_no name h) in
-    behind_names path bytes name (all_named (names root) (names parent) is.each p.each) (ap (list_all is_name) one ∙ and_from _ _ h refl) whole short
+    behind_names path bytes name (all_named (names root) (names parent) is.each p.each) (ap (list_all is_name) one ∙ and_from _ _ h refl) whole short few
     ∙ ap (λ (p : Components). Ok p) (ap (λ (ps : Components). path ++ ps) one ∙ append_assoc (names root) (names parent) (name ∷ []))
 
 -- the text of a path followed by a name

@@ -1,8 +1,8 @@
 -- Bytes that are names with single slashes between them.
-use Rattle.std.proofs.Common.{◌≡◌, ◌≢◌, ℕ, ◌+◌, ◌≤◌, Bool, true, false, cond, eqb, List, [], ◌∷◌, ◌++◌, length, Some, None, Ok, refl, sym, ap, subst, ◌∙◌, arith, append_assoc, ⊎_elim}
+use Rattle.std.proofs.Common.{◌≡◌, ◌≢◌, ℕ, suc, ◌+◌, ◌≤◌, Bool, true, false, cond, eqb, List, [], ◌∷◌, ◌++◌, length, Some, None, Ok, refl, sym, ap, subst, ◌∙◌, arith, append_assoc, ⊎_elim}
 use Rattle.std.specs.Prelude.{not, ◌&&◌, ◌||◌, filter, bytes_eq, nat_lt, nat_le}
 use Rattle.std.specs.List.{list_all, list_any, onto_first}
-use Rattle.std.proofs.lemmas.Bool.{cond-true, cond-false, and_parts, and_from, not_from_false, not-true, or_parts, cases_Bool, false≢true, le-leb, le-ltb, leb-true, eqb-true, eq-eqb}
+use Rattle.std.proofs.lemmas.Bool.{cond-true, cond-false, and_parts, and_from, not_from_false, not-true, or_parts, or_left, or_right, cases_Bool, false≢true, le-leb, le-ltb, leb-true, eqb-true, eq-eqb}
 use Rattle.std.proofs.lemmas.List.{append-nil, length-append}
 use Rattle.std.proofs.lemmas.Slice.Eq.{bytes_eq-Decides}
 use Rattle.gufi_base.specs.Words.{split, all_but_last, last_of, is_empty}
@@ -12,7 +12,7 @@ use Rattle.gufi_base.specs.declared.plain.Reached.{Reached}
 use Rattle.gufi_base.specs.declared.plain.Reached.TheVariants.{Start, Dot, Inside}
 use Rattle.gufi_base.specs.PlainTexts.{after}
 use Rattle.gufi_base.specs.PathTexts.{closed_names, kept_text, names, IsText}
-use Rattle.gufi_base.specs.Limits.{max_name, max_path, max_components}
+use Rattle.gufi_base.specs.Limits.{max_name, max_components}
 use Rattle.gufi_base.specs.Paths.{Components, is_dropped, kept_parts, read_path}
 use Rattle.gufi_base.proofs.Names.{is_too_large, read_path-ok, name_bytes, IsText-kept_text, names-kept_text}
 use Rattle.gufi_base.proofs.Texts.{kept_text_push}
@@ -103,7 +103,7 @@ slash_leads front bytes b rest e name leads h =
     ∙ ap (λ (t : List ℕ). list_all is_name (t ∷ split 47 rest)) (append-nil front) ∙ and_from _ _ name (start_leads (split 47 rest) (split_some 47 rest) h))
 
 -- a slash behind a name
-pub Scanned-slash : (bytes : List ℕ) (place b : ℕ) (rest : List ℕ) → Scanned bytes Inside place (b ∷ rest) → eqb b 47 ≡ true → place ≤ 255 → Scanned bytes Start (place + 1) rest
+Scanned-slash : (bytes : List ℕ) (place b : ℕ) (rest : List ℕ) → Scanned bytes Inside place (b ∷ rest) → eqb b 47 ≡ true → place ≤ 255 → Scanned bytes Start 0 rest
 Scanned-slash bytes place b rest s slash few =
     record {
       front = [];
@@ -141,9 +141,9 @@ three true b c e = absurd cc
 three false true c e = absurd cc
 three false false c e = (refl, refl, e)
 
--- the step of the scan
-pub Scanned-more : (bytes : List ℕ) (reached next : Reached) (place b : ℕ) (rest : List ℕ) → Scanned bytes reached place (b ∷ rest) → Some next ≡ after reached b → place ≤ 255 → Scanned bytes next (place + 1) rest
-Scanned-more bytes Start next place b rest s e few =
+-- the step of the scan, at a byte of a name
+pub Scanned-more : (bytes : List ℕ) (reached next : Reached) (place b : ℕ) (rest : List ℕ) → Scanned bytes reached place (b ∷ rest) → Some next ≡ after reached b → eqb b 47 ≡ false → Scanned bytes next (place + 1) rest
+Scanned-more bytes Start next place b rest s e other =
     ⊎_elim (λ (t : (eqb b 0 || eqb b 10 || eqb b 47) ≡ true). absurd (none_some (e ∙ cond-true _ None _ t)))
     (λ (t : (eqb b 0 || eqb b 10 || eqb b 47) ≡ false).
     let apart = three _ _ _ t in
@@ -156,7 +156,7 @@ Scanned-more bytes Start next place b rest s e few =
     rw is (Scanned-byte bytes Start Inside place b rest s apart.0 apart.1 apart.2 (inside_start b d)))
     (cases_Bool (eqb b 46)))
     (cases_Bool (eqb b 0 || eqb b 10 || eqb b 47))
-Scanned-more bytes Dot next place b rest s e few =
+Scanned-more bytes Dot next place b rest s e other =
     ⊎_elim (λ (t : (eqb b 0 || eqb b 10 || eqb b 47 || eqb b 46) ≡ true). absurd (none_some (e ∙ cond-true _ None _ t)))
     (λ (t : (eqb b 0 || eqb b 10 || eqb b 47 || eqb b 46) ≡ false).
     let parts = or_parts _ _ t in
@@ -164,18 +164,28 @@ Scanned-more bytes Dot next place b rest s e few =
     let is : next ≡ Inside = some_is (e ∙ cond-false _ None (Some Inside) t) in
     rw is (Scanned-byte bytes Dot Inside place b rest s apart.0 apart.1 apart.2 (inside_dot b parts.1)))
     (cases_Bool (eqb b 0 || eqb b 10 || eqb b 47 || eqb b 46))
-Scanned-more bytes Inside next place b rest s e few =
+Scanned-more bytes Inside next place b rest s e other =
     ⊎_elim (λ (t : (eqb b 0 || eqb b 10) ≡ true). absurd (none_some (e ∙ cond-true _ None _ t)))
     (λ (t : (eqb b 0 || eqb b 10) ≡ false).
     let apart = or_parts _ _ t in
     let left = e ∙ cond-false _ None _ t in
-    ⊎_elim (λ (d : eqb b 47 ≡ true).
-    let is : next ≡ Start = some_is (left ∙ cond-true _ (Some Start) (Some Inside) d) in
-    rw is (Scanned-slash bytes place b rest s d few))
-    (λ (d : eqb b 47 ≡ false).
-    let is : next ≡ Inside = some_is (left ∙ cond-false _ (Some Start) (Some Inside) d) in
-    rw is (Scanned-byte bytes Inside Inside place b rest s apart.0 apart.1 d (inside_more b)))
-    (cases_Bool (eqb b 47)))
+    let is : next ≡ Inside = some_is (left ∙ cond-false _ (Some Start) (Some Inside) other) in
+    rw is (Scanned-byte bytes Inside Inside place b rest s apart.0 apart.1 other (inside_more b)))
+    (cases_Bool (eqb b 0 || eqb b 10))
+
+is_slash : (a b c : Bool) → c ≡ true → (a || b || c) ≡ true
+is_slash a b c e = or_right _ _ e
+
+-- the same at a slash
+pub Scanned-close : (bytes : List ℕ) (reached next : Reached) (place b : ℕ) (rest : List ℕ) → Scanned bytes reached place (b ∷ rest) → Some next ≡ after reached b → eqb b 47 ≡ true → place ≤ 255 → Scanned bytes next 0 rest
+Scanned-close bytes Start next place b rest s e slash few = absurd (none_some (e ∙ cond-true _ None _ (is_slash (eqb b 0) (eqb b 10) (eqb b 47) slash)))
+Scanned-close bytes Dot next place b rest s e slash few = absurd (none_some (e ∙ cond-true _ None _ (or_left _ _ (is_slash (eqb b 0) (eqb b 10) (eqb b 47) slash))))
+Scanned-close bytes Inside next place b rest s e slash few =
+    ⊎_elim (λ (t : (eqb b 0 || eqb b 10) ≡ true). absurd (none_some (e ∙ cond-true _ None _ t)))
+    (λ (t : (eqb b 0 || eqb b 10) ≡ false).
+    let left = e ∙ cond-false _ None _ t in
+    let is : next ≡ Start = some_is (left ∙ cond-true _ (Some Start) (Some Inside) slash) in
+    rw is (Scanned-slash bytes place b rest s slash few))
     (cases_Bool (eqb b 0 || eqb b 10))
 
 closes : (bytes : List ℕ) (parts : List (List ℕ)) → (parts ≡ [] → ⊥) → closed_names (all_but_last parts) ++ last_of [] parts ≡ bytes → 47 ∷ (bytes ++ 47 ∷ []) ≡ kept_text parts
@@ -246,7 +256,7 @@ length_cond b true n parts h = omega arith
 length_cond b false n [] h = omega arith
 length_cond b false n (part ∷ parts) h = omega arith
 
-length-split : (bytes : List ℕ) → length (split 47 bytes) ≤ length bytes + 1
+pub length-split : (bytes : List ℕ) → length (split 47 bytes) ≤ length bytes + 1
 length-split [] = omega arith
 length-split (b ∷ bytes) = let h = length_cond b (eqb b 47) (length bytes) (split 47 bytes) (length-split bytes) in omega (arith, h)
 
@@ -261,21 +271,36 @@ bad_behind : (names bytes : List ℕ) → Behind names bytes → list_any (λ b.
 bad_behind names bytes (inl e) = ap (list_any (λ b. not (is_path_byte b))) (sym e)
 bad_behind names bytes (inr e) = ap (list_any (λ b. not (is_path_byte b))) e
 
-length_behind : (names bytes : List ℕ) → Behind names bytes → length bytes ≤ length names + 1
-length_behind names bytes (inl e) = omega (arith, ap length e)
-length_behind names bytes (inr e) = omega (arith, ap length e)
+few_behind : (names bytes : List ℕ) → Behind names bytes → length (split 47 bytes) ≤ 256 → length (split 47 names) ≤ 256
+few_behind names bytes (inl e) few = omega (arith, ap (λ (t : List ℕ). length (split 47 t)) e, few)
+few_behind names bytes (inr e) few =
+    let more : length (split 47 bytes) ≡ suc (length (split 47 names)) = ap (λ (t : List ℕ). length (split 47 t)) e in
+    omega (arith, more, few)
 
 -- plain bytes are read as they are
-pub read_path-plain : (names bytes : List ℕ) → Behind names bytes → length names ≤ 255 → list_all is_name (split 47 names) ≡ true → read_path bytes ≡ Ok (split 47 names)
-read_path-plain names bytes behind short named =
+pub read_path-plain : (names bytes : List ℕ) → Behind names bytes → length bytes ≤ 4096 → length (split 47 bytes) ≤ 256 → list_all is_name (split 47 names) ≡ true → read_path bytes ≡ Ok (split 47 names)
+read_path-plain names bytes behind short number named =
     let kept : kept_parts bytes ≡ split 47 names = kept_behind names bytes behind ∙ kept_all (split 47 names) named in
     let dots = ap (list_any (bytes_eq dot_dot)) kept ∙ no_dots (split 47 names) named in
     let bad = bad_behind names bytes behind ∙ no_bad names (all_bytes (split 47 names) named) in
-    let small : length bytes ≤ max_path = omega (arith, length_behind names bytes behind) in
-    let few : length (kept_parts bytes) ≤ max_components = omega (arith, ap length kept, length-split names) in
+    let few : length (kept_parts bytes) ≤ max_components = omega (arith, ap length kept, few_behind names bytes behind number) in
     let long = ap (list_any (λ name. nat_lt max_name (length name))) kept ∙ no_long (split 47 names) named in
-    let large : is_too_large bytes ≡ false = either_no _ _ (either_no _ _ (le-ltb _ _ small) long) (le-ltb _ _ few) in
+    let large : is_too_large bytes ≡ false = either_no _ _ (either_no _ _ (le-ltb _ _ short) long) (le-ltb _ _ few) in
     read_path-ok bytes dots bad large ∙ ap Ok kept
+
+count_cond : (b : ℕ) (t : Bool) (n : ℕ) (parts : List (List ℕ)) → length parts ≡ n + 1 → length (cond t ([] ∷ parts) (onto_first b parts)) ≡ cond t (n + 2) (n + 1)
+count_cond b true n parts h = omega (arith, h)
+count_cond b false n [] h = absurd (omega (arith, h))
+count_cond b false n (part ∷ parts) h = h
+
+filter_cond : (b : ℕ) (t : Bool) (bytes : List ℕ) → length (cond t (b ∷ filter (λ b. eqb b 47) bytes) (filter (λ b. eqb b 47) bytes)) + 1 ≡ cond t (length (filter (λ b. eqb b 47) bytes) + 2) (length (filter (λ b. eqb b 47) bytes) + 1)
+filter_cond b true bytes = omega arith
+filter_cond b false bytes = refl
+
+-- there is one part more than slashes
+pub length-split_slashes : (bytes : List ℕ) → length (split 47 bytes) ≡ length (filter (λ b. eqb b 47) bytes) + 1
+length-split_slashes [] = refl
+length-split_slashes (b ∷ bytes) = count_cond b (eqb b 47) (length (filter (λ b. eqb b 47) bytes)) (split 47 bytes) (length-split_slashes bytes) ∙ sym (filter_cond b (eqb b 47) bytes)
 
 pub IsText-plain : (names text : List ℕ) → list_all is_name (split 47 names) ≡ true → text ≡ 47 ∷ (names ++ 47 ∷ []) → IsText text
 IsText-plain names text named e = subst IsText (sym (e ∙ closed_bytes names)) (IsText-kept_text (split 47 names) named)

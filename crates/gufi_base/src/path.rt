@@ -5,7 +5,7 @@ ghost use Rattle.std.specs.List.{list_all};
 ghost use Rattle.gufi_base.specs.Words.{GivesUnless, split, is_empty as has_no_element};
 ghost use Rattle.gufi_base.specs.Names.{is_name};
 ghost use Rattle.gufi_base.specs.Paths.{Components, read_path, path_text, is_prefix, parent_path, base_name, stem, is_child_of};
-ghost use Rattle.gufi_base.specs.PathTexts.{kept_text};
+ghost use Rattle.gufi_base.specs.PathTexts.{kept_text, names, IsText};
 ghost use Rattle.gufi_base.specs.PathParts.{ArePartsOf};
 
 use crate::Memory;
@@ -15,9 +15,10 @@ use crate::path_parts::{
     base_name_of, count_slashes, last_name_at, parent_of, printed_of, stem_and_base_of, stem_of,
     text_of_child, text_of_row, without_front,
 };
-use crate::path_reading::{MAX_NAME, closed, text_of_parts, without_first_slash};
+use crate::path_reading::{closed, text_of_parts, without_first_slash};
+use crate::path_ref::PathRef;
 use crate::path_relations::{begins_with, child_name, names_behind};
-use crate::plain::are_plain;
+use crate::plain::{are_plain, is_within_limits};
 use std::alloc::{AllocError, Global};
 use std::marker::Model;
 
@@ -66,7 +67,7 @@ impl Path {
         ensures { GivesUnless PathFault.Memory result (read_path bytes.now) }
     {
         let names = without_first_slash(bytes);
-        if names.len() <= MAX_NAME && are_plain(names) {
+        if is_within_limits(bytes) && are_plain(names) {
             let text = closed(alloc, names)?;
             return Ok(Path { text });
         }
@@ -108,6 +109,21 @@ impl Path {
         ensures { IfSome result (λ name. IsTrue (is_name name.now) × (read_path bytes.now ≡ Ok (root.now ++ (self.now ++ name.now ∷ [])))) }
     {
         child_name(bytes, root.text.as_slice(), self.text.as_slice())
+    }
+
+    /// The path of a kept text.
+    pub(crate) fn of_text(text: Vec<u8>) -> Path
+        requires { IsText text.items }
+        ensures { result ≡ names text.items }
+    {
+        Path { text }
+    }
+
+    /// The path, borrowed.
+    pub fn as_path_ref(&self) -> PathRef<'_>
+        ensures { result ≡ self.now }
+    {
+        PathRef::of_text(self.text.as_slice())
     }
 
     /// The path of no name.

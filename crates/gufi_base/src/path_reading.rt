@@ -11,11 +11,11 @@ use crate::path::PathFault;
 use crate::piece::pieces_of;
 use std::alloc::{AllocError, Global};
 
-const MAX_PATH: usize = 4096;
+pub(crate) const MAX_PATH: usize = 4096;
 
 pub(crate) const MAX_NAME: usize = 255;
 
-const MAX_COMPONENTS: usize = 256;
+pub(crate) const MAX_COMPONENTS: usize = 256;
 
 fn is_kept(part: &[u8]) -> bool
     ensures { result ≡ not (is_dropped part.now) }

@@ -9,8 +9,7 @@ ghost use Rattle.gufi_base.specs.PathTexts.{names, IsText};
 
 use crate::name::is_name;
 use crate::order::same_bytes;
-use crate::path_reading::MAX_NAME;
-use crate::plain::are_plain;
+use crate::plain::{are_plain, is_within_limits};
 
 /// What is left of a text behind a front.
 fn behind<'a>(text: &'a [u8], front: &[u8]) -> Option<&'a [u8]>
@@ -45,12 +44,13 @@ pub(crate) fn child_name<'a>(bytes: &'a [u8], root: &[u8], parent: &[u8]) -> Opt
     requires parent { IsText parent.now }
     ensures { IfSome result (λ name. IsTrue (is_name name.now) × (read_path bytes.now ≡ Ok (names root.now ++ (names parent.now ++ name.now ∷ [])))) }
 {
-    if bytes.len() > MAX_NAME {
-        return None;
-    }
     let below = behind(bytes, &root[..root.len() - 1])?;
     let name = behind(below, parent)?;
-    if is_name(name) { Some(name) } else { None }
+    if is_within_limits(bytes) && is_name(name) {
+        Some(name)
+    } else {
+        None
+    }
 }
 
 /// The names, with single slashes between them, of bytes that spell a root's path and these.
@@ -58,9 +58,10 @@ pub(crate) fn names_behind<'a>(bytes: &'a [u8], root: &[u8]) -> Option<&'a [u8]>
     requires { IsText root.now }
     ensures { IfSome result (λ rest. IsTrue (list_all is_name (split 47 rest.now)) × (read_path bytes.now ≡ Ok (names root.now ++ split 47 rest.now))) }
 {
-    if bytes.len() > MAX_NAME {
-        return None;
-    }
     let rest = behind(bytes, root)?;
-    if are_plain(rest) { Some(rest) } else { None }
+    if is_within_limits(bytes) && are_plain(rest) {
+        Some(rest)
+    } else {
+        None
+    }
 }

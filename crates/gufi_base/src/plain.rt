@@ -7,6 +7,9 @@ ghost use Rattle.gufi_base.specs.Words.{split};
 ghost use Rattle.gufi_base.specs.Names.{is_name};
 ghost use Rattle.gufi_base.specs.PlainTexts.{after};
 
+use crate::path_parts::count_slashes;
+use crate::path_reading::{MAX_COMPONENTS, MAX_NAME, MAX_PATH};
+
 /// How far a component has come.
 #[derive(Clone, Copy)]
 enum Reached {
@@ -42,15 +45,34 @@ fn after(reached: Reached, byte: u8) -> Option<Reached>
 /// Whether bytes are seen at once to be names with single slashes between them. Those with a name that begins with two dots
 /// are not.
 pub(crate) fn are_plain(bytes: &[u8]) -> bool
-    requires { length bytes.now ≤ 255 }
     ensures { OnTrue result (IsTrue (list_all is_name (split 47 bytes.now))) }
 {
     let mut reached = Reached::Start;
+    let mut run = 0usize;
     for byte in bytes {
-        match after(reached, *byte) {
-            None => return false,
-            Some(next) => reached = next,
+        let Some(next) = after(reached, *byte) else {
+            return false;
+        };
+        reached = next;
+        if *byte != b'/' {
+            run += 1;
+            continue;
         }
+        if run > MAX_NAME {
+            return false;
+        }
+        run = 0;
     }
-    matches!(reached, Reached::Inside)
+    run <= MAX_NAME && matches!(reached, Reached::Inside)
+}
+
+/// So many bytes or fewer have no more than 256 names, as each takes a slash.
+const FEW: usize = 255;
+
+/// Whether bytes are short enough for a path, and have few enough slashes.
+pub(crate) fn is_within_limits(bytes: &[u8]) -> bool
+    ensures short { OnTrue result (length bytes.now ≤ 4096) }
+    ensures few { OnTrue result (length (split 47 bytes.now) ≤ 256) }
+{
+    bytes.len() <= FEW || bytes.len() <= MAX_PATH && count_slashes(bytes) < MAX_COMPONENTS
 }

@@ -5,6 +5,7 @@ ghost use Rattle.gufi_base.specs.Kinds.{is_dir, kind_letter, read_kind};
 
 use crate::list::Bytes;
 use crate::path::Path;
+use crate::rec_ref::RecRef;
 
 /// The type of a file.
 #[derive(Clone, Copy, Debug, PartialEq, Eq)]
@@ -81,6 +82,15 @@ pub struct Meta {
 pub struct Rec {
     pub link: Bytes,
     pub meta: Meta,
+}
+
+impl Rec {
+    /// The record, borrowed.
+    pub fn as_rec_ref(&self) -> RecRef<'_>
+        ensures { result ≡ self.now }
+    {
+        RecRef::of(&self.meta, self.link.as_slice())
+    }
 }
 
 /// One directory or entry of the index.
