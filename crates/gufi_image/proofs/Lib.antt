@@ -1,4 +1,5 @@
 mod PathSizes
+mod Children
 mod Written
 mod Repeats
 mod FieldsBack

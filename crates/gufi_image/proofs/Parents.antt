@@ -1,16 +1,12 @@
 -- The places of parents, as they are read.
 use Rattle.std.proofs.Common.{◌≡◌, ℕ, ◌<◌, true, List, [], ◌∷◌, ◌++◌, length, get_or, Some, sym, ap, subst, ◌∙◌, ◌⊎◌, inl, inr, arith, length-append}
 use Rattle.std.specs.Prelude.{slice_get}
-use Rattle.std.specs.declared.sync.Arc.{Arc}
-use Rattle.std.specs.Arc.{arc_value}
 use Rattle.std.proofs.lemmas.Bool.{cases_eq}
 use Rattle.std.proofs.lemmas.List.{get_or_append_left}
 use Rattle.std.proofs.lemmas.Option.{slice_get_within, get_or_from_slice_get}
 use Rattle.std.proofs.Math.Seq.{get_or-append_seam}
 use Rattle.gufi_base.specs.Words.{ascends}
 use Rattle.gufi_base.specs.Paths.{Components, parent_path}
-use Rattle.gufi_tree.specs.declared.tree.Stored.{Stored}
-use Rattle.gufi_tree.specs.Stored.{directory_of}
 use Rattle.gufi_tree.specs.Tree.{Directory, dir_cmp}
 use Rattle.gufi_tree.specs.Places.{path_at}
 use Rattle.gufi_tree.specs.Kept.{HasParents}
@@ -18,7 +14,6 @@ use Rattle.gufi_tree.proofs.Built.{parent_path-child}
 use Rattle.gufi_tree.proofs.Linked.{path_at-get}
 use Rattle.gufi_tree.proofs.Searched.{place_of-at}
 use Rattle.gufi_image.specs.Placed.{IsBelow, IsPlaced, IsAbove, LiesIn, AreParents}
-use Rattle.gufi_image.proofs.DirectoryLoop.{dirs_in, dirs_push}
 
 -- the directory at a place is above the paths right below it
 pub above_below : (dirs : List Directory) (number : ℕ) (parent : Directory) (path : Components) → slice_get dirs number ≡ Some parent → IsBelow parent path → IsAbove dirs number path
@@ -62,13 +57,10 @@ parents_more dirs numbers dir number h placed lies = record {
       (subst (λ p. IsAbove (dirs ++ dir ∷ []) number p) (sym (ap (path_at (dirs ++ dir ∷ [])) is ∙ path_at-last dirs dir)) (above_last dirs dir number placed lies))
 
 -- one directory more
-pub parents_push : {Z : Type 0} (shared seen pushed : List (Arc Stored Z)) (numbers more : List ℕ) (one : Arc Stored Z) (stored : Stored) (number : ℕ)
-    → seen ≡ shared → pushed ≡ shared ++ one ∷ [] → arc_value one ≡ stored → more ≡ numbers ++ number ∷ []
-    → AreParents (dirs_in shared) numbers → IsPlaced (dirs_in seen) stored.path → LiesIn (dirs_in seen) stored.path number → AreParents (dirs_in pushed) more
-parents_push {Z} shared seen pushed numbers more one stored number same push value grown h placed lies =
-    subst (λ ns. AreParents (dirs_in pushed) ns) (sym grown)
-    (subst (λ (ds : List Directory). AreParents ds (numbers ++ number ∷ [])) (sym (dirs_push shared pushed one stored push value))
-    (parents_more (dirs_in shared) numbers (directory_of stored) number h (subst (λ (s : List (Arc Stored Z)). IsPlaced (dirs_in s) stored.path) same placed) (subst (λ (s : List (Arc Stored Z)). LiesIn (dirs_in s) stored.path number) same lies)))
+pub parents_push : (dirs pushed : List Directory) (numbers more : List ℕ) (dir : Directory) (number : ℕ) → pushed ≡ dirs ++ dir ∷ [] → more ≡ numbers ++ number ∷ []
+    → AreParents dirs numbers → IsPlaced dirs dir.path → LiesIn dirs dir.path number → AreParents pushed more
+parents_push dirs pushed numbers more dir number push grown h placed lies =
+    subst (λ ns. AreParents pushed ns) (sym grown) (subst (λ (ds : List Directory). AreParents ds (numbers ++ number ∷ [])) (sym push) (parents_more dirs numbers dir number h placed lies))
 
 -- these are the places of a tree's parents
 pub parents_of_tree : (dirs : List Directory) (numbers : List ℕ) → ascends dir_cmp dirs ≡ true → AreParents dirs numbers → HasParents dirs numbers

@@ -18,7 +18,7 @@ use Rattle.gufi_tree.specs.Tree.{Directory, own_rows, entry_row, entry_count, pl
 use Rattle.gufi_tree.specs.Places.{dir_id, path_at, parent_id}
 use Rattle.gufi_tree.proofs.Linked.{root_first}
 use Rattle.gufi_roll.specs.CanRoll.{can_roll}
-use Rattle.gufi_image.specs.Image.{parent_number, parts_image, directory_image, directories_image}
+use Rattle.gufi_image.specs.Image.{entry_image, entries_image, parent_number, parts_image, directory_image, directories_image}
 
 -- the last name of a path, by its kept text
 pub no_last_name : (path : Components) → length (kept_text path) ≤ 1 → [] ≡ last_of [] path
@@ -83,6 +83,13 @@ directories_more tree limit i parent flag path rec es n f p r e lt =
     ap (directories_image tree limit) (take_more tree i d lt)
     ∙ flat_map-append (directory_image tree limit) (take i tree) (here ∷ [])
     ∙ ap (λ (t : List ℕ). directories_image tree limit (take i tree) ++ t) (append-nil (directory_image tree limit here) ∙ own)
+
+-- one entry more
+pub entries_more : (es : List Entry) (i : ℕ) (e : Entry) → ((d : Entry) → e ≡ get_or es i d) → i < length es → entries_image (take (i + 1) es) ≡ entries_image (take i es) ++ entry_image e
+entries_more es i e is lt =
+    ap (λ (xs : List Entry). entries_image xs) (take_more es i e lt ∙ ap (λ (x : Entry). take i es ++ x ∷ []) (sym (is e)))
+    ∙ flat_map-append entry_image (take i es) (e ∷ [])
+    ∙ ap (λ (t : List ℕ). entries_image (take i es) ++ t) (append-nil (entry_image e))
 
 -- entries are counted
 pub count_below : (tree : List Directory) → entry_count tree ≤ length (flat_map own_rows tree)

@@ -1,5 +1,5 @@
 -- What the values of the code stand for.
-use Rattle.gufi_tree.specs.Stored.{directory_of, directories_of, values_of}
+use Rattle.gufi_tree.specs.Stored.{directory_of}
 use Rattle.gufi_image.specs.declared.directory.Found.{Found}
 use Rattle.gufi_image.specs.declared.directory.Directories.{Directories as Kept}
 use Rattle.gufi_image.specs.Directories.{Flagged, Front}
@@ -8,4 +8,4 @@ abbrev pub flagged : Found → Flagged
 flagged f = record { dir = directory_of f.stored; flag = f.flag }
 
 abbrev pub front : Kept → Front
-front d = record { dirs = directories_of (values_of d.stored.items); flags = d.flags.items }
+front d = record { dirs = d.stored; flags = d.flags.items }

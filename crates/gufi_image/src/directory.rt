@@ -1,10 +1,9 @@
 //! The directories of an image.
 
-ghost use Rattle.std.specs.Prelude.{◌≡◌, List, [], length, slice_get, None, IsTrue, IfOk, MatchOption};
-ghost use Rattle.std.specs.Arc.{arc_value};
+ghost use Rattle.std.specs.Prelude.{◌≡◌, ◌++◌, ◌∷◌, [], length, slice_get, None, IsTrue, IfOk, MatchOption};
 ghost use Rattle.gufi_base.specs.Words.{ascends};
-ghost use Rattle.gufi_tree.specs.Tree.{Directory, entry_cmp, entry_count, has_entry_named};
-ghost use Rattle.gufi_tree.specs.Stored.{directory_of, directories_of, values_of};
+ghost use Rattle.gufi_tree.specs.Tree.{entry_cmp, entry_count};
+ghost use Rattle.gufi_tree.specs.Stored.{directory_of};
 ghost use Rattle.gufi_image.specs.Fields.{Gives};
 ghost use Rattle.gufi_image.specs.Directories.{root_at, below_at, follows, first_at, other_at, path_at, flag_at, directory_at, directories_at};
 ghost use Rattle.gufi_image.specs.Sorted.{AreSorted, IsParent};
@@ -15,10 +14,9 @@ use crate::entry::entries_at;
 use crate::fault::{ImageKind, Refused};
 use crate::fields::{flaw, record_at, u8_at, u32_at};
 use crate::name::{Above, name_at};
-use gufi_base::{Kind, Name, Path, name_cmp, path_cmp};
-use gufi_tree::{Entry, Stored};
-use std::alloc::Global;
-use std::sync::Arc;
+use gufi_base::{Kind, Name, Path, PathRef, text_cmp};
+use gufi_tree::{DirRef, Dirs, Stored, has_entry};
+use std::alloc::{AllocError, Global};
 
 /// The fewest bytes of a directory.
 const LEAST_DIRECTORY: usize = 86;
@@ -48,7 +46,7 @@ pub(crate) struct Found {
 /// Directories with the places of their parents and their flags, and how many entries they have.
 #[derive(Drop)]
 pub(crate) struct Directories {
-    pub stored: Vec<Arc<Stored, Global>>,
+    pub stored: Dirs,
     pub parents: Vec<u32>,
     pub flags: Vec<Flag>,
     pub entries: u32,
@@ -67,14 +65,11 @@ fn root_at(alloc: Global, bytes: &[u8]) -> Result<(Path, &[u8]), Refused>
     Ok((Path::root(alloc)?, rest))
 }
 
-/// Whether an entry has a name. `O(log n)` comparisons.
-fn has_entry(dir: &Stored, name: &Name) -> bool
-    requires { IsTrue (ascends entry_cmp dir.now.entries.items) }
-    ensures { result ≡ has_entry_named name.now (directory_of dir.now) }
+/// A path followed by a name. One allocation.
+fn child_of(alloc: Global, parent: &PathRef<'_>, name: &Name) -> Result<Path, AllocError>
+    ensures { IfOk result (λ path. path ≡ parent.now ++ name.now ∷ []) }
 {
-    dir.entries
-        .binary_search_by(|entry| name_cmp(&entry.name, name))
-        .is_ok()
+    Path::of_parts(alloc, parent.text(), name.as_slice())
 }
 
 /// A path, by its name below its parent, which has no such entry.
@@ -82,43 +77,44 @@ fn has_entry(dir: &Stored, name: &Name) -> bool
 fn below_at<'a>(
     alloc: Global,
     bytes: &'a [u8],
-    parent: &Stored,
+    parent: &DirRef<'_>,
 ) -> Result<(Path, &'a [u8]), Refused>
-    requires { IsTrue (ascends entry_cmp parent.now.entries.items) }
-    ensures gives { Gives (λ x. (x.0, x.1.now)) result (below_at (directory_of parent.now) bytes.now) }
-    ensures below { IfOk result (λ x. IsBelow (directory_of parent.now) x.0) }
+    requires { IsTrue (ascends entry_cmp parent.now.entries) }
+    ensures gives { Gives (λ x. (x.0, x.1.now)) result (below_at parent.now bytes.now) }
+    ensures below { IfOk result (λ x. IsBelow parent.now x.0) }
 {
-    let above = Above::of(&parent.path);
+    let above = Above::of(parent.path());
     let (name, rest) = name_at(alloc, bytes, &above)?;
-    if has_entry(parent, &name) {
+    if has_entry(parent, name.as_slice()) {
         return Err(flaw(bytes, ImageKind::Name));
     }
-    let path = parent.path.child(alloc, name.as_slice())?;
+    let path = child_of(alloc, &parent.path(), &name)?;
     Ok((path, rest))
 }
 
 /// Whether a path is above that of the last directory.
-fn follows(before: &[Arc<Stored, Global>], path: &Path) -> bool
-    ensures { result ≡ follows (directories_of (values_of before.now)) path.now }
+fn follows(before: &Dirs, path: &Path) -> bool
+    ensures { result ≡ follows before.now path.now }
 {
-    match before.last() {
-        None => true,
-        Some(last) => path_cmp(&last.path, path).is_lt(),
+    let count = before.len();
+    if count == 0 {
+        return true;
     }
+    text_cmp(before.at(count - 1).path().text(), path.text()).is_lt()
 }
 
 /// The directory at a place.
-fn parent_of(before: &[Arc<Stored, Global>], number: u32) -> Option<&Stored>
-    requires { AreSorted (directories_of (values_of before.now)) }
+fn parent_of(before: &Dirs, number: u32) -> Option<DirRef<'_>>
+    requires { AreSorted before.now }
     ensures { MatchOption result
-        (slice_get (directories_of (values_of before.now)) number ≡ None)
-        (λ parent. IsParent (directories_of (values_of before.now)) number parent.now) }
+        (slice_get before.now number ≡ None)
+        (λ parent. IsParent before.now number parent) }
 {
     let place = number as usize;
     if place >= before.len() {
         return None;
     }
-    Some(&before[place])
+    Some(before.at(place))
 }
 
 /// The path of the first directory.
@@ -144,18 +140,18 @@ fn other_at<'a>(
     alloc: Global,
     bytes: &'a [u8],
     rest: &'a [u8],
-    before: &[Arc<Stored, Global>],
+    before: &Dirs,
     number: u32,
 ) -> Result<(Path, &'a [u8]), Refused>
-    requires { AreSorted (directories_of (values_of before.now)) }
-    ensures gives { Gives (λ x. (x.0, x.1.now)) result (other_at (directories_of (values_of before.now)) number rest.now bytes.now) }
-    ensures child { IfOk result (λ x. IsChild (directories_of (values_of before.now)) x.0) }
-    ensures above { IfOk result (λ x. IsAbove (directories_of (values_of before.now)) number x.0) }
+    requires { AreSorted before.now }
+    ensures gives { Gives (λ x. (x.0, x.1.now)) result (other_at before.now number rest.now bytes.now) }
+    ensures child { IfOk result (λ x. IsChild before.now x.0) }
+    ensures above { IfOk result (λ x. IsAbove before.now number x.0) }
 {
     let Some(parent) = parent_of(before, number) else {
         return Err(flaw(bytes, ImageKind::Parent));
     };
-    let (path, rest) = below_at(alloc, rest, parent)?;
+    let (path, rest) = below_at(alloc, rest, &parent)?;
     if !follows(before, &path) {
         return Err(flaw(bytes, ImageKind::Order));
     }
@@ -167,15 +163,15 @@ fn other_at<'a>(
 fn path_at<'a>(
     alloc: Global,
     bytes: &'a [u8],
-    before: &[Arc<Stored, Global>],
+    before: &Dirs,
 ) -> Result<(Located, &'a [u8]), Refused>
-    requires { AreSorted (directories_of (values_of before.now)) }
-    ensures gives { Gives (λ x. (x.0.path, x.1.now)) result (path_at (directories_of (values_of before.now)) bytes.now) }
-    ensures placed { IfOk result (λ x. IsPlaced (directories_of (values_of before.now)) x.0.path) }
-    ensures parent { IfOk result (λ x. LiesIn (directories_of (values_of before.now)) x.0.path x.0.parent) }
+    requires { AreSorted before.now }
+    ensures gives { Gives (λ x. (x.0.path, x.1.now)) result (path_at before.now bytes.now) }
+    ensures placed { IfOk result (λ x. IsPlaced before.now x.0.path) }
+    ensures parent { IfOk result (λ x. LiesIn before.now x.0.path x.0.parent) }
 {
     let (number, rest) = u32_at(bytes)?;
-    if before.is_empty() {
+    if before.len() == 0 {
         let (path, rest) = first_at(alloc, bytes, rest, number)?;
         return Ok((Located { path, parent: 0 }, rest));
     }
@@ -204,15 +200,15 @@ fn flag_at(bytes: &[u8]) -> Result<(Flag, &[u8]), Refused>
 fn directory_at<'a>(
     alloc: Global,
     bytes: &'a [u8],
-    before: &[Arc<Stored, Global>],
+    before: &Dirs,
     so_far: u32,
     total: u32,
 ) -> Result<(Found, &'a [u8]), Refused>
-    requires sorted { AreSorted (directories_of (values_of before.now)) }
-    requires so_far { so_far ≡ entry_count (directories_of (values_of before.now)) }
-    ensures gives { Gives (λ x. (flagged x.0, x.1.now)) result (directory_at total (directories_of (values_of before.now)) bytes.now) }
-    ensures next { IfOk result (λ x. IsNext total (directories_of (values_of before.now)) (directory_of x.0.stored)) }
-    ensures parent { IfOk result (λ x. LiesIn (directories_of (values_of before.now)) x.0.stored.path x.0.parent) }
+    requires sorted { AreSorted before.now }
+    requires so_far { so_far ≡ entry_count before.now }
+    ensures gives { Gives (λ x. (flagged x.0, x.1.now)) result (directory_at total before.now bytes.now) }
+    ensures next { IfOk result (λ x. IsNext total before.now (directory_of x.0.stored)) }
+    ensures parent { IfOk result (λ x. LiesIn before.now x.0.stored.path x.0.parent) }
 {
     let (located, rest) = path_at(alloc, bytes, before)?;
     let Located { path, parent } = located;
@@ -222,7 +218,7 @@ fn directory_at<'a>(
     if count as u64 + so_far as u64 > total as u64 {
         return Err(flaw(counts, ImageKind::Number));
     }
-    let above = Above::of(&path);
+    let above = Above::of(path.as_path_ref());
     let (entries, rest) = entries_at(alloc, rest, &above, count)?;
     let stored = Stored { path, rec, entries };
     let found = Found {
@@ -247,12 +243,12 @@ pub(crate) fn directories_at(
     total: u32,
 ) -> Result<(Directories, &[u8]), Refused>
     ensures gives { Gives (λ x. (front x.0, x.1.now)) result (directories_at count total bytes.now) }
-    ensures entries { IfOk result (λ x. x.0.entries ≡ entry_count (directories_of (values_of x.0.stored.items))) }
-    ensures directories { IfOk result (λ x. AreDirectories count total (directories_of (values_of x.0.stored.items))) }
-    ensures parents { IfOk result (λ x. AreParents (directories_of (values_of x.0.stored.items)) x.0.parents.items) }
+    ensures entries { IfOk result (λ x. x.0.entries ≡ entry_count x.0.stored) }
+    ensures directories { IfOk result (λ x. AreDirectories count total x.0.stored) }
+    ensures parents { IfOk result (λ x. AreParents x.0.stored x.0.parents.items) }
 {
     let few = (count as usize).min(bytes.len() / LEAST_DIRECTORY);
-    let mut stored = Vec::with_capacity(alloc, few)?;
+    let mut stored = Dirs::new(alloc);
     let mut parents = Vec::with_capacity(alloc, few)?;
     let mut flags = Vec::with_capacity(alloc, few)?;
     let mut so_far = 0u32;
@@ -262,7 +258,7 @@ pub(crate) fn directories_at(
         so_far += entries_in(&found.stored) as u32;
         parents.push(found.parent)?;
         flags.push(found.flag)?;
-        stored.push(Arc::new(alloc, found.stored)?)?;
+        stored.push(alloc, found.stored)?;
         rest = after;
     }
     let entries = so_far;

@@ -9,7 +9,7 @@ ghost use Rattle.gufi_image.specs.Names.{name_at};
 
 use crate::fault::{ImageKind, Refused};
 use crate::fields::{bytes_at, flaw, u8_at};
-use gufi_base::{Name, NameFault, Path};
+use gufi_base::{Name, NameFault, PathRef};
 use std::alloc::Global;
 use std::marker::Model;
 
@@ -23,7 +23,7 @@ fn is_over(names: u128, bytes: u128) -> bool
 /// The path of a directory, measured once for all names in it.
 #[derive(Drop)]
 pub(crate) struct Above<'a> {
-    path: &'a Path,
+    path: PathRef<'a>,
     depth: usize,
     bytes: usize,
 }
@@ -35,20 +35,18 @@ impl<'a> Model for Above<'a> {
 
     ghost use Rattle.gufi_image.specs.Measured.{IsMeasured};
 
-    ghost view = { λ a. a.path.now };
+    ghost view = { λ a. a.path };
 
-    ghost invariant = { λ a. IsMeasured a.path.now a.depth a.bytes };
+    ghost invariant = { λ a. IsMeasured a.path a.depth a.bytes };
 }
 
 impl<'a> Above<'a> {
-    pub(crate) fn of(path: &'a Path) -> Above<'a>
-        ensures { result ≡ path.now }
+    pub(crate) fn of(path: PathRef<'a>) -> Above<'a>
+        ensures { result ≡ path.entry }
     {
-        Above {
-            path,
-            depth: path.depth(),
-            bytes: path.text().len(),
-        }
+        let depth = path.depth();
+        let bytes = path.text().len();
+        Above { path, depth, bytes }
     }
 
     fn is_too_long_with(&self, name: &[u8]) -> bool

@@ -5,7 +5,7 @@ ghost use Rattle.gufi_base.specs.Names.{is_name};
 ghost use Rattle.gufi_image.specs.Bytes.{u8_bytes, u16_bytes, u32_bytes, u64_bytes, owner_image, size_image, times_image, record_image, name_image};
 
 use byteorder::{ByteOrder, LittleEndian};
-use gufi_base::{Memory, Meta, Rec};
+use gufi_base::{Memory, Meta, RecRef};
 
 #[inline]
 pub(crate) fn put(out: &mut Vec<u8>, bytes: &[u8]) -> Result<(), Memory>
@@ -107,13 +107,14 @@ pub(crate) fn put_count(out: &mut Vec<u8>, count: usize) -> Result<(), Memory>
 }
 
 #[tactic(auto, unfolding(crate::specs::Bytes::record_image))]
-pub(crate) fn put_record(out: &mut Vec<u8>, rec: &Rec) -> Result<(), Memory>
+pub(crate) fn put_record(out: &mut Vec<u8>, rec: &RecRef<'_>) -> Result<(), Memory>
     ensures { OnOk result (out.new.items ≡ out.old.items ++ record_image rec.now) }
 {
-    put_owner(out, &rec.meta)?;
-    put_size(out, &rec.meta)?;
-    put_times(out, &rec.meta)?;
-    let link = rec.link.as_slice();
+    let meta = rec.meta();
+    put_owner(out, meta)?;
+    put_size(out, meta)?;
+    put_times(out, meta)?;
+    let link = rec.link();
     put_length(out, link)?;
     put(out, link)
 }

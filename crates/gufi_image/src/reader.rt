@@ -7,7 +7,6 @@ ghost use Rattle.std.specs.List.{starts_with};
 ghost use Rattle.gufi_base.specs.Limits.{max_dirs, max_entries, max_image};
 ghost use Rattle.gufi_base.specs.Words.{GivesUnless};
 ghost use Rattle.gufi_tree.specs.Kept.{HasParents};
-ghost use Rattle.gufi_tree.specs.Stored.{directories_of, values_of};
 ghost use Rattle.gufi_roll.specs.CanRoll.{roll_flags};
 ghost use Rattle.gufi_image.specs.Bytes.{magic};
 ghost use Rattle.gufi_image.specs.Fields.{Gives};
@@ -105,8 +104,8 @@ fn head_at(bytes: &[u8]) -> Result<(Head, &[u8]), Refused>
 #[tactic(auto, unfolding(crate::specs::Reading::all_at))]
 fn all_at(alloc: Global, bytes: &[u8]) -> Result<Parts, Refused>
     ensures gives { Gives flags_of result (all_at bytes.now) }
-    ensures whole { IfOk result (λ parts. IsWhole (directories_of (values_of parts.directories.stored.items))) }
-    ensures parents { IfOk result (λ parts. HasParents (directories_of (values_of parts.directories.stored.items)) parts.directories.parents.items) }
+    ensures whole { IfOk result (λ parts. IsWhole parts.directories.stored) }
+    ensures parents { IfOk result (λ parts. HasParents parts.directories.stored parts.directories.parents.items) }
 {
     let (head, rest) = head_at(bytes)?;
     let (directories, rest) = directories_at(alloc, rest, head.dirs, head.entries)?;
@@ -165,7 +164,8 @@ fn snapshot_at(alloc: Global, bytes: &[u8]) -> Result<Snapshot, Refused>
 
 /// The snapshot whose image the bytes are, or the first fault from the left, with its offset.
 ///
-/// One pass over the bytes. No more memory is taken than the snapshot's and sixteen bytes for each directory.
+/// One pass over the bytes. No more memory is taken than the snapshot's, sixteen bytes for each directory, and what the entries of
+/// the directory at hand take.
 #[tactic(auto, unfolding(crate::specs::Reading::image_means))]
 pub fn read_image(alloc: Global, bytes: &[u8]) -> Result<Snapshot, ImageError>
     requires { length bytes.now ≤ max_image }

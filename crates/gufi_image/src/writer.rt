@@ -8,9 +8,9 @@ ghost use Rattle.gufi_image.specs.Bytes.{name_image};
 ghost use Rattle.gufi_image.specs.Image.{entry_image, entries_image, parent_number, flag_byte, parts_image, directories_image, head_image, image_text};
 
 use crate::put::{put, put_count, put_name, put_record, put_u8, put_u16, put_u32, put_u64};
-use gufi_base::{Memory, Name, Path, Rec};
+use gufi_base::{Memory, PathRef, RecRef};
 use gufi_snap::Snapshot;
-use gufi_tree::{DirId, Entry, Tree};
+use gufi_tree::{DirId, EntriesRef, EntryRef, Tree};
 use std::alloc::Global;
 
 /// The bytes of the fields before the directories.
@@ -20,31 +20,32 @@ const HEAD: usize = 24;
 const RECORD: usize = 86;
 
 #[tactic(auto, unfolding(crate::specs::Image::entry_image))]
-fn put_entry(out: &mut Vec<u8>, entry: &Entry) -> Result<(), Memory>
+fn put_entry(out: &mut Vec<u8>, entry: &EntryRef<'_>) -> Result<(), Memory>
     ensures { OnOk result (out.new.items ≡ out.old.items ++ entry_image entry.now) }
 {
-    put_u8(out, entry.rec.meta.kind.letter())?;
-    put_entry_name(out, &entry.name)?;
-    put_record(out, &entry.rec)
+    let rec = entry.rec();
+    put_u8(out, rec.meta().kind.letter())?;
+    put_entry_name(out, entry)?;
+    put_record(out, &rec)
 }
 
-fn put_entries(out: &mut Vec<u8>, entries: &[Entry]) -> Result<(), Memory>
+fn put_entries(out: &mut Vec<u8>, entries: &EntriesRef<'_>) -> Result<(), Memory>
     ensures { OnOk result (out.new.items ≡ out.old.items ++ entries_image entries.now) }
 {
-    for entry in entries {
-        put_entry(out, entry)?;
+    for place in 0..entries.len() {
+        put_entry(out, &entries.at(place))?;
     }
     Ok(())
 }
 
-fn put_entry_name(out: &mut Vec<u8>, name: &Name) -> Result<(), Memory>
-    ensures { OnOk result (out.new.items ≡ out.old.items ++ name_image name.now) }
+fn put_entry_name(out: &mut Vec<u8>, entry: &EntryRef<'_>) -> Result<(), Memory>
+    ensures { OnOk result (out.new.items ≡ out.old.items ++ name_image entry.now.name) }
 {
-    put_name(out, name.as_slice())
+    put_name(out, entry.name())
 }
 
 /// The last name of a path, or nothing for the root.
-fn put_last_name(out: &mut Vec<u8>, path: &Path) -> Result<(), Memory>
+fn put_last_name(out: &mut Vec<u8>, path: &PathRef<'_>) -> Result<(), Memory>
     ensures { OnOk result (out.new.items ≡ out.old.items ++ name_image (last_of [] path.now)) }
 {
     if path.text().len() <= 1 {
@@ -65,9 +66,9 @@ fn put_directory(
     out: &mut Vec<u8>,
     parent: u32,
     flag: bool,
-    path: &Path,
-    rec: &Rec,
-    entries: &[Entry],
+    path: &PathRef<'_>,
+    rec: &RecRef<'_>,
+    entries: &EntriesRef<'_>,
 ) -> Result<(), Memory>
     ensures { OnOk result (out.new.items ≡ out.old.items ++ parts_image parent flag path.now rec.now entries.now) }
 {
@@ -105,9 +106,9 @@ fn put_directories(out: &mut Vec<u8>, snap: &Snapshot) -> Result<(), Memory>
             out,
             parent_number(tree, id),
             snap.rolled(id),
-            tree.path(id),
-            tree.rec(id),
-            tree.entries(id),
+            &tree.path(id),
+            &tree.rec(id),
+            &tree.entries(id),
         )?;
     }
     Ok(())
@@ -136,16 +137,16 @@ fn put_head(out: &mut Vec<u8>, tree: &Tree, limit: u64) -> Result<(), Memory>
 }
 
 /// The bytes of a record with its name.
-fn row_size(name: usize, rec: &Rec) -> usize {
-    name.saturating_add(rec.link.as_slice().len())
-        .saturating_add(RECORD)
+fn row_size(name: usize, rec: &RecRef<'_>) -> usize {
+    name.saturating_add(rec.link().len()).saturating_add(RECORD)
 }
 
 /// The bytes of entries.
-fn entries_size(entries: &[Entry]) -> usize {
+fn entries_size(entries: &EntriesRef<'_>) -> usize {
     let mut size = 0usize;
-    for entry in entries {
-        size = size.saturating_add(row_size(entry.name.as_slice().len(), &entry.rec));
+    for place in 0..entries.len() {
+        let entry = entries.at(place);
+        size = size.saturating_add(row_size(entry.name().len(), &entry.rec()));
     }
     size
 }
@@ -155,10 +156,10 @@ fn image_size(tree: &Tree) -> usize {
     let mut size = HEAD;
     for number in 0..tree.dirs() {
         let id = DirId(number);
-        let own = row_size(tree.path(id).base_name().len(), tree.rec(id));
+        let own = row_size(tree.path(id).base_name().len(), &tree.rec(id));
         size = size
             .saturating_add(own)
-            .saturating_add(entries_size(tree.entries(id)));
+            .saturating_add(entries_size(&tree.entries(id)));
     }
     size
 }

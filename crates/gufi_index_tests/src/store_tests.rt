@@ -1,22 +1,20 @@
 //! The rows of a directory, scanned.
-ghost use Rattle.std.specs.Prelude.{◌≡◌, ◌<◌, ◌^◌, length};
-ghost use Rattle.std.specs.Arc.{arc_value};
+ghost use Rattle.std.specs.Prelude.{◌≡◌, ◌<◌, ◌^◌, length, IfOk};
 ghost use Rattle.gufi_tree.specs.Tree.{own_rows};
 
 use crate::lines::line;
 use gufi_base::{Always, Kind, Memory, Row, Steps, Yield};
 use gufi_rows::{PathList, RowList};
 use gufi_store::DirStore;
-use gufi_tree::{DirId, Stored, build};
+use gufi_tree::{DirId, DirRef, Tree, build};
 use std::alloc::Global;
 use std::marker::Brand;
-use std::sync::Arc;
 use std::sync::ledger::{Blank, Ledger};
 use std::test::Fail;
 
 fn scanned<Y: Yield, L: Ledger>(
     alloc: Global,
-    store: &DirStore,
+    store: &DirStore<'_>,
     steps: &mut Steps<L>,
 ) -> Result<Y, Memory>
     requires { length (own_rows store.now) < 2 ^ 39 }
@@ -26,28 +24,26 @@ fn scanned<Y: Yield, L: Ledger>(
     Ok(all)
 }
 
-fn scan_with<Y: Yield, L: Ledger>(
-    alloc: Global,
-    stored: Arc<Stored, Global>,
-    blank: Blank,
-) -> Result<Y, Memory>
+fn scan_with<Y: Yield, L: Ledger>(alloc: Global, dir: DirRef<'_>, blank: Blank) -> Result<Y, Memory>
     requires name { blank.name ≡ L.name }
     requires parts { blank.parts ≡ L.parts }
     requires one { 0 < blank.parts }
-    requires few { length (arc_value stored).entries.items < 2 ^ 32 }
+    requires few { length dir.entries < 2 ^ 32 }
 {
     let mut steps = Steps::<L>::new(blank);
-    let store = DirStore::of(stored, &mut steps);
+    let store = DirStore::of(dir, &mut steps);
     scanned(alloc, &store, &mut steps)
 }
 
-fn scan_alone<Y: Yield>(alloc: Global, stored: Arc<Stored, Global>) -> Result<Y, Memory>
-    requires { length (arc_value stored).entries.items < 2 ^ 32 }
+fn scan_alone<Y: Yield>(alloc: Global, dir: DirRef<'_>) -> Result<Y, Memory>
+    requires { length dir.entries < 2 ^ 32 }
 {
-    scan_with::<Y, Brand>(alloc, stored, Blank::new(1))
+    scan_with::<Y, Brand>(alloc, dir, Blank::new(1))
 }
 
-fn directory(alloc: Global) -> Result<Arc<Stored, Global>, Fail> {
+fn two_directories(alloc: Global) -> Result<Tree, Fail>
+    ensures { IfOk result (λ tree. length tree ≡ 2) }
+{
     let lines = vec![in alloc;
         line(alloc, 1, b"/", Kind::Dir, 0o755)?,
         line(alloc, 2, b"/d", Kind::Dir, 0o755)?,
@@ -58,15 +54,16 @@ fn directory(alloc: Global) -> Result<Arc<Stored, Global>, Fail> {
     if tree.dirs() != 2 {
         return Err(Fail::new("there are not two directories"));
     }
-    Ok(tree.share(DirId(1))?)
+    Ok(tree)
 }
 
 #[test]
 fn a_directory_is_scanned(rt: HostRuntime) -> Result<(), Fail> {
     let alloc = rt.alloc();
-    let stored = directory(alloc)?;
-    assert!(rt; stored.entries.len() == 2);
-    let paths: PathList = scan_alone(alloc, stored)?;
+    let tree = two_directories(alloc)?;
+    let dir = tree.dir(DirId(1));
+    assert!(rt; dir.entries().len() == 2);
+    let paths: PathList = scan_alone(alloc, dir)?;
     let text = paths.lines(alloc)?;
     assert!(rt; text.as_slice() == b"/d\n/d/a\n/d/b\n".as_slice());
     Ok(())
@@ -87,9 +84,10 @@ fn printed(alloc: Global, rows: &[Row]) -> Result<Vec<u8>, Memory> {
 #[test]
 fn scanned_rows_are_sorted(rt: HostRuntime) -> Result<(), Fail> {
     let alloc = rt.alloc();
-    let stored = directory(alloc)?;
-    assert!(rt; stored.entries.len() == 2);
-    let list: RowList = scan_alone(alloc, stored)?;
+    let tree = two_directories(alloc)?;
+    let dir = tree.dir(DirId(1));
+    assert!(rt; dir.entries().len() == 2);
+    let list: RowList = scan_alone(alloc, dir)?;
     let rows = list.sorted(alloc)?;
     assert_eq!(rt;
         printed(alloc, rows.as_slice())?.as_slice(),

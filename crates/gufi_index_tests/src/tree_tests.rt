@@ -36,10 +36,10 @@ fn paths_lead_where_search_is_granted(rt: HostRuntime) -> Result<(), Fail> {
         tree.path_of(alloc, DirId(2))?.printed(),
         b"/p/q".as_slice()
     );
-    let stored = tree.share(DirId(2))?;
-    assert_eq!(rt; stored.entries.len(), 1);
-    for entry in &stored.entries {
-        assert_eq!(rt; entry.name.as_slice(), b"y".as_slice());
+    let entries = tree.entries(DirId(2));
+    assert_eq!(rt; entries.len(), 1);
+    for place in 0..entries.len() {
+        assert_eq!(rt; entries.at(place).name(), b"y".as_slice());
     }
     Ok(())
 }

@@ -8,7 +8,6 @@ use Rattle.std.proofs.lemmas.List.{take_more, take_all, map-append, append-nil, 
 use Rattle.std.proofs.lemmas.List.Folds.{length-flat_map-take}
 use Rattle.std.proofs.lemmas.List.Sorted.{IsPermutation-sym, length_permutation}
 use Rattle.gufi_base.specs.declared.record.Meta.{Meta}
-use Rattle.gufi_base.specs.declared.record.Rec.{Rec}
 use Rattle.gufi_base.specs.declared.record.Row.{Row}
 use Rattle.gufi_base.specs.Paths.{Components}
 use Rattle.gufi_tree.specs.declared.tree.DirId.{DirId}
@@ -49,17 +48,11 @@ pub total_nothing : (sum : Summary) → sum ≡ empty → IsBounded sum → IsTo
 unfolding total
 total_nothing sum e b = record { is = e ∙ sym total_of-nil; bounded = b }
 
--- the own rows of a directory, part by part
-pub own_parts : (sum : Summary) (d : Directory) (rec : Rec) (entries : List Entry) → rec ≡ d.rec → entries ≡ d.entries
-    → IsTotal sum (own_rows (record { path = d.path; rec = rec; entries = entries })) → IsTotal sum (own_rows d)
-own_parts sum d rec entries r e h = subst (λ (es : List Entry). IsTotal sum (own_rows (record { path = d.path; rec = d.rec; entries = es }))) e
-    (subst (λ (x : Rec). IsTotal sum (own_rows (record { path = d.path; rec = x; entries = entries }))) r h)
-
-pub entries_few : (tree : List Directory) (k : ℕ) (d : Directory) (entries : List Entry) → k < length tree → length (flat_map own_rows tree) < 2 ^ 32 → entries ≡ (get_or tree k d).entries → length entries < 2 ^ 32
-entries_few tree k d entries h few e =
+pub entries_few : (tree : List Directory) (k : ℕ) (d : Directory) → k < length tree → length (flat_map own_rows tree) < 2 ^ 32 → d ≡ get_or tree k d → length d.entries < 2 ^ 32
+entries_few tree k d h few e =
     let a = length-flat_map-take own_rows tree k d h in
     let b = length-map (get_or tree k d).entries (entry_row (get_or tree k d).path) in
-    let c = ap length e in
+    let c = ap (λ (x : Directory). length x.entries) e in
     omega arith
 
 -- own sums, with one more

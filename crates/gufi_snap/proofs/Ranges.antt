@@ -1,5 +1,5 @@
 -- In path order the directories at a path and below it stand side by side, and a sum of their rows counts them.
-use Rattle.std.proofs.Common.{◌≡◌, ℕ, zero, suc, ◌+◌, ◌-◌, ◌<◌, ◌≤◌, Bool, true, false, not, cond, List, [], ◌∷◌, length, take, drop, map, refl, sym, ap, ◌∙◌, subst, arith, length-append, length-drop}
+use Rattle.std.proofs.Common.{◌≡◌, ℕ, zero, suc, ◌+◌, ◌<◌, ◌≤◌, Bool, true, false, not, cond, List, [], ◌∷◌, length, take, drop, map, refl, sym, ap, ◌∙◌, subst, arith, length-append, length-drop}
 use Rattle.std.specs.Prelude.{All}
 use Rattle.std.specs.List.{AllByRecursion, filter, flat_map, list_all}
 use Rattle.std.specs.declared.cmp.Ordering.TheVariants.{Less, Greater}
@@ -134,7 +134,5 @@ module _ (tree : List Directory) (shape : HasTreeShape tree) (k : ℕ) (within :
   pub range_within : k + sum.dirs ≤ length tree
   range_within = omega (arith, dirs_counted tree (path_at tree k) sum shape is, below_within tree k shape.order within)
 
-  pub range_is : take (k + sum.dirs - k) (drop k tree) ≡ below_dirs tree (path_at tree k)
-  range_is =
-      let n : k + sum.dirs - k ≡ length (below_dirs tree (path_at tree k)) = omega (arith, dirs_counted tree (path_at tree k) sum shape is) in
-      ap (λ m. take m (drop k tree)) n ∙ sym (below_range tree k shape.order within)
+  pub range_is : take sum.dirs (drop k tree) ≡ below_dirs tree (path_at tree k)
+  range_is = ap (λ m. take m (drop k tree)) (dirs_counted tree (path_at tree k) sum shape is) ∙ sym (below_range tree k shape.order within)

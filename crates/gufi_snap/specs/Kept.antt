@@ -1,4 +1,4 @@
--- What a snapshot keeps beside its tree under every limit: stores and sums.
+-- What a snapshot keeps beside its tree under every limit: sums.
 use Rattle.std.specs.Prelude.{◌≡◌, ℕ, ◌<◌, ◌^◌, List, length, slice_index_or}
 use Rattle.std.specs.List.{flat_map}
 use Rattle.gufi_tree.specs.Tree.{Directory, own_rows, subtree_rows, home_rows, HasTreeShape}
@@ -17,9 +17,8 @@ pub record AreOwnSums (tree : List Directory) (sums below : List Summary) (place
   pub each : (k : ℕ) (s : Summary) → k < length tree → IsTotal (slice_index_or sums (slice_index_or places k 0) (slice_index_or below k s)) (home_rows tree (path_at tree k))
 
 -- What is kept beside a tree is its own.
-pub record IsContents (tree : List Directory) (stores : List Directory) (own : List Summary) (places : List ℕ) (below : List Summary) : Type 0 where
+pub record IsContents (tree : List Directory) (own : List Summary) (places : List ℕ) (below : List Summary) : Type 0 where
   pub shape : HasTreeShape tree
   pub few : length (flat_map own_rows tree) < 2 ^ 32
-  pub same : stores ≡ tree
   pub own_sums : AreOwnSums tree own below places
   pub tree_sums : AreTreeSums tree below

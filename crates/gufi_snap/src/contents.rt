@@ -9,23 +9,22 @@ ghost use Rattle.gufi_tree.specs.Places.{path_at};
 ghost use Rattle.gufi_store.specs.Scan.{is_met};
 ghost use Rattle.gufi_sums.specs.Total.{IsTotal};
 
-use crate::stores::stores_and_sums;
+use crate::stores::sum_stores;
 use crate::sums::{InnerSums, add_below, inner_sums};
 use gufi_base::{Memory, Steps, Tester, Yield};
 use gufi_store::{DirStore, scan_fold};
 use gufi_sums::Summary;
-use gufi_tree::{DirId, Tree};
+use gufi_tree::{DirId, DirRange, Tree};
 use std::alloc::Global;
 use std::marker::Model;
 use std::sync::ledger::Ledger;
 
-/// A tree with a store for each directory and the sums of its rows.
+/// A tree and the sums of the rows of its directories.
 ///
-/// Rows are kept once: stores share the tree's directories, and a fold is a range of stores.
+/// Rows are kept once: the tree lends a store its directory, and a fold the range of its directories.
 #[derive(Drop)]
 pub(crate) struct Contents {
     tree: Tree,
-    stores: Vec<DirStore>,
     own: InnerSums,
     tree_sums: Vec<Summary>,
 }
@@ -40,11 +39,11 @@ impl Model for Contents {
 
     ghost view = { λ c. c.tree };
 
-    ghost invariant = { λ c. IsContents c.tree c.stores.items c.own.sums.items c.own.places.items c.tree_sums.items };
+    ghost invariant = { λ c. IsContents c.tree c.own.sums.items c.own.places.items c.tree_sums.items };
 }
 
 impl Contents {
-    /// The stores and the sums of a tree. One step for each directory.
+    /// A tree with the sums of its directories. One step for each directory.
     pub(crate) fn of<L: Ledger>(
         alloc: Global,
         tree: Tree,
@@ -54,12 +53,11 @@ impl Contents {
         ensures ticks { OnOk result (steps.new ≡ steps.old + length tree) }
         ensures at_most { steps.new ≤ steps.old + length tree }
     {
-        let (stores, mut tree_sums) = stores_and_sums(alloc, &tree, steps)?;
+        let mut tree_sums = sum_stores(alloc, &tree, steps)?;
         let own = inner_sums(alloc, &tree, &tree_sums)?;
         add_below(&tree, &mut tree_sums);
         Ok(Contents {
             tree,
-            stores,
             own,
             tree_sums,
         })
@@ -93,18 +91,16 @@ impl Contents {
     }
 
     /// The stores of a directory and of all below it, which stand side by side. Its sum says how many they are.
-    fn stores_below(&self, id: DirId) -> &[DirStore]
+    fn stores_below(&self, id: DirId) -> DirRange<'_>
         requires { id.0 < length self.now }
-        ensures dirs { result.now ≡ filter (λ dir. is_prefix (path_at self.now id.0) dir.path) self.now }
+        ensures dirs { result ≡ filter (λ dir. is_prefix (path_at self.now id.0) dir.path) self.now }
         ensures shape { HasTreeShape self.now }
-        ensures deep { All (λ dir. length (path_at self.now id.0) ≤ length dir.path) result.now }
+        ensures deep { All (λ dir. length (path_at self.now id.0) ≤ length dir.path) result }
     {
-        // The count tells that the tree has its shape: what lies below a directory stands right behind it.
+        // How many there are in all tells that these are counted by a number of 32 bits.
         let _count = self.tree.dirs();
-        let stores = self.stores.as_slice();
-        let first = id.0 as usize;
-        let end = first + self.tree_sum(id).dirs as usize;
-        &stores[first..end]
+        let count = self.tree_sum(id).dirs as u32;
+        self.tree.range(id, count)
     }
 
     /// Adds the rows of a directory itself that meet the question. One step.
@@ -126,7 +122,7 @@ impl Contents {
         ensures same { T.meets tester.new ≡ T.meets tester.old }
         ensures tick { steps.new ≡ steps.old + 1 }
     {
-        self.stores[id.0 as usize].scan(alloc, tester, above, out, steps)
+        DirStore::again(self.tree.dir(id)).scan(alloc, tester, above, out, steps)
     }
 
     /// Adds the rows at and below a directory that meet the question. One step for all.
@@ -148,6 +144,6 @@ impl Contents {
         ensures same { T.meets tester.new ≡ T.meets tester.old }
         ensures tick { steps.new ≡ steps.old + 1 }
     {
-        scan_fold(alloc, self.stores_below(id), tester, above, out, steps)
+        scan_fold(alloc, &self.stores_below(id), tester, above, out, steps)
     }
 }

@@ -1,4 +1,4 @@
-//! Snapshots: a tree with a store for each directory, the sums of its rows, and what of it is rolled up.
+//! Snapshots: a tree, whose directories a scan borrows as stores, the sums of their rows, and what of it is rolled up.
 //!
 //! Contracts see a snapshot as its tree and its limit; what else it keeps follows from these.
 //! It stands on the tree, stores, sums and roll-up; queries stand on it.

@@ -20,7 +20,7 @@ use std::marker::{Brand, Model};
 use std::sync::Arc;
 use std::sync::ledger::{Blank, Ledger};
 
-/// A tree with a store for each directory, the sums of its rows, and what is rolled up under a limit.
+/// A tree, the sums of the rows of its directories, and what is rolled up under a limit.
 ///
 /// Snapshots of one tree under several limits share all but what is rolled up.
 #[derive(Drop)]
@@ -84,7 +84,7 @@ impl Snapshot {
         Snapshot::build_with::<Brand>(alloc, tree, limit, Blank::new(1))
     }
 
-    /// The same tree under another limit. Its stores and sums are shared; only what is rolled up is found anew.
+    /// The same tree under another limit. Its tree and sums are shared; only what is rolled up is found anew.
     ///
     /// Linear in the directories.
     pub fn with_limit(&self, alloc: Global, limit: u64) -> Result<Snapshot, Memory>

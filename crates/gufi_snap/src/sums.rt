@@ -10,40 +10,31 @@ ghost use Rattle.gufi_sums.specs.Total.{rows_in, IsBounded, IsTotal};
 ghost use Rattle.gufi_tree.proofs.Kids.{rows_under};
 ghost use Rattle.gufi_snap.specs.SumsByPlace.{AreOwn, AreUnderFrom, AreInner};
 
-use gufi_base::Rec;
 use gufi_sums::Summary;
-use gufi_tree::{DirId, Entry, Tree};
+use gufi_tree::{DirId, DirRef, EntriesRef, Tree};
 use std::alloc::{AllocError, Global};
 
 /// Adds the records of entries to a sum.
-fn add_entries(sum: &mut Summary, entries: &[Entry])
+fn add_entries(sum: &mut Summary, entries: &EntriesRef<'_>)
     requires room { rows_in sum.old + length entries.now < 2 ^ 40 }
     requires bounded { IsBounded sum.old }
     ensures { (path : List (List ℕ)) (rows : List Row) → IsTotal sum.old rows → IsTotal sum.new (rows ++ map (entry_row path) entries.now) }
 {
-    for entry in entries {
-        sum.add(&entry.rec.meta);
+    for place in 0..entries.len() {
+        let rec = entries.at(place).rec();
+        sum.add(rec.meta());
     }
 }
 
 /// The sum of a directory's own row and of its entries.
-fn own_sum(rec: &Rec, entries: &[Entry]) -> Summary
-    requires { length entries.now < 2 ^ 32 }
-    ensures { (path : List (List ℕ)) → IsTotal result (own_rows (record { path = path; rec = rec.now; entries = entries.now })) }
+pub(crate) fn own_sum(dir: &DirRef<'_>) -> Summary
+    requires { length dir.now.entries < 2 ^ 32 }
+    ensures { IsTotal result (own_rows dir.now) }
 {
     let mut sum = Summary::empty();
-    sum.add(&rec.meta);
-    add_entries(&mut sum, entries);
+    sum.add(dir.rec().meta());
+    add_entries(&mut sum, &dir.entries());
     sum
-}
-
-/// The sum of the rows of the directory at a place.
-pub(crate) fn own_sum_at(tree: &Tree, id: DirId) -> Summary
-    requires id { id.0 < length tree.now }
-    requires few { length (flat_map own_rows tree.now) < 2 ^ 32 }
-    ensures { (d : Directory) → IsTotal result (own_rows (slice_index_or tree.now id.0 d)) }
-{
-    own_sum(tree.rec(id), tree.entries(id))
 }
 
 /// The sum of the rows at and below a directory, from its own and those of the directories behind it.

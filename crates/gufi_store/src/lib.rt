@@ -1,58 +1,71 @@
 //! Stores: one directory, whose rows a query scans in one step, and folds, whose stores it scans in one step together.
 //!
+//! A store borrows its directory from where that is kept, and takes no memory of its own; a fold is a range of directories.
 //! Contracts see a store as its `Directory`; `rows_met` says which of its rows a scan adds, `rows_met_in` which of a fold's.
-//! It stands on `gufi_tree`, with whose trees a store shares the directory; snapshots stand on it.
+//! It stands on `gufi_tree`, whose trees lend the directories; snapshots stand on it.
 #![tactic(auto)]
 
 ghost use Rattle.std.specs.Prelude.{◌≡◌, ◌+◌, ◌-◌, ◌^◌, ◌<◌, ◌≤◌, List, [], ◌∷◌, ◌++◌, length, IfOk, OnOk, IsTrue, All, if◌then◌else◌};
 ghost use Rattle.std.specs.List.{list_all, flat_map};
 ghost use Rattle.gufi_base.specs.Names.{is_name};
-ghost use Rattle.std.specs.Arc.{arc_value};
 ghost use Rattle.gufi_base.specs.declared.record.Row.{Row};
 ghost use Rattle.gufi_base.specs.Rows.{Stands, StandsForSome};
-ghost use Rattle.gufi_tree.specs.Tree.{dir_row, own_rows};
-ghost use Rattle.gufi_tree.specs.Stored.{directory_of};
+ghost use Rattle.gufi_base.specs.Paths.{Components};
+ghost use Rattle.gufi_base.specs.PathTexts.{kept_text};
+ghost use Rattle.gufi_tree.specs.Tree.{entry_row, own_rows};
 ghost use Rattle.gufi_store.specs.Scan.{rows_met, rows_met_in};
 
-use gufi_base::{Memory, RowRef, Steps, Tester, Yield};
-use gufi_tree::Stored;
+use gufi_base::{Memory, PathRef, RecRef, RowRef, Steps, Tester, Yield};
+use gufi_tree::{DirRange, DirRef, EntryRef};
 use std::alloc::Global;
 use std::marker::Model;
-use std::sync::Arc;
 use std::sync::ledger::Ledger;
 
-/// One directory, shared with the tree that it is of.
+/// One directory, borrowed from where it is kept.
 #[derive(Drop)]
-pub struct DirStore {
-    stored: Arc<Stored, Global>,
+pub struct DirStore<'a> {
+    dir: DirRef<'a>,
 }
 
-impl Model for DirStore {
+impl<'a> Model for DirStore<'a> {
     ghost use Rattle.gufi_tree.specs.Tree.{Directory};
 
     ghost Value = { Directory };
 
-    ghost use Rattle.gufi_tree.specs.Stored.{directory_of};
-    ghost use Rattle.std.specs.Arc.{arc_value};
-
-    ghost view = { λ s. directory_of (arc_value s.stored) };
+    ghost view = { λ s. s.dir };
 }
 
 /// The own row of a directory, in borrowed parts.
-fn own_row(dir: &Stored) -> RowRef<'_>
-    requires { IsTrue (list_all is_name dir.now.path) }
-    ensures { Stands result (dir_row (directory_of dir.now)) }
+#[inline]
+fn own_row<'a>(path: &PathRef<'a>, rec: &RecRef<'a>) -> RowRef<'a>
+    requires { IsTrue (list_all is_name path.now) }
+    ensures { Stands result (record { path = path.now; rec = rec.now }) }
 {
-    let (stem, base) = dir.path.stem_and_base();
+    let (stem, base) = path.stem_and_base();
     RowRef {
         stem,
         base,
-        meta: &dir.rec.meta,
-        link: dir.rec.link.as_slice(),
+        meta: rec.meta(),
+        link: rec.link(),
+    }
+}
+
+/// The row of an entry below the path of this kept text, in borrowed parts.
+#[inline]
+fn row_below<'a>(stem: &'a [u8], entry: &EntryRef<'a>) -> RowRef<'a>
+    ensures { (path : Components) → IsTrue (list_all is_name path) → stem.now ≡ kept_text path → Stands result (entry_row path entry.now) }
+{
+    let rec = entry.rec();
+    RowRef {
+        stem,
+        base: entry.name(),
+        meta: rec.meta(),
+        link: rec.link(),
     }
 }
 
 /// Adds a row where it meets the question.
+#[inline]
 fn offer<T: Tester, Y: Yield>(
     alloc: Global,
     row: RowRef<'_>,
@@ -85,14 +98,31 @@ fn depth_between(depth: usize, above: u32) -> Result<u32, Memory>
     Ok(below as u32)
 }
 
-impl DirStore {
+impl<'a> DirStore<'a> {
     /// The store of a directory. It takes no memory, and counts one step.
-    pub fn of<L: Ledger>(stored: Arc<Stored, Global>, steps: &mut Steps<L>) -> DirStore
-        ensures store { result ≡ directory_of (arc_value stored) }
+    #[inline]
+    pub fn of<L: Ledger>(dir: DirRef<'a>, steps: &mut Steps<L>) -> DirStore<'a>
+        ensures store { result ≡ dir.entry }
         ensures tick { steps.new ≡ steps.old + 1 }
     {
         steps.tick();
-        DirStore { stored }
+        DirStore::again(dir)
+    }
+
+    /// The store of a directory of which one was counted before.
+    #[inline]
+    pub fn again(dir: DirRef<'a>) -> DirStore<'a>
+        ensures { result ≡ dir.entry }
+    {
+        DirStore { dir }
+    }
+
+    /// The directory.
+    #[inline]
+    pub fn dir(&self) -> &DirRef<'a>
+        ensures { result.now ≡ self.now }
+    {
+        &self.dir
     }
 
     /// Adds the directory's own row and its entries' rows, each that meets the question, and counts one step.
@@ -132,18 +162,13 @@ impl DirStore {
             Y.stands_for out.new (rows ++ rows_met above (T.meets tester.old) self.now)) }
         ensures same { T.meets tester.new ≡ T.meets tester.old }
     {
-        let dir: &Stored = &self.stored;
-        let components = dir.path.depth();
-        let depth = depth_between(components, above)?;
-        let stem = dir.path.text();
-        offer(alloc, own_row(dir), depth, tester, out)?;
-        for entry in &dir.entries {
-            let row = RowRef {
-                stem,
-                base: entry.name.as_slice(),
-                meta: &entry.rec.meta,
-                link: entry.rec.link.as_slice(),
-            };
+        let path = self.dir.path();
+        let depth = depth_between(path.depth(), above)?;
+        let stem = path.text();
+        offer(alloc, own_row(&path, &self.dir.rec()), depth, tester, out)?;
+        let entries = self.dir.entries();
+        for place in 0..entries.len() {
+            let row = row_below(stem, &entries.at(place));
             offer(alloc, row, depth + 1, tester, out)?;
         }
         Ok(())
@@ -155,7 +180,7 @@ impl DirStore {
 /// The rows of a store follow those of the stores before it. `above` is as in [`DirStore::scan`].
 pub fn scan_fold<T: Tester, Y: Yield, L: Ledger>(
     alloc: Global,
-    stores: &[DirStore],
+    stores: &DirRange<'_>,
     tester: &mut T,
     above: u32,
     out: &mut Y,
@@ -170,8 +195,8 @@ pub fn scan_fold<T: Tester, Y: Yield, L: Ledger>(
     ensures tick { steps.new ≡ steps.old + 1 }
 {
     steps.tick();
-    for store in stores {
-        store.scan_rows(alloc, tester, above, out)?;
+    for place in 0..stores.len() {
+        DirStore::again(stores.at(place)).scan_rows(alloc, tester, above, out)?;
     }
     Ok(())
 }

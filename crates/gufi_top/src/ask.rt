@@ -8,7 +8,7 @@ ghost use Rattle.gufi_top.specs.Calls.{Replies};
 ghost use Rattle.gufi_top.specs.Starts.{StartsWithRow};
 
 use gufi_access::Principal;
-use gufi_base::{Always, Bytes, Memory, Path, Rec, Row};
+use gufi_base::{Always, Memory, Path, Row};
 use gufi_find::FindExpr;
 use gufi_io::Gate;
 use gufi_list::{OneBelow, ls_text, stat_text, total_text};
@@ -19,7 +19,7 @@ use gufi_sums::Summary;
 use gufi_tree::{DirId, Resolved, Tree};
 use gufi_users::Users;
 use gufi_walk::{Refusal, Walkers, answer_lines, answer_rows, answer_sum};
-use std::alloc::{AllocError, Global};
+use std::alloc::Global;
 use std::sync::Wait;
 use std::thread::Threads;
 
@@ -122,15 +122,6 @@ pub(crate) fn total_for<R: Threads + Wait + Sync, G: Gate + Sync>(
     }
 }
 
-fn copy_of(alloc: Global, rec: &Rec) -> Result<Rec, AllocError>
-    ensures { IfOk result (λ copy. copy ≡ rec.now) }
-{
-    Ok(Rec {
-        meta: rec.meta,
-        link: Bytes::from_slice(alloc, rec.link.as_slice())?,
-    })
-}
-
 /// The row of a directory, in memory of its own.
 fn row_at(alloc: Global, tree: &Tree, id: DirId) -> Result<Row, Memory>
     requires { id.0 < length tree.now }
@@ -138,7 +129,7 @@ fn row_at(alloc: Global, tree: &Tree, id: DirId) -> Result<Row, Memory>
 {
     Ok(Row {
         path: tree.path_of(alloc, id)?,
-        rec: copy_of(alloc, tree.rec(id))?,
+        rec: tree.rec(id).copy(alloc)?,
     })
 }
 

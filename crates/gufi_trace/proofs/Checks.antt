@@ -2,20 +2,21 @@
 use Rattle.std.proofs.Common.{◌≡◌, ℕ, zero, suc, ◌+◌, ◌-◌, ◌<◌, ◌≤◌, Bool, true, false, ◌||◌, eqb, List, [], ◌∷◌, ◌++◌, length, map, take, get_or, refl, sym, ap, ◌∙◌, arith}
 use Rattle.std.specs.List.{list_any, flat_map}
 use Rattle.std.proofs.lemmas.Bool.{not-true, or_from, true≢false, false≢true}
-use Rattle.std.proofs.lemmas.List.{length-append, append-nil, take_all, take_more}
+use Rattle.std.proofs.lemmas.List.{length-append, map-append, append-nil, take_all, take_more}
 use Rattle.std.proofs.lemmas.List.Concat.{flat_map-append}
 use Rattle.std.proofs.lemmas.List.Folds.{list_any-append, list_any_more}
 use Rattle.gufi_base.specs.declared.record.Rec.{Rec}
 use Rattle.gufi_base.specs.declared.record.Row.{Row}
 use Rattle.gufi_base.specs.Delimiters.{may_delimit}
 use Rattle.gufi_base.specs.Paths.{Components, slashed_text, is_too_long}
+use Rattle.gufi_base.specs.TraceRows.{row_line}
 use Rattle.gufi_base.specs.PathTexts.{closed_names, kept_text}
 use Rattle.gufi_base.proofs.Texts.{slashed_text-closed}
 use Rattle.gufi_tree.specs.declared.tree.Entry.{Entry}
 use Rattle.gufi_tree.specs.Tree.{Directory, own_rows, entry_row}
 use Rattle.gufi_tree.specs.Places.{path_at}
 use Rattle.gufi_trace.specs.TraceWriting.{holds_byte, row_holds}
-use Rattle.gufi_trace.specs.Writing.{directory, own_holds, own_too_long, is_over}
+use Rattle.gufi_trace.specs.Writing.{directory, own_holds, own_too_long, own_text, is_over}
 use Rattle.gufi_trace.proofs.FieldsBack.{plain_apart}
 
 no_slash : (delim : ℕ) → may_delimit delim ≡ true → eqb 47 delim ≡ false
@@ -107,6 +108,14 @@ any_at p (x ∷ xs) (suc i) d lt h = ap (λ (b : Bool). p x || b) (any_at p xs i
     either true = refl
     either false = refl
 
+-- one element more
+module _ {X : Type 0} (p : X → Bool) (xs : List X) (i : ℕ) (x : X) (is : (d : X) → x ≡ get_or xs i d) (lt : i < length xs) where
+  pub any_of : p x ≡ true → list_any p xs ≡ true
+  any_of h = any_at p xs i x lt (ap p (sym (is x)) ∙ h)
+
+  pub none_of : list_any p (take i xs) ≡ false → p x ≡ false → list_any p (take (i + 1) xs) ≡ false
+  none_of before h = list_any_more p xs i x lt ∙ or_from _ _ before (ap p (sym (is x)) ∙ h)
+
 pub directory_at : (tree : List Directory) (i : ℕ) (path : Components) (rec : Rec) (es : List Entry) → path ≡ path_at tree i → ((d : Directory) → rec ≡ (get_or tree i d).rec) → ((d : Directory) → es ≡ (get_or tree i d).entries) → i < length tree
     → (d : Directory) → get_or tree i d ≡ directory path rec es
 directory_at [] i path rec es p r e lt d = absurd (omega arith)
@@ -134,8 +143,22 @@ module _ (tree : List Directory) (i : ℕ) (path : Components) (rec : Rec) (es :
       ∙ flat_map-append f (take i tree) (here ∷ [])
       ∙ ap (λ (t : List ℕ). flat_map f (take i tree) ++ t) (append-nil (f here))
 
-pub none_all : (q : Directory → Bool) (tree : List Directory) (n : ℕ) → length tree ≤ n → list_any q (take n tree) ≡ false → list_any q tree ≡ false
-none_all q tree n enough h = ap (list_any q) (sym (take_all n tree enough)) ∙ h
+-- the line of one entry more
+pub own_text_more : (delim : ℕ) (root path : Components) (rec : Rec) (es : List Entry) (i : ℕ) (e : Entry) (name : List ℕ) (r : Rec)
+    → ((d : Entry) → e ≡ get_or es i d) → i < length es → name ≡ e.name → r ≡ e.rec
+    → own_text delim root (directory path rec (take (i + 1) es)) ≡ own_text delim root (directory path rec (take i es)) ++ row_line delim root (record { path = path ++ name ∷ []; rec = r })
+own_text_more delim root path rec es i e name r is lt n v =
+    let more : take (i + 1) es ≡ take i es ++ e ∷ [] = take_more es i e lt ∙ ap (λ (x : Entry). take i es ++ x ∷ []) (sym (is e)) in
+    let line = row_line delim root in
+    let own = own_rows (directory path rec (take i es)) in
+    let row : entry_row path e ≡ record { path = path ++ name ∷ []; rec = r } = ap (λ (m : List ℕ). record { path = path ++ m ∷ []; rec = e.rec }) (sym n) ∙ ap (λ (w : Rec). record { path = path ++ name ∷ []; rec = w }) (sym v) in
+    ap (λ (xs : List Entry). own_text delim root (directory path rec xs)) more
+    ∙ ap (λ (rows : List Row). flat_map line (record { path = path; rec = rec } ∷ rows)) (map-append (entry_row path) (take i es) (e ∷ []))
+    ∙ flat_map-append line own (entry_row path e ∷ [])
+    ∙ ap (λ (t : List ℕ). flat_map line own ++ t) (append-nil (line (entry_row path e)) ∙ ap line row)
+
+pub none_all : {X : Type 0} (q : X → Bool) (xs : List X) (n : ℕ) → length xs ≤ n → list_any q (take n xs) ≡ false → list_any q xs ≡ false
+none_all q xs n enough h = ap (list_any q) (sym (take_all n xs enough)) ∙ h
 
 -- the first or the second
 pub then_is : (a b whole : Bool) → a ≡ true → whole ≡ (a || b) → a ≡ whole

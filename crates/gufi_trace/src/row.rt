@@ -8,7 +8,7 @@ ghost use Rattle.gufi_base.specs.TraceRows.{row_line};
 ghost use Rattle.gufi_trace.specs.Writing.{number_text, signed_text, owner_text, size_text, times_text, end_text, rec_text};
 
 use crate::text::put;
-use gufi_base::{Memory, Meta, Name, Path, Rec, put_i64, put_u64};
+use gufi_base::{Memory, Meta, PathRef, RecRef, put_i64, put_u64};
 
 fn put_number(out: &mut Vec<u8>, delim: u8, number: u64) -> Result<(), Memory>
     ensures { OnOk result (out.new.items ≡ out.old.items ++ number_text delim number) }
@@ -61,16 +61,17 @@ fn put_end(out: &mut Vec<u8>, delim: u8, link: &[u8]) -> Result<(), Memory>
 
 /// What follows the path.
 #[tactic(auto, unfolding(crate::specs::Writing::rec_text))]
-fn put_rec(out: &mut Vec<u8>, delim: u8, rec: &Rec) -> Result<(), Memory>
+fn put_rec(out: &mut Vec<u8>, delim: u8, rec: &RecRef<'_>) -> Result<(), Memory>
     ensures { OnOk result (out.new.items ≡ out.old.items ++ rec_text delim rec.now) }
 {
-    put_owner(out, delim, &rec.meta)?;
-    put_size(out, delim, &rec.meta)?;
-    put_times(out, delim, &rec.meta)?;
-    put_end(out, delim, rec.link.as_slice())
+    let meta = rec.meta();
+    put_owner(out, delim, meta)?;
+    put_size(out, delim, meta)?;
+    put_times(out, delim, meta)?;
+    put_end(out, delim, rec.link())
 }
 
-fn put_slashed(out: &mut Vec<u8>, path: &Path) -> Result<(), Memory>
+fn put_slashed(out: &mut Vec<u8>, path: &PathRef<'_>) -> Result<(), Memory>
     ensures { OnOk result (out.new.items ≡ out.old.items ++ slashed_text path.now) }
 {
     if path.is_root() {
@@ -79,7 +80,7 @@ fn put_slashed(out: &mut Vec<u8>, path: &Path) -> Result<(), Memory>
     put(out, path.printed())
 }
 
-fn put_path(out: &mut Vec<u8>, root: &Path, path: &Path) -> Result<(), Memory>
+fn put_path(out: &mut Vec<u8>, root: &PathRef<'_>, path: &PathRef<'_>) -> Result<(), Memory>
     ensures { OnOk result (out.new.items ≡ out.old.items ++ path_text (root.now ++ path.now)) }
 {
     if root.is_root() && path.is_root() {
@@ -89,22 +90,27 @@ fn put_path(out: &mut Vec<u8>, root: &Path, path: &Path) -> Result<(), Memory>
     put_slashed(out, path)
 }
 
-fn put_entry_path(out: &mut Vec<u8>, root: &Path, path: &Path, name: &Name) -> Result<(), Memory>
+fn put_entry_path(
+    out: &mut Vec<u8>,
+    root: &PathRef<'_>,
+    path: &PathRef<'_>,
+    name: &[u8],
+) -> Result<(), Memory>
     ensures { OnOk result (out.new.items ≡ out.old.items ++ path_text (root.now ++ (path.now ++ name.now ∷ []))) }
 {
     put_slashed(out, root)?;
     put_slashed(out, path)?;
     put(out, b"/")?;
-    put(out, name.as_slice())
+    put(out, name)
 }
 
 /// The line of a directory.
 pub(crate) fn put_directory(
     out: &mut Vec<u8>,
-    root: &Path,
+    root: &PathRef<'_>,
     delim: u8,
-    path: &Path,
-    rec: &Rec,
+    path: &PathRef<'_>,
+    rec: &RecRef<'_>,
 ) -> Result<(), Memory>
     ensures { OnOk result (out.new.items ≡ out.old.items ++ row_line delim root.now (record { path = path.now; rec = rec.now })) }
 {
@@ -115,11 +121,11 @@ pub(crate) fn put_directory(
 /// The line of an entry of a directory.
 pub(crate) fn put_entry(
     out: &mut Vec<u8>,
-    root: &Path,
+    root: &PathRef<'_>,
     delim: u8,
-    path: &Path,
-    name: &Name,
-    rec: &Rec,
+    path: &PathRef<'_>,
+    name: &[u8],
+    rec: &RecRef<'_>,
 ) -> Result<(), Memory>
     ensures { OnOk result (out.new.items ≡ out.old.items ++ row_line delim root.now (record { path = path.now ++ name.now ∷ []; rec = rec.now })) }
 {

@@ -10,8 +10,8 @@ ghost use Rattle.gufi_trace.specs.TraceWriting.{holds_byte, row_holds, trace_tex
 ghost use Rattle.gufi_trace.specs.Writing.{directory, own_holds, own_too_long, own_text, is_over as passes_limits, GivesText};
 
 use crate::row::{put_directory, put_entry};
-use gufi_base::{Memory, Path, Rec};
-use gufi_tree::{DirId, Entry, Tree};
+use gufi_base::{Memory, Path, PathRef, RecRef};
+use gufi_tree::{DirId, EntriesRef, EntryRef, Tree};
 use std::alloc::Global;
 use thiserror::Error;
 
@@ -32,32 +32,42 @@ fn holds(bytes: &[u8], delim: u8) -> bool
     bytes.iter().any(|b| *b == delim)
 }
 
-fn path_holds(path: &Path, delim: u8) -> bool
+fn path_holds(path: &PathRef<'_>, delim: u8) -> bool
     requires { IsTrue (may_delimit delim) }
     ensures { result ≡ list_any (holds_byte delim) path.now }
 {
     holds(path.text(), delim)
 }
 
-fn entry_holds(entry: &Entry, delim: u8) -> bool
+fn entry_holds(entry: &EntryRef<'_>, delim: u8) -> bool
     ensures { result ≡ (holds_byte delim entry.now.name || holds_byte delim entry.now.rec.link) }
 {
-    holds(entry.name.as_slice(), delim) || holds(entry.rec.link.as_slice(), delim)
+    holds(entry.name(), delim) || holds(entry.rec().link(), delim)
 }
 
-fn any_entry_holds(entries: &[Entry], delim: u8) -> bool
+fn any_entry_holds(entries: &EntriesRef<'_>, delim: u8) -> bool
     ensures { result ≡ list_any (λ entry. holds_byte delim entry.name || holds_byte delim entry.rec.link) entries.now }
 {
-    entries.iter().any(|entry| entry_holds(entry, delim))
+    for place in 0..entries.len() {
+        if entry_holds(&entries.at(place), delim) {
+            return true;
+        }
+    }
+    false
 }
 
 /// Whether a row of a directory holds the delimiter.
-fn directory_holds(path: &Path, rec: &Rec, entries: &[Entry], delim: u8) -> bool
+fn directory_holds(
+    path: &PathRef<'_>,
+    rec: &RecRef<'_>,
+    entries: &EntriesRef<'_>,
+    delim: u8,
+) -> bool
     requires { IsTrue (may_delimit delim) }
     ensures { result ≡ own_holds delim (directory path.now rec.now entries.now) }
 {
     let in_path = path_holds(path, delim);
-    let in_link = holds(rec.link.as_slice(), delim);
+    let in_link = holds(rec.link(), delim);
     let in_entry = any_entry_holds(entries, delim);
     in_path || in_link || in_entry
 }
@@ -68,26 +78,34 @@ fn is_over(names: u128, bytes: u128) -> bool
     names > 256 || bytes > 4096
 }
 
-fn entry_is_over(names: u128, bytes: u128, entry: &Entry) -> bool
+fn entry_is_over(names: u128, bytes: u128, entry: &EntryRef<'_>) -> bool
     requires few { names < 2 ^ 100 }
     requires short { bytes < 2 ^ 100 }
     ensures { result ≡ passes_limits (names + 1) (bytes + (1 + length entry.now.name)) }
 {
-    is_over(names + 1, bytes + (1 + entry.name.as_slice().len() as u128))
+    is_over(names + 1, bytes + (1 + entry.name().len() as u128))
 }
 
-fn any_entry_is_over(names: u128, bytes: u128, entries: &[Entry]) -> bool
+fn any_entry_is_over(names: u128, bytes: u128, entries: &EntriesRef<'_>) -> bool
     requires few { names < 2 ^ 100 }
     requires short { bytes < 2 ^ 100 }
     ensures { result ≡ list_any (λ entry. passes_limits (names + 1) (bytes + (1 + length entry.name))) entries.now }
 {
-    entries
-        .iter()
-        .any(|entry| entry_is_over(names, bytes, entry))
+    for place in 0..entries.len() {
+        if entry_is_over(names, bytes, &entries.at(place)) {
+            return true;
+        }
+    }
+    false
 }
 
 /// Whether a row of a directory is too long below the root.
-fn directory_is_too_long(root: &Path, path: &Path, rec: &Rec, entries: &[Entry]) -> bool
+fn directory_is_too_long(
+    root: &PathRef<'_>,
+    path: &PathRef<'_>,
+    rec: &RecRef<'_>,
+    entries: &EntriesRef<'_>,
+) -> bool
     ensures { result ≡ own_too_long root.now (directory path.now rec.now entries.now) }
 {
     let names = root.depth() as u128 + path.depth() as u128;
@@ -103,19 +121,19 @@ fn is_delim_used(tree: &Tree, delim: u8) -> bool
 {
     for number in 0..tree.dirs() {
         let id = DirId(number);
-        if directory_holds(tree.path(id), tree.rec(id), tree.entries(id), delim) {
+        if directory_holds(&tree.path(id), &tree.rec(id), &tree.entries(id), delim) {
             return true;
         }
     }
     false
 }
 
-fn is_any_too_long(tree: &Tree, root: &Path) -> bool
+fn is_any_too_long(tree: &Tree, root: &PathRef<'_>) -> bool
     ensures { result ≡ list_any (λ row. is_too_long (root.now ++ row.path)) (flat_map own_rows tree.now) }
 {
     for number in 0..tree.dirs() {
         let id = DirId(number);
-        if directory_is_too_long(root, tree.path(id), tree.rec(id), tree.entries(id)) {
+        if directory_is_too_long(root, &tree.path(id), &tree.rec(id), &tree.entries(id)) {
             return true;
         }
     }
@@ -125,22 +143,23 @@ fn is_any_too_long(tree: &Tree, root: &Path) -> bool
 /// The stanza of a directory.
 fn put_stanza(
     out: &mut Vec<u8>,
-    root: &Path,
+    root: &PathRef<'_>,
     delim: u8,
-    path: &Path,
-    rec: &Rec,
-    entries: &[Entry],
+    path: &PathRef<'_>,
+    rec: &RecRef<'_>,
+    entries: &EntriesRef<'_>,
 ) -> Result<(), Memory>
     ensures { OnOk result (out.new.items ≡ out.old.items ++ own_text delim root.now (directory path.now rec.now entries.now)) }
 {
     put_directory(out, root, delim, path, rec)?;
-    for entry in entries {
-        put_entry(out, root, delim, path, &entry.name, &entry.rec)?;
+    for place in 0..entries.len() {
+        let entry = entries.at(place);
+        put_entry(out, root, delim, path, entry.name(), &entry.rec())?;
     }
     Ok(())
 }
 
-fn put_tree(out: &mut Vec<u8>, tree: &Tree, root: &Path, delim: u8) -> Result<(), Memory>
+fn put_tree(out: &mut Vec<u8>, tree: &Tree, root: &PathRef<'_>, delim: u8) -> Result<(), Memory>
     ensures { OnOk result (out.new.items ≡ out.old.items ++ trace_text tree.now root.now delim) }
 {
     for number in 0..tree.dirs() {
@@ -149,9 +168,9 @@ fn put_tree(out: &mut Vec<u8>, tree: &Tree, root: &Path, delim: u8) -> Result<()
             out,
             root,
             delim,
-            tree.path(id),
-            tree.rec(id),
-            tree.entries(id),
+            &tree.path(id),
+            &tree.rec(id),
+            &tree.entries(id),
         )?;
     }
     Ok(())
@@ -170,14 +189,15 @@ pub fn write_trace(
     requires { IsTrue (may_delimit delim) }
     ensures { GivesText result (written_trace tree.now root.now delim) }
 {
-    if path_holds(root, delim) || is_delim_used(tree, delim) {
+    let above = root.as_path_ref();
+    if path_holds(&above, delim) || is_delim_used(tree, delim) {
         return Err(WriteTraceFault::DelimUsed);
     }
-    if is_any_too_long(tree, root) {
+    if is_any_too_long(tree, &above) {
         return Err(WriteTraceFault::TooLong);
     }
     let mut out = Vec::new(alloc);
-    match put_tree(&mut out, tree, root, delim) {
+    match put_tree(&mut out, tree, &above, delim) {
         Ok(()) => Ok(out),
         Err(Memory) => Err(WriteTraceFault::Memory),
     }

@@ -112,7 +112,7 @@ list_all-from_All p [] h = refl
 list_all-from_All p (x ∷ xs) h = and_from (p x) (list_all p xs) h.0 (list_all-from_All p xs h.1)
 
 pub arranged : (lines : List Line) (stored : List Stored) → IsFaultless lines → IsPermutation (map row_of_line lines) (rows_of stored) → list_all is_kinded (directories_of stored) ≡ true
-    → AreInOrder stored → ((k : ℕ) (d : Stored) → k < length stored → IsSortedBy (λ x y. is_lt (entry_cmp x y)) (get_or stored k d).entries.items) → IsArranged lines stored
+    → AreInOrder stored → ((k : ℕ) (d : Stored) → k < length stored → IsSortedBy (λ x y. is_lt (entry_cmp x y)) (get_or stored k d).entries.items) → IsArranged lines (directories_of stored)
 arranged lines stored sound rows kinds order sorted =
     let tree = directories_of stored in
     let entries = entries_ascend lines tree rows kinds sound (sorted_each stored sorted) in

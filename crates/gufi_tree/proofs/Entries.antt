@@ -3,12 +3,12 @@ use Rattle.std.proofs.Common.{◌≡◌, ℕ, zero, suc, ◌+◌, ◌<◌, ◌�
 use Rattle.std.specs.Prelude.{bytes_eq}
 use Rattle.std.specs.declared.cmp.Ordering.TheVariants.{Less, Equal, Greater}
 use Rattle.std.specs.declared.cmp.Ordering.{Ordering}
-use Rattle.std.specs.Ordering.{nat_cmp, is_lt, ordering_reverse}
+use Rattle.std.specs.Ordering.{nat_cmp, is_lt, ordering_index, ordering_reverse}
 use Rattle.std.specs.Cmp.{IsTotalOrder}
 use Rattle.std.specs.Cmp.Lexicographic.{slice_cmp}
 use Rattle.std.specs.List.{AllByRecursion, list_any}
 use Rattle.std.specs.Result.{is_ok}
-use Rattle.std.specs.List.Sorted.{IsBinarySearchResult, IsSearchInRange, IsSortedBy}
+use Rattle.std.specs.List.Sorted.{IsBinarySearchResult, IsNonDecreasingBy, IsSearchInRange, IsSortedBy}
 use Rattle.std.proofs.lemmas.Bool.{cases_lt, false_from_ne_true}
 use Rattle.std.proofs.lemmas.Cmp.{nat_list_cmp_total, tied_itself}
 use Rattle.std.proofs.lemmas.List.Folds.{list_any_at, list_any_none}
@@ -40,6 +40,10 @@ sorted_by cmp total xs up = λ k d low high.
 unlike : (a b : List ℕ) → (slice_cmp nat_cmp a b ≡ Equal → ⊥) → bytes_eq b a ≡ false
 unlike a b never = false_from_ne_true (bytes_eq b a) (λ e. never (ap (λ (x : List ℕ). slice_cmp nat_cmp a x) ((bytes_eq-Decides b a).0 e) ∙ tied_itself nat_list_cmp_total a))
 
+-- a name, sought among entries in order
+pub rising_names : (entries : List Entry) (name : List ℕ) → ascends entry_cmp entries ≡ true → IsNonDecreasingBy (λ (e : Entry). ordering_index (slice_cmp nat_cmp e.name name)) entries
+rising_names entries name up = searchable_from_sorted nat_list_cmp_total (λ (e : Entry). e.name) entries name (sorted_by entry_cmp entry_cmp-total entries up)
+
 -- an entry is found where one has the name
 pub found_entry : (entries : List Entry) (name : List ℕ) (r : Result ℕ ℕ) → ascends entry_cmp entries ≡ true → IsSearchInRange r (length entries)
     → IsBinarySearchResult (λ (e : Entry). slice_cmp nat_cmp e.name name) entries r → is_ok r ≡ list_any (λ (e : Entry). bytes_eq name e.name) entries
@@ -48,7 +52,7 @@ found_entry (x ∷ xs) name (Ok i) up range found =
     let same : (get_or (x ∷ xs) i x).name ≡ name = exact_bytes (get_or (x ∷ xs) i x).name name (found x) in
     sym (list_any_at (λ (e : Entry). bytes_eq name e.name) (x ∷ xs) i x range ((bytes_eq-Decides name (get_or (x ∷ xs) i x).name).1 (sym same)))
 found_entry entries name (Err i) up range found =
-    let parts = found (searchable_from_sorted nat_list_cmp_total (λ (e : Entry). e.name) entries name (sorted_by entry_cmp entry_cmp-total entries up)) in
+    let parts = found (rising_names entries name up) in
     sym (list_any_none (λ (e : Entry). bytes_eq name e.name) entries (λ k d lt.
     unlike (get_or entries k d).name name (λ same. ⊎_elim
     (λ (below : k < i). let clash : Less ≡ Equal = sym (parts.0 k d (omega arith) below) ∙ same in absurd cc)

@@ -5,7 +5,7 @@ pub mod Pushed
 pub mod Sets
 pub mod Rearranged
 pub mod Searched
-pub mod Values
+pub mod Halved
 pub mod Homes
 pub mod Arranged
 pub mod Linked
@@ -27,3 +27,5 @@ pub mod Numbered
 pub mod Ended
 pub mod Steps
 pub mod Kept
+pub mod Packing
+pub mod Bundled

@@ -7,7 +7,6 @@ use Rattle.std.specs.List.{list_any, list_all, filter}
 use Rattle.std.proofs.lemmas.List.Sums.{length-filter, count_by-le-length}
 use Rattle.gufi_base.specs.declared.record.Line.{Line}
 use Rattle.gufi_tree.specs.Build.{is_dir_line, directory_of_line, directories_of_lines}
-use Rattle.gufi_tree.specs.Gathered.{IsArranged}
 use Rattle.std.proofs.lemmas.Bool.{and_parts, cases_eq, eq-eqb, eqb-true, ne_eqb, false≢true, or_cases}
 use Rattle.std.proofs.lemmas.Bool.Decides.{same_from_decides}
 use Rattle.std.proofs.lemmas.List.{get_or-map, length-map, get_or_push, get_or_append_left}
@@ -16,9 +15,7 @@ use Rattle.std.proofs.lemmas.List.Quantifiers.{position-Some}
 use Rattle.gufi_base.specs.Words.{is_empty, ascends, insert_by, sort_by}
 use Rattle.gufi_base.specs.Paths.{Components, path_cmp, path_eq, parent_path, is_child_of}
 use Rattle.gufi_tree.specs.declared.tree.DirId.{DirId}
-use Rattle.gufi_tree.specs.declared.tree.Stored.{Stored}
 use Rattle.gufi_tree.specs.Tree.{Directory, dir_cmp, place_of, has_dir, is_at, HasTreeShape}
-use Rattle.gufi_tree.specs.Stored.{directory_of, directories_of, AreInOrder}
 use Rattle.gufi_tree.specs.Places.{dir_id, path_at, ids_from, child_ids}
 use Rattle.gufi_base.specs.Names.{is_name}
 use Rattle.gufi_base.specs.PathTexts.{kept_text, names}
@@ -29,20 +26,15 @@ use Rattle.gufi_tree.proofs.Searched.{place_of-at, in_order}
 use Rattle.gufi_tree.proofs.Homes.{no_place}
 
 -- the place of a parent, from a child
-pub child_place : (stored : List Stored) (path : Components) (at : ℕ) → AreInOrder stored → at < length stored → ((d : Stored) → is_child_of (get_or stored at d).path path ≡ true)
-    → place_of (directories_of stored) (parent_path path) ≡ Some at
+pub child_place : (tree : List Directory) (path : Components) (at : ℕ) → ascends dir_cmp tree ≡ true → at < length tree → ((d : Directory) → is_child_of (get_or tree at d).path path ≡ true) → place_of tree (parent_path path) ≡ Some at
 child_place [] path at order lt child = absurd (omega arith)
-child_place (s ∷ stored) path at order lt child =
-    let both = and_parts (not (is_empty path)) (path_eq (get_or (s ∷ stored) at s).path (parent_path path)) (child s) in
-    let same : (get_or (s ∷ stored) at s).path ≡ parent_path path = (path_eq-Decides (get_or (s ∷ stored) at s).path (parent_path path)).0 both.1 in
-    place_of-at (directories_of (s ∷ stored)) (parent_path path) at (directory_of s) order (omega (arith, lt, length-map (s ∷ stored) directory_of))
-    (ap (λ (x : Directory). x.path) (get_or-map directory_of (s ∷ stored) at s (directory_of s) lt) ∙ same)
+child_place (x ∷ tree) path at order lt child =
+    let both = and_parts (not (is_empty path)) (path_eq (get_or (x ∷ tree) at x).path (parent_path path)) (child x) in
+    place_of-at (x ∷ tree) (parent_path path) at x order lt ((path_eq-Decides (get_or (x ∷ tree) at x).path (parent_path path)).0 both.1)
 
-pub place_within : (stored : List Stored) (path : Components) (at : ℕ) → place_of (directories_of stored) path ≡ Some at → at < length stored
+pub place_within : (tree : List Directory) (path : Components) (at : ℕ) → place_of tree path ≡ Some at → at < length tree
 place_within [] path at e = cc
-place_within (s ∷ stored) path at e =
-    let h = (position-Some (is_at path) (directories_of (s ∷ stored)) at (directory_of s) e).0 in
-    omega (arith, h, length-map (s ∷ stored) directory_of)
+place_within (x ∷ tree) path at e = (position-Some (is_at path) (x ∷ tree) at x e).0
 
 pub some_place : (tree : List Directory) (path : Components) → ascends dir_cmp tree ≡ true → has_dir tree path ≡ true → is_some (place_of tree path) ≡ true
 some_place tree path up h = by (place_of tree path) refl where
@@ -56,43 +48,24 @@ list_all-get q (x ∷ xs) zero d h l = (and_parts (q x) (list_all q xs) h).0
 list_all-get q (x ∷ xs) (suc i) d h l = list_all-get q xs i d (and_parts (q x) (list_all q xs) h).1 (omega arith)
 
 -- what holds of each directory holds of the one at a place
-pub at_place : (q : Directory → Bool) (stored : List Stored) (k : ℕ) (dir : Stored) → list_all q (directories_of stored) ≡ true → k < length stored → dir ≡ get_or stored k dir → q (directory_of dir) ≡ true
-at_place q stored k dir all lt is =
-    let h = list_all-get q (directories_of stored) k (directory_of dir) all (omega (arith, length-map stored directory_of)) in
-    let same : get_or (directories_of stored) k (directory_of dir) ≡ directory_of dir = get_or-map directory_of stored k dir (directory_of dir) lt ∙ ap directory_of (sym is) in
-    ap q (sym same) ∙ h
+pub at_place : (q : Directory → Bool) (tree : List Directory) (k : ℕ) (d : Directory) → list_all q tree ≡ true → k < length tree → d ≡ get_or tree k d → q d ≡ true
+at_place q tree k d all lt is = ap q is ∙ list_all-get q tree k d all lt
 
--- the parent of the directory at a place is there
-pub parent_there_at : (stored : List Stored) (k : ℕ) (dir : Stored) → HasTreeShape (directories_of stored) → k < length stored → dir ≡ get_or stored k dir → has_dir (directories_of stored) (parent_path dir.path) ≡ true
-parent_there_at stored k dir shape lt is = at_place (λ (d : Directory). has_dir (directories_of stored) (parent_path d.path)) stored k dir shape.parents lt is
-
--- a place in the list that is seen is one in the list that is kept
-pub within_stored : (stored : List Stored) (tree : List Directory) (k : ℕ) → directories_of stored ≡ tree → k < length tree → k < length stored
-within_stored stored tree k e lt = omega (arith, length-map stored directory_of, ap length e, lt)
-
-pub path_at-stored : (stored : List Stored) (k : ℕ) (d : Stored) → k < length stored → path_at (directories_of stored) k ≡ (get_or stored k d).path
-path_at-stored [] k d lt = absurd (omega arith)
-path_at-stored (s ∷ stored) zero d lt = refl
-path_at-stored (s ∷ stored) (suc k) d lt = path_at-stored stored k d (omega arith)
+pub path_at-get : (tree : List Directory) (k : ℕ) (d : Directory) → k < length tree → path_at tree k ≡ (get_or tree k d).path
+path_at-get tree k d lt = get_or-map (λ (v : Directory). v.path) tree k d [] lt
 
 -- one parent more
-pub parents_more : (stored : List Stored) (parents : List ℕ) (i at : ℕ) (dir : Stored) → length parents ≡ i → i < length stored → dir ≡ get_or stored i dir
-    → ((k : ℕ) → k < i → place_of (directories_of stored) (parent_path (path_at (directories_of stored) k)) ≡ Some (get_or parents k 0))
-    → place_of (directories_of stored) (parent_path dir.path) ≡ Some at
-    → (k : ℕ) → k < i + 1 → place_of (directories_of stored) (parent_path (path_at (directories_of stored) k)) ≡ Some (get_or (parents ++ at ∷ []) k 0)
-parents_more stored parents i at dir len lt is each here k within = by (cases_eq k i) where
-  by : (k ≡ i) ⊎ (k ≡ i → ⊥) → place_of (directories_of stored) (parent_path (path_at (directories_of stored) k)) ≡ Some (get_or (parents ++ at ∷ []) k 0)
+pub parents_more : (tree : List Directory) (parents : List ℕ) (i at : ℕ) (d : Directory) → length parents ≡ i → i < length tree → d ≡ get_or tree i d
+    → ((k : ℕ) → k < i → place_of tree (parent_path (path_at tree k)) ≡ Some (get_or parents k 0))
+    → place_of tree (parent_path d.path) ≡ Some at
+    → (k : ℕ) → k < i + 1 → place_of tree (parent_path (path_at tree k)) ≡ Some (get_or (parents ++ at ∷ []) k 0)
+parents_more tree parents i at d len lt is each here k within = by (cases_eq k i) where
+  by : (k ≡ i) ⊎ (k ≡ i → ⊥) → place_of tree (parent_path (path_at tree k)) ≡ Some (get_or (parents ++ at ∷ []) k 0)
   by (inl same) =
-      ap (λ n. place_of (directories_of stored) (parent_path (path_at (directories_of stored) n))) same
-      ∙ ap (λ (p : Components). place_of (directories_of stored) (parent_path p)) (path_at-stored stored i dir lt ∙ ap (λ (s : Stored). s.path) (sym is))
+      ap (λ n. place_of tree (parent_path (path_at tree n))) same
+      ∙ ap (λ (p : Components). place_of tree (parent_path p)) (path_at-get tree i d lt ∙ ap (λ (v : Directory). v.path) (sym is))
       ∙ here ∙ ap Some (sym (get_or_push parents at 0 k (len ∙ sym same)))
   by (inr other) = each k (omega arith) ∙ ap Some (sym (get_or_append_left parents (at ∷ []) 0 k (omega arith)))
-
-pub parents_done : (stored : List Stored) (parents : List ℕ) (i : ℕ) → length parents ≡ i → i ≡ length stored
-    → ((k : ℕ) → k < i → place_of (directories_of stored) (parent_path (path_at (directories_of stored) k)) ≡ Some (get_or parents k 0))
-    → HasParents (directories_of stored) parents
-parents_done stored parents i len all each =
-    record { len = len ∙ all ∙ sym (length-map stored directory_of); each = λ k lt. each k (omega (arith, length-map stored directory_of, all, lt)) }
 
 ids_same : (path : Components) (k n : ℕ) (ds : List Directory) (ps : List ℕ) → length ps ≡ length ds
     → ((j : ℕ) (d : Directory) → j < length ds → (eqb (get_or ps j 0) k && not (eqb (n + j) 0)) ≡ is_child_of path (get_or ds j d).path)
@@ -121,9 +94,6 @@ root_first (d ∷ ds) up h = ⊎_elim
     let less : path_cmp d.path (get_or ds w.0 w.1).path ≡ Less = in_order (d ∷ ds) up 0 (suc w.0) w.1 (omega arith) (omega (arith, w.2)) in
     absurd (not_before_root d.path (ap (path_cmp d.path) (sym root) ∙ less)))
     (or_cases (path_eq [] d.path) (list_any (is_at []) ds) h)
-
-pub path_at-get : (tree : List Directory) (k : ℕ) (d : Directory) → k < length tree → path_at tree k ≡ (get_or tree k d).path
-path_at-get tree k d lt = get_or-map (λ (v : Directory). v.path) tree k d [] lt
 
 pub some_injective : (a b : ℕ) → Some a ≡ Some b → a ≡ b
 some_injective a b e = cc
@@ -188,11 +158,6 @@ few_directories lines =
     let kept = filter is_dir_line lines in
     omega (arith, length-sort_by dir_cmp (map (directory_of_line lines) (filter is_dir_line lines)), length-map (filter is_dir_line lines) (directory_of_line lines), length-filter is_dir_line lines, count_by-le-length is_dir_line lines)
 
-pub few_stored : (lines : List Line) (stored : List Stored) (n : ℕ) → IsArranged lines stored → length lines < n → length stored < n
-few_stored lines stored n h few = omega (arith, few_directories lines, ap length h.tree, length-map stored directory_of, few)
-
 -- a search of a kept text is one of its path
-pub found_place : (seen : List Stored) (tree : List Directory) (path : Components) (text : List ℕ) (o : Option ℕ) → directories_of seen ≡ tree → text ≡ kept_text path → list_all is_name path ≡ true
-    → o ≡ place_of (directories_of seen) (names text) → o ≡ place_of tree path
-found_place seen tree path text o is same named e =
-    e ∙ ap (λ (t : List Directory). place_of t (names text)) is ∙ ap (place_of tree) (ap names same ∙ names-kept_text path named)
+pub found_place : (tree : List Directory) (path : Components) (text : List ℕ) (o : Option ℕ) → text ≡ kept_text path → list_all is_name path ≡ true → o ≡ place_of tree (names text) → o ≡ place_of tree path
+found_place tree path text o same named e = e ∙ ap (place_of tree) (ap names same ∙ names-kept_text path named)

@@ -6,7 +6,7 @@ use Rattle.std.specs.Ordering.{ordering_then, ordering_reverse}
 use Rattle.std.specs.List.{AllByRecursion, list_any, list_all, position_or_len}
 use Rattle.std.proofs.lemmas.Bool.{true≢false, false≢true, and_parts, and_from, cases_order, cond-true, cond-false, lt-ltb}
 use Rattle.std.proofs.lemmas.Cmp.{nat_list_cmp_total, tied_itself}
-use Rattle.std.proofs.lemmas.List.{get_or-map, length-map, length_push, length-append, append_assoc, drop_at, take_at, drop_all, length-drop, length-take-le, take-append-drop}
+use Rattle.std.proofs.lemmas.List.{length_push, length-append, append_assoc, drop_at, take_at, drop_all, length-drop, length-take-le, take-append-drop}
 use Rattle.std.proofs.lemmas.List.Folds.{list_all-append}
 use Rattle.gufi_base.proofs.Names.{name_has_no, names-kept_text, IsText-kept_text}
 use Rattle.gufi_base.proofs.Texts.{kept_text_push}
@@ -18,11 +18,9 @@ use Rattle.gufi_base.proofs.Cuts.{all_but_last_and_last}
 use Rattle.gufi_base.proofs.SortedOnce.{below_all, ascends-tail}
 use Rattle.gufi_access.specs.declared.class.Principal.{Principal}
 use Rattle.gufi_access.specs.Access.{can_list, may_search}
-use Rattle.gufi_tree.specs.declared.tree.Stored.{Stored}
 use Rattle.gufi_tree.specs.declared.resolve.Resolved.{Resolved}
 use Rattle.gufi_tree.specs.declared.resolve.Resolved.TheVariants.{Found, NoSuch, NotDir}
 use Rattle.gufi_tree.specs.Tree.{Directory, dir_cmp, rights_of, is_at, dir_at, place_of, has_dir, has_entry, has_entry_named, HasTreeShape}
-use Rattle.gufi_tree.specs.Stored.{directory_of, directories_of}
 use Rattle.gufi_tree.specs.Places.{path_at}
 use Rattle.gufi_base.specs.Names.{is_name}
 use Rattle.gufi_base.specs.PathTexts.{closed_names, kept_text, names, IsText}
@@ -129,65 +127,60 @@ searched_from : (tree : List Directory) (who : Principal) (path : Components) (n
     → resolve_from tree who path (n ∷ rest) ≡ cond (may_search who (rights_of dir.rec)) (resolve_from tree who (path ++ n ∷ []) rest) (denied_at who dir)
 searched_from tree who path n rest dir e = rw (e, resolve_from) refl
 
-module _ (stored : List Stored) (who : Principal) (shape : HasTreeShape (directories_of stored)) (k : ℕ) (s : Stored) (lt : k < length stored) (is : s ≡ get_or stored k s) where
-  within : k < length (directories_of stored)
-  within = omega (arith, length-map stored directory_of, lt)
+module _ (tree : List Directory) (who : Principal) (shape : HasTreeShape tree) (k : ℕ) (s : Directory) (lt : k < length tree) (is : s ≡ get_or tree k s) where
+  there : get_or tree k s ≡ s
+  there = sym is
 
-  there : get_or (directories_of stored) k (directory_of s) ≡ directory_of s
-  there = get_or-map directory_of stored k s (directory_of s) lt ∙ ap directory_of (sym is)
+  path_there : path_at tree k ≡ s.path
+  path_there = path_at-get tree k s lt ∙ ap (λ (d : Directory). d.path) there
 
-  path_there : path_at (directories_of stored) k ≡ s.path
-  path_there = path_at-get (directories_of stored) k (directory_of s) within ∙ ap (λ (d : Directory). d.path) there
+  here : dir_at tree (path_at tree k) ≡ Some s
+  here = dir_at-get tree (path_at tree k) k s shape.order lt (path_at-get tree k s lt) ∙ ap (λ (d : Directory). Some d) there
 
-  here : dir_at (directories_of stored) (path_at (directories_of stored) k) ≡ Some (directory_of s)
-  here = dir_at-get (directories_of stored) (path_at (directories_of stored) k) k (directory_of s) shape.order within (path_at-get (directories_of stored) k (directory_of s) within) ∙ ap (λ (d : Directory). Some d) there
-
-  pub depth_stored : length s.path ≤ k
-  depth_stored =
-      let h = depth_within (directories_of stored) shape (k + 1) k (directory_of s) (omega arith) within in
+  pub depth_at : length s.path ≤ k
+  depth_at =
+      let h = depth_within tree shape (k + 1) k s (omega arith) lt in
       subst (λ (d : Directory). length d.path ≤ k) there h
 
-  pub arrive_found : can_list who (rights_of s.rec) ≡ true → Found (record { 0 = k }) ≡ resolve_from (directories_of stored) who (path_at (directories_of stored) k) []
+  pub arrive_found : can_list who (rights_of s.rec) ≡ true → Found (record { 0 = k }) ≡ resolve_from tree who (path_at tree k) []
   arrive_found e =
-      let at : place_of (directories_of stored) s.path ≡ Some k = place_of-at (directories_of stored) s.path k (directory_of s) shape.order within (ap (λ (d : Directory). d.path) there) in
-      sym (ap (start_at (directories_of stored) who (path_at (directories_of stored) k)) here ∙ cond-true (can_list who (rights_of s.rec)) (found_at (directories_of stored) (directory_of s)) (denied_at who (directory_of s)) e
+      let at : place_of tree s.path ≡ Some k = place_of-at tree s.path k s shape.order lt (ap (λ (d : Directory). d.path) there) in
+      sym (ap (start_at tree who (path_at tree k)) here ∙ cond-true (can_list who (rights_of s.rec)) (found_at tree s) (denied_at who s) e
       ∙ ap (λ (o : Option ℕ). Found (record { 0 = unwrap_or o 0 })) at)
 
-  pub arrive_denied : can_list who (rights_of s.rec) ≡ false → denied_at who (directory_of s) ≡ resolve_from (directories_of stored) who (path_at (directories_of stored) k) []
+  pub arrive_denied : can_list who (rights_of s.rec) ≡ false → denied_at who s ≡ resolve_from tree who (path_at tree k) []
   arrive_denied e =
-      sym (ap (start_at (directories_of stored) who (path_at (directories_of stored) k)) here ∙ cond-false (can_list who (rights_of s.rec)) (found_at (directories_of stored) (directory_of s)) (denied_at who (directory_of s)) e)
+      sym (ap (start_at tree who (path_at tree k)) here ∙ cond-false (can_list who (rights_of s.rec)) (found_at tree s) (denied_at who s) e)
 
-  pub step_denied : (name : List ℕ) (rest : Components) → may_search who (rights_of s.rec) ≡ false → denied_at who (directory_of s) ≡ resolve_from (directories_of stored) who (path_at (directories_of stored) k) (name ∷ rest)
+  pub step_denied : (name : List ℕ) (rest : Components) → may_search who (rights_of s.rec) ≡ false → denied_at who s ≡ resolve_from tree who (path_at tree k) (name ∷ rest)
   step_denied name rest e =
-      sym (searched_from (directories_of stored) who (path_at (directories_of stored) k) name rest (directory_of s) here
-      ∙ cond-false (may_search who (rights_of s.rec)) (resolve_from (directories_of stored) who (path_at (directories_of stored) k ++ name ∷ []) rest) (denied_at who (directory_of s)) e)
+      sym (searched_from tree who (path_at tree k) name rest s here
+      ∙ cond-false (may_search who (rights_of s.rec)) (resolve_from tree who (path_at tree k ++ name ∷ []) rest) (denied_at who s) e)
 
   pub step_on : (name : List ℕ) (rest : Components) → may_search who (rights_of s.rec) ≡ true
-      → resolve_from (directories_of stored) who (path_at (directories_of stored) k) (name ∷ rest) ≡ resolve_from (directories_of stored) who (path_at (directories_of stored) k ++ name ∷ []) rest
+      → resolve_from tree who (path_at tree k) (name ∷ rest) ≡ resolve_from tree who (path_at tree k ++ name ∷ []) rest
   step_on name rest e =
-      searched_from (directories_of stored) who (path_at (directories_of stored) k) name rest (directory_of s) here
-      ∙ cond-true (may_search who (rights_of s.rec)) (resolve_from (directories_of stored) who (path_at (directories_of stored) k ++ name ∷ []) rest) (denied_at who (directory_of s)) e
+      searched_from tree who (path_at tree k) name rest s here
+      ∙ cond-true (may_search who (rights_of s.rec)) (resolve_from tree who (path_at tree k ++ name ∷ []) rest) (denied_at who s) e
 
   some_child : (p : Components) (name : List ℕ) → is_empty (p ++ name ∷ []) ≡ false
   some_child [] name = refl
   some_child (n ∷ p) name = refl
 
-  entry_there : (name : List ℕ) → has_entry (directories_of stored) (path_at (directories_of stored) k ++ name ∷ []) ≡ has_entry_named name (directory_of s)
+  entry_there : (name : List ℕ) → has_entry tree (path_at tree k ++ name ∷ []) ≡ has_entry_named name s
   entry_there name =
-      rw (some_child (path_at (directories_of stored) k) name, parent_path-child (path_at (directories_of stored) k) name, base_name-child (path_at (directories_of stored) k) name)
-      (only_at (path_at (directories_of stored) k) (has_entry_named name) (directories_of stored) k (directory_of s) shape.order within (path_at-get (directories_of stored) k (directory_of s) within)
+      rw (some_child (path_at tree k) name, parent_path-child (path_at tree k) name, base_name-child (path_at tree k) name)
+      (only_at (path_at tree k) (has_entry_named name) tree k s shape.order lt (path_at-get tree k s lt)
       ∙ ap (has_entry_named name) there)
 
-  pub step_missing : (name : List ℕ) (rest : Components) → place_of (directories_of stored) (path_at (directories_of stored) k ++ name ∷ []) ≡ None
-      → missing_in (directory_of s) name ≡ resolve_from (directories_of stored) who (path_at (directories_of stored) k ++ name ∷ []) rest
+  pub step_missing : (name : List ℕ) (rest : Components) → place_of tree (path_at tree k ++ name ∷ []) ≡ None
+      → missing_in s name ≡ resolve_from tree who (path_at tree k ++ name ∷ []) rest
   step_missing name rest e =
-      let tree = directories_of stored in
-      let next = path_at tree k ++ name ∷ [] in
-      let none = dir_at-none (directories_of stored) (path_at (directories_of stored) k ++ name ∷ []) (no_place (directories_of stored) (path_at (directories_of stored) k ++ name ∷ []) shape.order e) in
-      let depth : length (path_at (directories_of stored) k ++ name ∷ []) ≡ length s.path + 1 = length_push (path_at (directories_of stored) k) name ∙ ap (λ (p : Components). length p + 1) path_there in
-      sym (missing_from (directories_of stored) who (path_at (directories_of stored) k ++ name ∷ []) rest none
-      ∙ ap (λ b. cond b (NotDir (length (path_at (directories_of stored) k ++ name ∷ []))) (NoSuch (length (path_at (directories_of stored) k ++ name ∷ [])))) (entry_there name)
-      ∙ ap (λ n. cond (has_entry_named name (directory_of s)) (NotDir n) (NoSuch n)) depth)
+      let none = dir_at-none tree (path_at tree k ++ name ∷ []) (no_place tree (path_at tree k ++ name ∷ []) shape.order e) in
+      let depth : length (path_at tree k ++ name ∷ []) ≡ length s.path + 1 = length_push (path_at tree k) name ∙ ap (λ (p : Components). length p + 1) path_there in
+      sym (missing_from tree who (path_at tree k ++ name ∷ []) rest none
+      ∙ ap (λ b. cond b (NotDir (length (path_at tree k ++ name ∷ []))) (NoSuch (length (path_at tree k ++ name ∷ [])))) (entry_there name)
+      ∙ ap (λ n. cond (has_entry_named name s) (NotDir n) (NoSuch n)) depth)
 
 pub place_path : (tree : List Directory) (path : Components) (k : ℕ) → place_of tree path ≡ Some k → path_at tree k ≡ path
 place_path [] path k e = absurd cc

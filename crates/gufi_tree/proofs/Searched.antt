@@ -1,10 +1,11 @@
 -- What a search in path order finds.
-use Rattle.std.proofs.Common.{◌≡◌, ℕ, zero, suc, ◌+◌, ◌<◌, ◌≤◌, true, false, List, [], ◌∷◌, length, get_or, Result, Ok, Err, Some, None, refl, sym, ap, ◌∙◌, arith, ⊎_elim}
+use Rattle.std.proofs.Common.{◌≡◌, ℕ, zero, suc, ◌+◌, ◌<◌, ◌≤◌, true, false, List, [], ◌∷◌, map, length, get_or, Result, Ok, Err, Some, None, refl, sym, ap, ◌∙◌, arith, ⊎_elim}
 use Rattle.std.specs.declared.cmp.Ordering.TheVariants.{Less}
-use Rattle.std.specs.Ordering.{is_lt, ordering_reverse}
+use Rattle.std.specs.declared.cmp.Ordering.{Ordering}
+use Rattle.std.specs.Ordering.{is_lt, ordering_index, ordering_reverse}
 use Rattle.std.specs.List.{AllByRecursion, position_or_len}
 use Rattle.std.specs.Result.{result_ok}
-use Rattle.std.specs.List.Sorted.{IsBinarySearchResult, IsSearchInRange, IsSortedBy}
+use Rattle.std.specs.List.Sorted.{IsBinarySearchResult, IsNonDecreasingBy, IsSearchInRange, IsSortedBy}
 use Rattle.std.proofs.lemmas.Bool.{cases_lt, cond-true, cond-false, lt-ltb, le-ltb}
 use Rattle.std.proofs.lemmas.List.{get_or-map, length-map}
 use Rattle.std.proofs.lemmas.List.Sums.{position_or_len_is}
@@ -50,28 +51,39 @@ sorted_from tree up = λ k d low high.
     let less : path_cmp (get_or tree k d).path (get_or tree (k + 1) d).path ≡ Less = in_order tree up k (k + 1) d (omega arith) high in
     ap is_lt (path_cmp-total.antisymm (get_or tree (k + 1) d).path (get_or tree k d).path ∙ ap ordering_reverse less)
 
--- the order of stored directories
-stored_sorted : (stored : List Stored) → AreInOrder stored → IsSortedBy (λ (x y : Stored). is_lt (path_cmp x.path y.path)) stored
-stored_sorted stored up = λ k d low high.
-    let h = sorted_from (directories_of stored) up k (directory_of d) low (omega (arith, length-map stored directory_of)) in
-    let e = get_or-map directory_of stored (k + 1) d (directory_of d) high in
-    let f = get_or-map directory_of stored k d (directory_of d) (omega arith) in
-    ap (λ (x : Directory). is_lt (path_cmp x.path (get_or stored k d).path)) (sym e) ∙ ap (λ (y : Directory). is_lt (path_cmp (get_or (directories_of stored) (k + 1) (directory_of d)).path y.path)) (sym f) ∙ h
+-- a path, sought among directories in order
+pub rising_paths : (tree : List Directory) (path : Components) → ascends dir_cmp tree ≡ true → IsNonDecreasingBy (λ (d : Directory). ordering_index (path_cmp d.path path)) tree
+rising_paths tree path up = searchable_from_sorted path_cmp-total (λ (d : Directory). d.path) tree path (sorted_from tree up)
+
+pub searched_dirs : (tree : List Directory) (path : Components) (r : Result ℕ ℕ) → ascends dir_cmp tree ≡ true → IsSearchInRange r (length tree) → IsBinarySearchResult (λ (d : Directory). path_cmp d.path path) tree r
+    → result_ok r ≡ place_of tree path
+searched_dirs [] path (Ok i) up range found = absurd (omega (arith, range))
+searched_dirs (x ∷ tree) path (Ok i) up range found = sym (place_of-at (x ∷ tree) path i x up range (exact_paths (get_or (x ∷ tree) i x).path path (found x)))
+searched_dirs tree path (Err i) up range found =
+    let parts = found (rising_paths tree path up) in
+    sym (place_of-none tree path (λ k d lt. ⊎_elim
+    (λ (below : k < i). path_eq-more path (get_or tree k d).path (parts.0 k d (omega arith) below))
+    (λ (from : i ≤ k). path_eq-less path (get_or tree k d).path (path_cmp-total.antisymm path (get_or tree k d).path ∙ ap ordering_reverse (parts.1 k d from lt))) (cases_lt k i)))
+
+-- a search by what is seen of each element
+module _ {A B : Type 0} (f : A → B) where
+  seen_range : (xs : List A) (r : Result ℕ ℕ) → IsSearchInRange r (length xs) → IsSearchInRange r (length (map f xs))
+  seen_range xs (Ok i) range = omega (arith, length-map xs f, range)
+  seen_range xs (Err i) range = omega (arith, length-map xs f, range)
+
+  seen_search : (ord : B → Ordering) (xs : List A) (r : Result ℕ ℕ) → IsSearchInRange r (length xs) → IsBinarySearchResult (λ a. ord (f a)) xs r → IsBinarySearchResult ord (map f xs) r
+  seen_search ord [] (Ok i) range found = absurd (omega (arith, range))
+  seen_search ord (x ∷ xs) (Ok i) range found = λ b. ap ord (get_or-map f (x ∷ xs) i x b range) ∙ found x
+  seen_search ord [] (Err i) range found = λ rising. (λ k b low high. absurd (omega (arith, range, high)), λ k b low high. absurd (omega (arith, high)))
+  seen_search ord (x ∷ xs) (Err i) range found = λ rising.
+      let len = length-map (x ∷ xs) f in
+      let at : (k : ℕ) (a : A) → k < length (x ∷ xs) → ordering_index (ord (get_or (map f (x ∷ xs)) k (f a))) ≡ ordering_index (ord (f (get_or (x ∷ xs) k a))) = λ k a lt. ap (λ b. ordering_index (ord b)) (get_or-map f (x ∷ xs) k a (f a) lt) in
+      let parts = found (λ k j a le lt. omega (arith, rising k j (f a) le (omega (arith, len, lt)), at k a (omega (arith, le, lt)), at j a lt)) in (
+        λ k b low high. ap ord (get_or-map f (x ∷ xs) k x b (omega (arith, range, high))) ∙ parts.0 k x low high,
+        λ k b low high. let within : k < length (x ∷ xs) = omega (arith, len, high) in ap ord (get_or-map f (x ∷ xs) k x b within) ∙ parts.1 k x low within,
+      )
 
 pub searched : (stored : List Stored) (path : Components) (r : Result ℕ ℕ) → AreInOrder stored → IsSearchInRange r (length stored) → IsBinarySearchResult (λ (s : Stored). path_cmp s.path path) stored r
     → result_ok r ≡ place_of (directories_of stored) path
-searched [] path (Ok i) order range found = absurd (omega (arith, range))
-searched (s ∷ stored) path (Ok i) order range found =
-    let same : (get_or (s ∷ stored) i s).path ≡ path = exact_paths (get_or (s ∷ stored) i s).path path (found s) in
-    sym (place_of-at (directories_of (s ∷ stored)) path i (directory_of s) order (omega (arith, range, length-map (s ∷ stored) directory_of))
-    (ap (λ (x : Directory). x.path) (get_or-map directory_of (s ∷ stored) i s (directory_of s) range) ∙ same))
-searched [] path (Err i) order range found = sym (place_of-none [] path (λ k d lt. absurd (omega arith)))
-searched (s ∷ stored) path (Err i) order range found =
-    let all = s ∷ stored in
-    let parts = found (searchable_from_sorted path_cmp-total (λ (v : Stored). v.path) (s ∷ stored) path (stored_sorted (s ∷ stored) order)) in
-    sym (place_of-none (directories_of (s ∷ stored)) path (λ k d lt.
-    let within : k < length (s ∷ stored) = omega (arith, length-map (s ∷ stored) directory_of) in
-    let same : (get_or (directories_of (s ∷ stored)) k d).path ≡ (get_or (s ∷ stored) k s).path = ap (λ (x : Directory). x.path) (get_or-map directory_of (s ∷ stored) k s d within) in
-    ap (path_eq path) same
-    ∙ ⊎_elim (λ (below : k < i). path_eq-more path (get_or (s ∷ stored) k s).path (parts.0 k s (omega arith) below))
-    (λ (from : i ≤ k). path_eq-less path (get_or (s ∷ stored) k s).path (path_cmp-total.antisymm path (get_or (s ∷ stored) k s).path ∙ ap ordering_reverse (parts.1 k s from within))) (cases_lt k i)))
+searched stored path r order range found =
+    searched_dirs (directories_of stored) path r order (seen_range directory_of stored r range) (seen_search directory_of (λ (d : Directory). path_cmp d.path path) stored r range found)

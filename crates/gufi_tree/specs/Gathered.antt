@@ -33,7 +33,7 @@ abbrev pub paths_of : List Stored → List Components
 paths_of stored = map (λ s. s.path) stored
 
 -- The directories are those of the lines.
-pub record IsArranged (lines : List Line) (stored : List Stored) : Type 0 where
-  pub tree : directories_of stored ≡ directories_of_lines lines
-  pub shape : HasTreeShape (directories_of stored)
-  pub rows : length (rows_of stored) ≡ length lines
+pub record IsArranged (lines : List Line) (dirs : List Directory) : Type 0 where
+  pub tree : dirs ≡ directories_of_lines lines
+  pub shape : HasTreeShape dirs
+  pub rows : length (flat_map own_rows dirs) ≡ length lines

@@ -3,9 +3,7 @@ use Rattle.std.specs.Prelude.{◌≡◌, ℕ, zero, suc, ◌+◌, ◌<◌, ◌�
 use Rattle.std.specs.List.{flat_map}
 use Rattle.gufi_base.specs.Paths.{parent_path}
 use Rattle.gufi_tree.specs.declared.tree.DirId.{DirId}
-use Rattle.gufi_tree.specs.declared.tree.Stored.{Stored}
 use Rattle.gufi_tree.specs.Tree.{Directory, own_rows, place_of, HasTreeShape}
-use Rattle.gufi_tree.specs.Stored.{directories_of}
 use Rattle.gufi_tree.specs.Places.{dir_id, path_at}
 
 -- the place of the parent of each directory; the root's is its own
@@ -35,8 +33,8 @@ pub record IsLaidOut (parents starts : List ℕ) (ids : List DirId) : Type 0 whe
   pub each : (k m : ℕ) (d : DirId) → k < length parents → m < length (ids_under k 0 parents) → slice_index_or ids (first_under parents k + m) d ≡ slice_index_or (ids_under k 0 parents) m d
 
 -- The directories are those of a tree, and what is kept beside them is theirs.
-pub record IsKept (stored : List Stored) (places : List ℕ) : Type 0 where
-  pub shape : HasTreeShape (directories_of stored)
-  pub few : length stored < 2 ^ 32
-  pub rows : length (flat_map own_rows (directories_of stored)) < 2 ^ 32
-  pub parents : HasParents (directories_of stored) places
+pub record IsKept (tree : List Directory) (places : List ℕ) : Type 0 where
+  pub shape : HasTreeShape tree
+  pub few : length tree < 2 ^ 32
+  pub rows : length (flat_map own_rows tree) < 2 ^ 32
+  pub parents : HasParents tree places

@@ -10,3 +10,6 @@ pub mod Texts
 pub mod Resolve
 pub mod Reached
 pub mod Listed
+pub mod Bundles
+pub mod Packing
+pub mod Bundled

@@ -5,9 +5,7 @@ use Rattle.std.specs.Ordering.{is_lt}
 use Rattle.std.specs.List.Sorted.{IsPermutation}
 use Rattle.gufi_base.specs.Words.{ascends}
 use Rattle.gufi_base.specs.Paths.{path_cmp, base_name, is_child_of}
-use Rattle.gufi_tree.specs.declared.tree.Stored.{Stored}
 use Rattle.gufi_tree.specs.Tree.{Directory, entry_cmp, has_entry_named, HasTreeShape}
-use Rattle.gufi_tree.specs.Stored.{directories_of}
 use Rattle.gufi_tree.specs.Places.{path_at}
 use Rattle.gufi_tree.specs.Kept.{HasParents}
 
@@ -33,6 +31,6 @@ pub record IsTreeWith (tree : List Directory) (parents : List ℕ) : Type 0 wher
   pub places : HasParents tree parents
 
 -- the same, and they are these directories in another order
-pub record IsOrdered (stored ordered : List Stored) (parents : List ℕ) : Type 0 where
-  pub moved : IsPermutation stored ordered
-  pub tree : IsTreeWith (directories_of ordered) parents
+pub record IsOrdered (dirs ordered : List Directory) (parents : List ℕ) : Type 0 where
+  pub moved : IsPermutation dirs ordered
+  pub tree : IsTreeWith ordered parents

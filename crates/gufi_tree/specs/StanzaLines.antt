@@ -1,6 +1,6 @@
 -- The lines of directories and their entries, of which is kept how many lines were before each.
 use Rattle.std.specs.Prelude.{◌≡◌, ℕ, ◌+◌, ◌^◌, Bool, false, not, ◌&&◌, List, [], ◌∷◌, ◌++◌, length, map, count_by, nat_lt, Option, Some, None, IsTrue, if◌then◌else◌}
-use Rattle.std.specs.List.{list_all}
+use Rattle.std.specs.List.{list_all, flat_map}
 use Rattle.std.specs.List.Sorted.{IsPermutation}
 use Rattle.std.specs.declared.cmp.Ordering.{Ordering}
 use Rattle.std.specs.Ordering.{nat_cmp}
@@ -13,9 +13,7 @@ use Rattle.gufi_tree.specs.declared.closed.Begun.{Begun}
 use Rattle.gufi_tree.specs.declared.closed.Placed.{Placed}
 use Rattle.gufi_tree.specs.declared.tree.Entry.{Entry}
 use Rattle.gufi_tree.specs.declared.tree.Stored.{Stored}
-use Rattle.gufi_tree.specs.Tree.{entry_cmp, is_kinded}
-use Rattle.gufi_tree.specs.Stored.{directories_of}
-use Rattle.gufi_tree.specs.Gathered.{rows_of}
+use Rattle.gufi_tree.specs.Tree.{Directory, entry_cmp, own_rows, is_kinded}
 use Rattle.gufi_tree.specs.Build.{is_dir_line}
 use Rattle.gufi_tree.specs.Shape.{are_distinct}
 
@@ -43,8 +41,8 @@ begun_lines None entries = []
 begun_lines (Some b) entries = record { number = b.place + 1; path = b.path; rec = b.rec } ∷ map (placed_line b.path) entries
 
 -- all lines in order of coming
-abbrev pub lines_in : List Stored → List ℕ → Option Begun → List Placed → List Line
-lines_in stored places begun entries = sort_by line_cmp (zip_lines places (rows_of stored)) ++ begun_lines begun entries
+abbrev pub lines_in : List Directory → List ℕ → Option Begun → List Placed → List Line
+lines_in dirs places begun entries = sort_by line_cmp (zip_lines places (flat_map own_rows dirs)) ++ begun_lines begun entries
 
 -- lines numbered from a number on
 abbrev pub AreNumbered : ℕ → List Line → Type 0
@@ -61,41 +59,41 @@ is_begun_kinded None entries = list_all (λ placed. not (is_dir placed.entry.rec
 is_begun_kinded (Some b) entries = is_dir b.rec.meta.kind && list_all (λ placed. not (is_dir placed.entry.rec.meta.kind)) entries
 
 -- directories whose entries stand in name order, unless two have one name, and the places of their lines
-pub record AreClosed (stored : List Stored) (places : List ℕ) (distinct : Bool) : Type 0 where
-  pub whole : length places ≡ length (rows_of stored)
-  pub kinds : IsTrue (list_all is_kinded (directories_of stored))
-  pub apart : IsTrue distinct → IsTrue (are_distinct (directories_of stored))
+pub record AreClosed (dirs : List Directory) (places : List ℕ) (distinct : Bool) : Type 0 where
+  pub whole : length places ≡ length (flat_map own_rows dirs)
+  pub kinds : IsTrue (list_all is_kinded dirs)
+  pub apart : IsTrue distinct → IsTrue (are_distinct dirs)
 
 -- the same, where these are all the lines
-pub record IsWhole (lines : List Line) (stored : List Stored) (places : List ℕ) (distinct : Bool) : Type 0 where
-  pub is : sort_by line_cmp (zip_lines places (rows_of stored)) ≡ lines
+pub record IsWhole (lines : List Line) (dirs : List Directory) (places : List ℕ) (distinct : Bool) : Type 0 where
+  pub is : sort_by line_cmp (zip_lines places (flat_map own_rows dirs)) ≡ lines
   pub numbered : AreNumbered 1 lines
-  pub closed : AreClosed stored places distinct
+  pub closed : AreClosed dirs places distinct
 
 -- what is kept of lines
-pub record AreKept (stored : List Stored) (places : List ℕ) (distinct : Bool) (begun : Option Begun) (entries : List Placed) (count dirs : ℕ) : Type 0 where
-  pub closed : AreClosed stored places distinct
+pub record AreKept (dirs : List Directory) (places : List ℕ) (distinct : Bool) (begun : Option Begun) (entries : List Placed) (count dir_count : ℕ) : Type 0 where
+  pub closed : AreClosed dirs places distinct
   pub kinds : IsTrue (is_begun_kinded begun entries)
-  pub numbered : AreNumbered 1 (lines_in stored places begun entries)
-  pub counted : length (lines_in stored places begun entries) ≡ count
-  pub dir_lines : count_by is_dir_line (lines_in stored places begun entries) ≡ dirs
-  pub empty : begun ≡ None → lines_in stored places begun entries ≡ []
+  pub numbered : AreNumbered 1 (lines_in dirs places begun entries)
+  pub counted : length (lines_in dirs places begun entries) ≡ count
+  pub dir_lines : count_by is_dir_line (lines_in dirs places begun entries) ≡ dir_count
+  pub empty : begun ≡ None → lines_in dirs places begun entries ≡ []
 
 -- One stanza more has ended: its entries stand in another order behind its directory.
-pub record HasTaken (old new : List Stored) (before after : List ℕ) (was is : Bool) (b : Begun) (entries : List Placed) : Type 0 where
+pub record HasTaken (old new : List Directory) (before after : List ℕ) (was is : Bool) (b : Begun) (entries : List Placed) : Type 0 where
   pub own : List Placed
-  pub dir : Stored
+  pub dir : Directory
   pub moved : IsPermutation entries own
-  pub stored : new ≡ old ++ dir ∷ []
+  pub dirs : new ≡ old ++ dir ∷ []
   pub path : dir.path ≡ b.path
   pub rec : dir.rec ≡ b.rec
-  pub taken : dir.entries.items ≡ map (λ placed. placed.entry) own
+  pub taken : dir.entries ≡ map (λ placed. placed.entry) own
   pub places : after ≡ before ++ b.place ∷ map (λ placed. placed.place) own
   pub before_apart : IsTrue is → IsTrue was
-  pub apart : IsTrue is → IsTrue (ascends entry_cmp dir.entries.items)
+  pub apart : IsTrue is → IsTrue (ascends entry_cmp dir.entries)
 
 -- the same, where a stanza has begun
-pub record HasEnded (old new : List Stored) (before after : List ℕ) (was is : Bool) (begun : Option Begun) (entries : List Placed) : Type 0 where
+pub record HasEnded (old new : List Directory) (before after : List ℕ) (was is : Bool) (begun : Option Begun) (entries : List Placed) : Type 0 where
   pub none : begun ≡ None → (new ≡ old) × (after ≡ before) × (is ≡ was)
   pub some : (b : Begun) → begun ≡ Some b → HasTaken old new before after was is b entries
 

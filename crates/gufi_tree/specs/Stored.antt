@@ -1,7 +1,5 @@
 -- How the code keeps a directory.
 use Rattle.std.specs.Prelude.{List, map, IsTrue}
-use Rattle.std.specs.declared.sync.Arc.{Arc}
-use Rattle.std.specs.Arc.{arc_value}
 use Rattle.gufi_base.specs.Words.{ascends}
 use Rattle.gufi_tree.specs.declared.tree.Stored.{Stored}
 use Rattle.gufi_tree.specs.Tree.{Directory, dir_cmp}
@@ -14,7 +12,3 @@ directories_of stored = map directory_of stored
 
 abbrev pub AreInOrder : List Stored → Type 0
 AreInOrder stored = IsTrue (ascends dir_cmp (directories_of stored))
-
--- the directories that are shared
-abbrev pub values_of : {Z : Type 0} → List (Arc Stored Z) → List Stored
-values_of shared = map arc_value shared

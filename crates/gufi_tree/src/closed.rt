@@ -5,14 +5,13 @@ ghost use Rattle.std.specs.List.Sorted.{IsPermutation};
 ghost use Rattle.gufi_base.specs.declared.record.Line.{Line};
 ghost use Rattle.gufi_base.specs.Words.{ascends};
 ghost use Rattle.gufi_tree.specs.Tree.{entry_cmp};
-ghost use Rattle.gufi_tree.specs.Stored.{values_of};
 ghost use Rattle.gufi_tree.specs.StanzaLines.{HasEnded, HasTaken};
 
+use crate::dirs::Dirs;
 use crate::names::order_names;
 use crate::tree::{Entry, Stored};
 use gufi_base::{Path, Rec, name_cmp};
 use std::alloc::{AllocError, Global};
-use std::sync::Arc;
 
 /// The directory of a stanza whose entries still come, and how many lines are before its own.
 #[derive(Drop)]
@@ -32,7 +31,7 @@ pub(crate) struct Placed {
 /// Directories in order of coming, and of each and then of each of its entries how many lines are before its own.
 #[derive(Drop)]
 pub(crate) struct Closed {
-    pub stored: Vec<Arc<Stored, Global>>,
+    pub dirs: Dirs,
     pub places: Vec<u32>,
     /// Whether no two entries of one directory have one name.
     pub distinct: bool,
@@ -78,7 +77,7 @@ fn close(
     begun: Begun,
     entries: &mut Vec<Placed>,
 ) -> Result<(), AllocError>
-    ensures ended { OnOk result (HasTaken (values_of closed.old.stored.items) (values_of closed.new.stored.items) closed.old.places.items closed.new.places.items closed.old.distinct closed.new.distinct begun entries.old.items) }
+    ensures ended { OnOk result (HasTaken closed.old.dirs closed.new.dirs closed.old.places.items closed.new.places.items closed.old.distinct closed.new.distinct begun entries.old.items) }
     ensures none { OnOk result (entries.new.items ≡ []) }
 {
     let Begun { path, rec, place } = begun;
@@ -87,17 +86,16 @@ fn close(
     let entries = take_entries(alloc, entries, &mut closed.places)?;
     closed.distinct = still_ascend(closed.distinct, entries.as_slice());
     let dir = Stored { path, rec, entries };
-    closed.stored.push(Arc::new(alloc, dir)?)?;
-    Ok(())
+    closed.dirs.push(alloc, dir)
 }
 
 impl Closed {
     pub(crate) fn new(alloc: Global) -> Closed
-        ensures stored { result.stored.items ≡ [] }
+        ensures dirs { result.dirs ≡ [] }
         ensures places { result.places.items ≡ [] }
     {
         Closed {
-            stored: Vec::new(alloc),
+            dirs: Dirs::new(alloc),
             places: Vec::new(alloc),
             distinct: true,
         }
@@ -110,7 +108,7 @@ impl Closed {
         begun: Option<Begun>,
         entries: &mut Vec<Placed>,
     ) -> Result<(), AllocError>
-        ensures ended { OnOk result (HasEnded (values_of self.old.stored.items) (values_of self.new.stored.items) self.old.places.items self.new.places.items self.old.distinct self.new.distinct begun entries.old.items) }
+        ensures ended { OnOk result (HasEnded self.old.dirs self.new.dirs self.old.places.items self.new.places.items self.old.distinct self.new.distinct begun entries.old.items) }
         ensures none { OnOk result (entries.new.items ≡ []) }
     {
         match begun {

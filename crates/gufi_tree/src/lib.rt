@@ -4,7 +4,10 @@
 //! It stands on `gufi_base` and `gufi_access`; the trace reader and all queries stand on it.
 #![tactic(auto)]
 
+mod borrowed;
+mod bundle;
 mod closed;
+mod dirs;
 mod fault;
 mod gather;
 mod likely;
@@ -13,16 +16,21 @@ mod link;
 mod names;
 mod ordered;
 mod place;
+mod range;
 mod resolve;
+mod search;
 mod shape;
-mod shared;
 mod sort;
 mod stanzas;
 mod tree;
 
+pub use borrowed::{DirRef, EntriesRef, EntryRef};
+pub use dirs::Dirs;
 pub use fault::TreeFault;
 pub use lines::{build, build_stanzas};
 pub use ordered::tree_of_directories;
+pub use range::DirRange;
 pub use resolve::Resolved;
+pub use search::has_entry;
 pub use stanzas::Stanzas;
 pub use tree::{DirId, Entry, Stored, Tree};

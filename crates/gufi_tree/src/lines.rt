@@ -3,29 +3,39 @@
 ghost use Rattle.std.specs.Prelude.{◌≡◌, ◌≢◌, ◌<◌, ◌^◌, length, None, Some, IfOk, IfSome, IsTrue, MatchResult};
 ghost use Rattle.gufi_base.specs.Words.{GivesUnless};
 ghost use Rattle.gufi_tree.specs.Build.{tree_fault, tree_of};
-ghost use Rattle.gufi_tree.specs.Stored.{directories_of, values_of};
+ghost use Rattle.gufi_tree.specs.Stored.{directories_of};
 ghost use Rattle.gufi_tree.specs.Gathered.{IsArranged};
 ghost use Rattle.gufi_tree.specs.Shape.{are_distinct, IsOrdered};
 ghost use Rattle.gufi_tree.specs.Tree.{is_kinded};
 ghost use Rattle.std.specs.List.{list_all};
 
 use crate::closed::Closed;
+use crate::dirs::Dirs;
 use crate::fault::{TreeFault, find_fault};
 use crate::gather::gather;
 use crate::place::place;
 use crate::shape::order_tree;
-use crate::shared::{share_again, share_all};
 use crate::sort::{sort_directories, sort_entries};
 use crate::stanzas::Stanzas;
 use crate::tree::{Stored, Tree};
 use gufi_base::Line;
 use std::alloc::{AllocError, Global};
-use std::sync::Arc;
+
+/// The directories, kept one behind another.
+fn share_all(alloc: Global, stored: Vec<Stored>) -> Result<Dirs, AllocError>
+    ensures { IfOk result (λ dirs. dirs ≡ directories_of stored.items) }
+{
+    let mut dirs = Dirs::new(alloc);
+    for dir in stored {
+        dirs.push(alloc, dir)?;
+    }
+    Ok(dirs)
+}
 
 /// The directories of the lines, in order, also where entries stand apart from their directories.
-fn arrange(alloc: Global, lines: Vec<Line>) -> Result<Vec<Arc<Stored, Global>>, AllocError>
+fn arrange(alloc: Global, lines: Vec<Line>) -> Result<Dirs, AllocError>
     requires { tree_fault lines.items ≡ None }
-    ensures { IfOk result (λ shared. IsArranged lines.items (values_of shared.items)) }
+    ensures { IfOk result (IsArranged lines.items) }
 {
     let gathered = gather(alloc, lines)?;
     let mut stored = gathered.stored;
@@ -36,9 +46,9 @@ fn arrange(alloc: Global, lines: Vec<Line>) -> Result<Vec<Arc<Stored, Global>>, 
 }
 
 /// The directories of the lines, in order, or their least fault.
-fn arranged(alloc: Global, lines: Vec<Line>) -> Result<Vec<Arc<Stored, Global>>, TreeFault>
+fn arranged(alloc: Global, lines: Vec<Line>) -> Result<Dirs, TreeFault>
     ensures { MatchResult result
-        (λ shared. (tree_fault lines.items ≡ None) × IsArranged lines.items (values_of shared.items))
+        (λ dirs. (tree_fault lines.items ≡ None) × IsArranged lines.items dirs)
         (λ fault. fault ≢ TreeFault.Memory → tree_fault lines.items ≡ Some fault) }
 {
     if let Some(fault) = find_fault(alloc, lines.as_slice())? {
@@ -53,32 +63,32 @@ pub fn build(alloc: Global, lines: Vec<Line>) -> Result<Tree, TreeFault>
     requires { length lines.items < 2 ^ 32 }
     ensures { GivesUnless TreeFault.Memory result (tree_of lines.items) }
 {
-    let stored = arranged(alloc, lines)?;
-    let tree = Tree::of(alloc, stored)?;
+    let dirs = arranged(alloc, lines)?;
+    let tree = Tree::of(alloc, dirs)?;
     Ok(tree)
 }
 
 /// Directories in path order, and where their parents stand.
 #[derive(Drop)]
 struct Ordered {
-    shared: Vec<Arc<Stored, Global>>,
+    dirs: Dirs,
     parents: Vec<u32>,
 }
 
 /// The directories of stanzas in path order, where they are seen to be a tree.
 fn order_closed(alloc: Global, closed: &Closed) -> Result<Option<Ordered>, AllocError>
-    requires few { length closed.now.stored.items < 2 ^ 32 }
-    requires kinds { IsTrue (list_all is_kinded (directories_of (values_of closed.now.stored.items))) }
-    requires distinct { IsTrue closed.now.distinct → IsTrue (are_distinct (directories_of (values_of closed.now.stored.items))) }
-    ensures { IfOk result (λ found. IfSome found (λ ordered. IsOrdered (values_of closed.now.stored.items) (values_of ordered.shared.items) ordered.parents.items)) }
+    requires few { length closed.now.dirs < 2 ^ 32 }
+    requires kinds { IsTrue (list_all is_kinded closed.now.dirs) }
+    requires distinct { IsTrue closed.now.distinct → IsTrue (are_distinct closed.now.dirs) }
+    ensures { IfOk result (λ found. IfSome found (λ ordered. IsOrdered closed.now.dirs ordered.dirs ordered.parents.items)) }
 {
     if !closed.distinct {
         return Ok(None);
     }
-    let mut shared = share_again(alloc, closed.stored.as_slice())?;
-    match order_tree(alloc, &mut shared)? {
+    let mut dirs = closed.dirs.again(alloc)?;
+    match order_tree(alloc, &mut dirs)? {
         None => Ok(None),
-        Some(parents) => Ok(Some(Ordered { shared, parents })),
+        Some(parents) => Ok(Some(Ordered { dirs, parents })),
     }
 }
 
@@ -92,7 +102,7 @@ pub fn build_stanzas(alloc: Global, stanzas: Stanzas) -> Result<Tree, TreeFault>
 {
     let closed = stanzas.into_closed(alloc)?;
     match order_closed(alloc, &closed)? {
-        Some(found) => Ok(Tree::with_parents(alloc, found.shared, found.parents)?),
+        Some(found) => Ok(Tree::with_parents(alloc, found.dirs, found.parents)?),
         None => build(alloc, closed.lines(alloc)?),
     }
 }

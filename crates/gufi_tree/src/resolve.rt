@@ -4,18 +4,19 @@ ghost use Rattle.std.specs.Prelude.{◌≡◌, ◌<◌, ◌≤◌, ◌^◌, ◌=
 ghost use Rattle.std.specs.List.{list_all};
 ghost use Rattle.gufi_base.specs.Paths.{Components};
 ghost use Rattle.gufi_base.specs.PathTexts.{names, IsText};
-ghost use Rattle.gufi_tree.specs.Tree.{HasTreeShape, has_entry_named};
-ghost use Rattle.gufi_tree.specs.Stored.{directories_of, directory_of, values_of};
+ghost use Rattle.gufi_base.specs.Words.{ascends};
+ghost use Rattle.gufi_tree.specs.Tree.{HasTreeShape, rights_of, entry_cmp};
+ghost use Rattle.gufi_access.specs.Access.{rights};
 ghost use Rattle.gufi_tree.specs.Places.{path_at};
 ghost use Rattle.gufi_tree.specs.Resolve.{denied_at, missing_in, resolve_from, resolve};
 ghost use Rattle.gufi_tree.specs.Reached.{IsReached};
 
-use crate::shared::{find_shared, value_at};
-use crate::tree::{DirId, Stored, Tree, guard_of};
-use gufi_access::{Class, Principal, class_of, granted, lists};
+use crate::borrowed::DirRef;
+use crate::dirs::Dirs;
+use crate::search::{find_dir, has_entry};
+use crate::tree::{DirId, Tree, guard_of};
+use gufi_access::{Class, Guard, Principal, class_of, granted, lists};
 use gufi_base::Path;
-use std::alloc::Global;
-use std::sync::Arc;
 
 /// Where a start path leads.
 #[derive(Clone, Copy, Debug, PartialEq, Eq)]
@@ -33,7 +34,7 @@ impl Tree {
     pub fn resolve(&self, who: &Principal, path: &Path) -> Resolved
         ensures { result ≡ resolve self.now who.now path.now }
     {
-        resolve_text(self.stored(), who, path.text())
+        resolve_text(self.kept(), who, path.text())
     }
 }
 
@@ -54,31 +55,30 @@ fn cut(text: &[u8], offset: usize) -> (&[u8], &[u8])
     (&text[..end + 1], &text[offset..end])
 }
 
-/// Whether an entry of the directory has the name.
-fn has_entry(dir: &Stored, name: &[u8]) -> bool
-    ensures { result ≡ has_entry_named name.now (directory_of dir.now) }
+/// What guards a directory.
+fn guard_on(dir: &DirRef<'_>) -> Guard
+    ensures { rights result ≡ rights_of dir.now.rec }
 {
-    dir.entries
-        .iter()
-        .any(|entry| name == entry.name.as_slice())
+    guard_of(dir.rec().meta())
 }
 
-fn denied(dir: &Stored, who: &Principal) -> Resolved
+fn denied(dir: &DirRef<'_>, who: &Principal) -> Resolved
     requires { length dir.now.path < 2 ^ 32 }
-    ensures { result ≡ denied_at who.now (directory_of dir.now) }
+    ensures { result ≡ denied_at who.now dir.now }
 {
     Resolved::Denied {
-        depth: dir.path.depth() as u32,
-        class: class_of(who, &guard_of(&dir.rec)),
+        depth: dir.path().depth() as u32,
+        class: class_of(who, &guard_on(dir)),
     }
 }
 
 /// A name that no directory has, in a directory.
-fn missing(dir: &Stored, name: &[u8]) -> Resolved
-    requires { length dir.now.path + 1 < 2 ^ 32 }
-    ensures { result ≡ missing_in (directory_of dir.now) name.now }
+fn missing(dir: &DirRef<'_>, name: &[u8]) -> Resolved
+    requires depth { length dir.now.path + 1 < 2 ^ 32 }
+    requires order { IsTrue (ascends entry_cmp dir.now.entries) }
+    ensures { result ≡ missing_in dir.now name.now }
 {
-    let depth = dir.path.depth() as u32 + 1;
+    let depth = dir.path().depth() as u32 + 1;
     if has_entry(dir, name) {
         Resolved::NotDir { depth }
     } else {
@@ -87,63 +87,63 @@ fn missing(dir: &Stored, name: &[u8]) -> Resolved
 }
 
 /// At the end of a path, where the directory is.
-fn arrive(stored: &[Arc<Stored, Global>], who: &Principal, place: usize) -> Resolved
-    requires shape { HasTreeShape (directories_of (values_of stored.now)) }
-    requires few { length stored.now < 2 ^ 32 }
-    requires within { place < length stored.now }
-    ensures { result ≡ resolve_from (directories_of (values_of stored.now)) who.now (path_at (directories_of (values_of stored.now)) place) [] }
+fn arrive(dirs: &Dirs, who: &Principal, place: usize) -> Resolved
+    requires shape { HasTreeShape dirs.now }
+    requires few { length dirs.now < 2 ^ 32 }
+    requires within { place < length dirs.now }
+    ensures { result ≡ resolve_from dirs.now who.now (path_at dirs.now place) [] }
 {
-    let dir = value_at(stored, place);
-    if lists(who, &guard_of(&dir.rec)) {
+    let dir = dirs.at(place);
+    if lists(who, &guard_on(&dir)) {
         Resolved::Found(DirId(place as u32))
     } else {
-        denied(dir, who)
+        denied(&dir, who)
     }
 }
 
 /// Goes on by one name, to the directory whose path has the text.
 fn step(
-    stored: &[Arc<Stored, Global>],
+    dirs: &Dirs,
     who: &Principal,
     place: usize,
     next: &[u8],
     name: &[u8],
 ) -> Result<usize, Resolved>
-    requires shape { HasTreeShape (directories_of (values_of stored.now)) }
-    requires few { length stored.now < 2 ^ 32 }
-    requires within { place < length stored.now }
+    requires shape { HasTreeShape dirs.now }
+    requires few { length dirs.now < 2 ^ 32 }
+    requires within { place < length dirs.now }
     requires text { IsText next.now }
-    requires name { names next.now ≡ path_at (directories_of (values_of stored.now)) place ++ name.now ∷ [] }
+    requires name { names next.now ≡ path_at dirs.now place ++ name.now ∷ [] }
     ensures { MatchResult result
-        (λ at. (at < length stored.now) × (path_at (directories_of (values_of stored.now)) at ≡ names next.now)
-        × ((rest : Components) → resolve_from (directories_of (values_of stored.now)) who.now (path_at (directories_of (values_of stored.now)) place) (name.now ∷ rest) ≡ resolve_from (directories_of (values_of stored.now)) who.now (names next.now) rest))
-        (λ refused. (rest : Components) → refused ≡ resolve_from (directories_of (values_of stored.now)) who.now (path_at (directories_of (values_of stored.now)) place) (name.now ∷ rest)) }
+        (λ at. (at < length dirs.now) × (path_at dirs.now at ≡ names next.now)
+        × ((rest : Components) → resolve_from dirs.now who.now (path_at dirs.now place) (name.now ∷ rest) ≡ resolve_from dirs.now who.now (names next.now) rest))
+        (λ refused. (rest : Components) → refused ≡ resolve_from dirs.now who.now (path_at dirs.now place) (name.now ∷ rest)) }
 {
-    let dir = value_at(stored, place);
-    if !granted(who, &guard_of(&dir.rec), 1) {
-        return Err(denied(dir, who));
+    let dir = dirs.at(place);
+    if !granted(who, &guard_on(&dir), 1) {
+        return Err(denied(&dir, who));
     }
-    match find_shared(stored, next) {
+    match find_dir(dirs, next) {
         Some(at) => Ok(at),
-        None => Err(missing(dir, name)),
+        None => Err(missing(&dir, name)),
     }
 }
 
-fn resolve_text(stored: &[Arc<Stored, Global>], who: &Principal, text: &[u8]) -> Resolved
-    requires shape { HasTreeShape (directories_of (values_of stored.now)) }
-    requires few { length stored.now < 2 ^ 32 }
+fn resolve_text(dirs: &Dirs, who: &Principal, text: &[u8]) -> Resolved
+    requires shape { HasTreeShape dirs.now }
+    requires few { length dirs.now < 2 ^ 32 }
     requires text { IsText text.now }
-    ensures { result ≡ resolve (directories_of (values_of stored.now)) who.now (names text.now) }
+    ensures { result ≡ resolve dirs.now who.now (names text.now) }
 {
     let mut place = 0;
     let mut offset = 1;
     while offset < text.len() {
         let (next, name) = cut(text, offset);
-        match step(stored, who, place, next, name) {
+        match step(dirs, who, place, next, name) {
             Err(refused) => return refused,
             Ok(found) => place = found,
         }
         offset = next.len();
     }
-    arrive(stored, who, place)
+    arrive(dirs, who, place)
 }

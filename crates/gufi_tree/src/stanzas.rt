@@ -1,24 +1,23 @@
 //! Lines by their stanzas: a directory, and its entries behind it.
 
-ghost use Rattle.std.specs.Prelude.{List, ◌≡◌, ◌<◌, ◌≤◌, ◌+◌, ◌^◌, ◌++◌, ◌∷◌, [], not, true, false, length, drop, nat_lt, reverse, count_by, MatchOption, IfOk, OnOk, IsTrue};
-ghost use Rattle.std.specs.List.{list_all};
+ghost use Rattle.std.specs.Prelude.{List, ◌≡◌, ◌<◌, ◌≤◌, ◌+◌, ◌^◌, ◌++◌, ◌∷◌, [], map, not, true, false, length, drop, nat_lt, reverse, count_by, MatchOption, IfOk, OnOk, IsTrue};
+ghost use Rattle.std.specs.List.{list_all, flat_map};
 ghost use Rattle.std.specs.List.Sorted.{IsPermutation, IsSortedBy};
 ghost use Rattle.std.specs.Ordering.{is_lt};
 ghost use Rattle.gufi_base.specs.declared.record.Line.{Line};
 ghost use Rattle.gufi_base.specs.Kinds.{is_dir};
 ghost use Rattle.gufi_base.specs.Paths.{Components, is_child_of, base_name};
 ghost use Rattle.gufi_tree.specs.Build.{is_dir_line};
-ghost use Rattle.gufi_tree.specs.Tree.{own_rows};
-ghost use Rattle.gufi_tree.specs.Gathered.{rows_of};
-ghost use Rattle.gufi_tree.specs.Stored.{directory_of, values_of};
+ghost use Rattle.gufi_tree.specs.Tree.{entry_row, own_rows};
 ghost use Rattle.gufi_tree.specs.StanzaLines.{stanza_holds, line_cmp, zip_lines, are_few, IsWhole};
 
+use crate::borrowed::{DirRef, EntriesRef, EntryRef};
 use crate::closed::{Begun, Closed, Placed};
-use crate::tree::{Entry, Stored};
-use gufi_base::{Bytes, Line, Name, Path, Rec};
+use crate::dirs::Dirs;
+use crate::tree::Entry;
+use gufi_base::{Line, Name, Path, Rec};
 use std::alloc::{AllocError, Global};
 use std::marker::Model;
-use std::sync::Arc;
 
 /// Lines of which each entry's stands behind its directory's, or behind that of another entry of it.
 ///
@@ -39,12 +38,11 @@ impl Model for Stanzas {
 
     ghost Value = { List Line };
 
-    ghost use Rattle.gufi_tree.specs.Stored.{values_of};
     ghost use Rattle.gufi_tree.specs.StanzaLines.{lines_in, AreKept};
 
-    ghost view = { λ s. lines_in (values_of s.closed.stored.items) s.closed.places.items s.begun s.entries.items };
+    ghost view = { λ s. lines_in s.closed.dirs s.closed.places.items s.begun s.entries.items };
 
-    ghost invariant = { λ s. AreKept (values_of s.closed.stored.items) s.closed.places.items s.closed.distinct s.begun s.entries.items s.count s.dirs };
+    ghost invariant = { λ s. AreKept s.closed.dirs s.closed.places.items s.closed.distinct s.begun s.entries.items s.count s.dirs };
 }
 
 /// The number of the line behind so many others.
@@ -55,29 +53,40 @@ fn number_of(place: u32) -> u32
     place + 1
 }
 
-fn copy_rec(alloc: Global, rec: &Rec) -> Result<Rec, AllocError>
-    ensures { IfOk result (λ copy. copy ≡ rec.now) }
-{
-    let link = Bytes::from_slice(alloc, rec.link.as_slice())?;
-    let meta = rec.meta;
-    Ok(Rec { meta, link })
-}
-
 /// Adds the line of an entry of the directory with a path.
 fn push_entry_line(
     alloc: Global,
     lines: &mut Vec<Line>,
     path: &Path,
-    entry: &Entry,
+    entry: &EntryRef<'_>,
     place: u32,
 ) -> Result<(), AllocError>
     requires { place + 1 < 2 ^ 32 }
     ensures { OnOk result (lines.new.items ≡ lines.old.items ++ record { number = place + 1; path = path.now ++ entry.now.name ∷ []; rec = entry.now.rec } ∷ []) }
 {
-    let path = path.child(alloc, entry.name.as_slice())?;
-    let rec = copy_rec(alloc, &entry.rec)?;
+    let path = path.child(alloc, entry.name())?;
+    let rec = entry.rec().copy(alloc)?;
     let number = number_of(place);
     lines.push(Line { number, path, rec })?;
+    Ok(())
+}
+
+/// Adds the lines of the entries of the directory with a path.
+fn push_entry_lines(
+    alloc: Global,
+    lines: &mut Vec<Line>,
+    path: &Path,
+    entries: &EntriesRef<'_>,
+    places: &[u32],
+    at: usize,
+) -> Result<(), AllocError>
+    requires within { at + length entries.now ≤ length places.now }
+    requires few { IsTrue (are_few places.now) }
+    ensures { OnOk result (lines.new.items ≡ lines.old.items ++ zip_lines (drop at places.now) (map (entry_row path.now) entries.now)) }
+{
+    for place in 0..entries.len() {
+        push_entry_line(alloc, lines, path, &entries.at(place), places[at + place])?;
+    }
     Ok(())
 }
 
@@ -85,14 +94,14 @@ fn push_entry_line(
 fn push_dir_line(
     alloc: Global,
     lines: &mut Vec<Line>,
-    dir: &Stored,
+    dir: &DirRef<'_>,
     place: u32,
 ) -> Result<(), AllocError>
     requires { place + 1 < 2 ^ 32 }
     ensures { OnOk result (lines.new.items ≡ lines.old.items ++ record { number = place + 1; path = dir.now.path; rec = dir.now.rec } ∷ []) }
 {
-    let path = dir.path.copy(alloc)?;
-    let rec = copy_rec(alloc, &dir.rec)?;
+    let path = dir.path().copy(alloc)?;
+    let rec = dir.rec().copy(alloc)?;
     let number = number_of(place);
     lines.push(Line { number, path, rec })?;
     Ok(())
@@ -102,21 +111,17 @@ fn push_dir_line(
 fn push_lines(
     alloc: Global,
     lines: &mut Vec<Line>,
-    dir: &Stored,
+    dir: &DirRef<'_>,
     places: &[u32],
     at: usize,
 ) -> Result<(), AllocError>
-    requires within { at + length (own_rows (directory_of dir.now)) ≤ length places.now }
+    requires within { at + length (own_rows dir.now) ≤ length places.now }
     requires few { IsTrue (are_few places.now) }
-    ensures { OnOk result (lines.new.items ≡ lines.old.items ++ zip_lines (drop at places.now) (own_rows (directory_of dir.now))) }
+    ensures { OnOk result (lines.new.items ≡ lines.old.items ++ zip_lines (drop at places.now) (own_rows dir.now)) }
 {
     push_dir_line(alloc, lines, dir, places[at])?;
-    let mut next = at + 1;
-    for entry in &dir.entries {
-        push_entry_line(alloc, lines, &dir.path, entry, places[next])?;
-        next += 1;
-    }
-    Ok(())
+    let path = dir.path().copy(alloc)?;
+    push_entry_lines(alloc, lines, &path, &dir.entries(), places, at + 1)
 }
 
 /// Puts lines in the order of their numbers.
@@ -127,11 +132,11 @@ fn sort_lines(lines: &mut Vec<Line>)
     lines.sort_unstable_by(|a, b| a.number.cmp(&b.number));
 }
 
-fn rows_in(dir: &Stored) -> usize
-    requires { length dir.now.entries.items + 1 < 2 ^ 64 }
-    ensures { result ≡ length (own_rows (directory_of dir.now)) }
+fn rows_in(dir: &DirRef<'_>) -> usize
+    requires { length dir.now.entries + 1 < 2 ^ 64 }
+    ensures { result ≡ length (own_rows dir.now) }
 {
-    dir.entries.len() + 1
+    dir.entries().len() + 1
 }
 
 fn count_of(places: &[u32]) -> usize
@@ -141,21 +146,18 @@ fn count_of(places: &[u32]) -> usize
 }
 
 /// The lines of directories and of their entries, as these are kept.
-fn kept_lines(
-    alloc: Global,
-    stored: &[Arc<Stored, Global>],
-    places: &[u32],
-) -> Result<Vec<Line>, AllocError>
-    requires whole { length places.now ≡ length (rows_of (values_of stored.now)) }
+fn kept_lines(alloc: Global, dirs: &Dirs, places: &[u32]) -> Result<Vec<Line>, AllocError>
+    requires whole { length places.now ≡ length (flat_map own_rows dirs.now) }
     requires few { IsTrue (are_few places.now) }
-    ensures { IfOk result (λ lines. lines.items ≡ zip_lines places.now (rows_of (values_of stored.now))) }
+    ensures { IfOk result (λ lines. lines.items ≡ zip_lines places.now (flat_map own_rows dirs.now)) }
 {
     let count = count_of(places);
     let mut lines = Vec::with_capacity(alloc, count)?;
     let mut at = 0;
-    for dir in stored {
-        push_lines(alloc, &mut lines, dir, places, at)?;
-        at += rows_in(dir);
+    for place in 0..dirs.len() {
+        let dir = dirs.at(place);
+        push_lines(alloc, &mut lines, &dir, places, at)?;
+        at += rows_in(&dir);
     }
     Ok(lines)
 }
@@ -163,11 +165,11 @@ fn kept_lines(
 impl Closed {
     /// The lines, each with its path, in the order of their numbers. Directories and entries are copied.
     pub(crate) fn lines(&self, alloc: Global) -> Result<Vec<Line>, AllocError>
-        requires whole { length self.now.places.items ≡ length (rows_of (values_of self.now.stored.items)) }
+        requires whole { length self.now.places.items ≡ length (flat_map own_rows self.now.dirs) }
         requires few { IsTrue (are_few self.now.places.items) }
-        ensures { IfOk result (λ lines. (known : List Line) → IsWhole known (values_of self.now.stored.items) self.now.places.items self.now.distinct → lines.items ≡ known) }
+        ensures { IfOk result (λ lines. (known : List Line) → IsWhole known self.now.dirs self.now.places.items self.now.distinct → lines.items ≡ known) }
     {
-        let mut lines = kept_lines(alloc, self.stored.as_slice(), self.places.as_slice())?;
+        let mut lines = kept_lines(alloc, &self.dirs, self.places.as_slice())?;
         sort_lines(&mut lines);
         Ok(lines)
     }
@@ -248,7 +250,7 @@ impl Stanzas {
 
     /// The directories, the last stanza ended too.
     pub(crate) fn into_closed(self, alloc: Global) -> Result<Closed, AllocError>
-        ensures { IfOk result (λ closed. IsWhole self (values_of closed.stored.items) closed.places.items closed.distinct) }
+        ensures { IfOk result (λ closed. IsWhole self closed.dirs closed.places.items closed.distinct) }
     {
         let Stanzas {
             mut closed,

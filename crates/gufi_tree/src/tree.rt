@@ -1,22 +1,22 @@
 //! Directories in path order.
 
-ghost use Rattle.std.specs.Prelude.{◌≡◌, ◌<◌, ◌^◌, List, length, slice_index_or, option_map, IsTrue, IfOk};
+ghost use Rattle.std.specs.Prelude.{◌≡◌, ◌+◌, ◌<◌, ◌≤◌, ◌^◌, length, take, drop, slice_index_or, option_map, IsTrue, IfOk};
 ghost use Rattle.std.specs.List.{flat_map};
 ghost use Rattle.gufi_base.specs.Words.{ascends};
 ghost use Rattle.gufi_access.specs.Access.{rights};
 ghost use Rattle.gufi_tree.specs.Tree.{Directory, own_rows, rights_of, entry_cmp, place_of, HasTreeShape};
 ghost use Rattle.gufi_tree.specs.Kept.{HasParents};
 ghost use Rattle.gufi_tree.specs.Places.{dir_id, path_at, parent_id, child_ids};
-ghost use Rattle.std.specs.Arc.{arc_value};
-ghost use Rattle.gufi_tree.specs.Stored.{directory_of, directories_of, values_of};
 
+use crate::borrowed::{DirRef, EntriesRef};
+use crate::dirs::Dirs;
 use crate::link::{Links, parents_of};
-use crate::shared::{find_shared, value_at};
+use crate::range::DirRange;
+use crate::search::find_dir;
 use gufi_access::Guard;
-use gufi_base::{Memory, Name, Path, Rec};
+use gufi_base::{Memory, Meta, Name, Path, PathRef, Rec, RecRef};
 use std::alloc::{AllocError, Global};
 use std::marker::Model;
-use std::sync::Arc;
 
 /// A directory's place in path order; the root is 0.
 #[derive(Clone, Copy, Debug, PartialEq, Eq)]
@@ -40,7 +40,7 @@ pub struct Stored {
 /// The directories in path order.
 #[derive(Drop)]
 pub struct Tree {
-    stored: Vec<Arc<Stored, Global>>,
+    dirs: Dirs,
     links: Links,
 }
 
@@ -50,40 +50,39 @@ impl Model for Tree {
 
     ghost Value = { List Directory };
 
-    ghost use Rattle.gufi_tree.specs.Stored.{directories_of, values_of};
     ghost use Rattle.gufi_tree.specs.Kept.{IsKept};
 
-    ghost view = { λ a. directories_of (values_of a.stored.items) };
+    ghost view = { λ a. a.dirs };
 
-    ghost invariant = { λ a. IsKept (values_of a.stored.items) a.links };
+    ghost invariant = { λ a. IsKept a.dirs a.links };
 }
 
 impl Tree {
     /// The tree of directories in order.
-    pub(crate) fn of(alloc: Global, stored: Vec<Arc<Stored, Global>>) -> Result<Tree, AllocError>
-        requires few { length stored.items < 2 ^ 32 }
-        requires rows { length (flat_map own_rows (directories_of (values_of stored.items))) < 2 ^ 32 }
-        requires shape { HasTreeShape (directories_of (values_of stored.items)) }
-        ensures { IfOk result (λ tree. tree ≡ directories_of (values_of stored.items)) }
+    pub(crate) fn of(alloc: Global, dirs: Dirs) -> Result<Tree, AllocError>
+        requires few { length dirs < 2 ^ 32 }
+        requires rows { length (flat_map own_rows dirs) < 2 ^ 32 }
+        requires shape { HasTreeShape dirs }
+        ensures { IfOk result (λ tree. tree ≡ dirs) }
     {
-        let parents = parents_of(alloc, stored.as_slice())?;
-        Tree::with_parents(alloc, stored, parents)
+        let parents = parents_of(alloc, &dirs)?;
+        Tree::with_parents(alloc, dirs, parents)
     }
 
     /// The tree of directories in order, whose parents stand at these places.
     pub(crate) fn with_parents(
         alloc: Global,
-        stored: Vec<Arc<Stored, Global>>,
+        dirs: Dirs,
         parents: Vec<u32>,
     ) -> Result<Tree, AllocError>
-        requires few { length stored.items < 2 ^ 32 }
-        requires rows { length (flat_map own_rows (directories_of (values_of stored.items))) < 2 ^ 32 }
-        requires shape { HasTreeShape (directories_of (values_of stored.items)) }
-        requires parents { HasParents (directories_of (values_of stored.items)) parents.items }
-        ensures { IfOk result (λ tree. tree ≡ directories_of (values_of stored.items)) }
+        requires few { length dirs < 2 ^ 32 }
+        requires rows { length (flat_map own_rows dirs) < 2 ^ 32 }
+        requires shape { HasTreeShape dirs }
+        requires parents { HasParents dirs parents.items }
+        ensures { IfOk result (λ tree. tree ≡ dirs) }
     {
         let links = Links::of(alloc, parents)?;
-        Ok(Tree { stored, links })
+        Ok(Tree { dirs, links })
     }
 
     /// How many directories there are.
@@ -92,55 +91,62 @@ impl Tree {
         ensures shape { HasTreeShape self.now }
         ensures rows { length (flat_map own_rows self.now) < 2 ^ 32 }
     {
-        self.stored.len() as u32
+        self.dirs.len() as u32
     }
 
-    pub(crate) fn stored(&self) -> &[Arc<Stored, Global>]
-        ensures value { directories_of (values_of result.now) ≡ self.now }
+    pub(crate) fn kept(&self) -> &Dirs
+        ensures value { result.now ≡ self.now }
         ensures shape { HasTreeShape self.now }
-        ensures few { length result.now < 2 ^ 32 }
+        ensures few { length self.now < 2 ^ 32 }
     {
-        self.stored.as_slice()
+        &self.dirs
     }
 
-    fn at(&self, id: DirId) -> &Stored
+    /// A directory, borrowed. `O(1)`.
+    #[inline]
+    pub fn dir(&self, id: DirId) -> DirRef<'_>
         requires { id.0 < length self.now }
-        ensures value { (d : Directory) → directory_of result.now ≡ slice_index_or self.now id.0 d }
+        ensures value { (d : Directory) → result ≡ slice_index_or self.now id.0 d }
         ensures shape { HasTreeShape self.now }
     {
-        value_at(self.stored(), id.0 as usize)
+        self.kept().at(id.0 as usize)
     }
 
-    /// A directory as it is kept, shared with the tree. `O(1)`: nothing is copied.
-    pub fn share(&self, id: DirId) -> Result<Arc<Stored, Global>, AllocError>
-        requires { id.0 < length self.now }
-        ensures { IfOk result (λ shared. (d : Directory) → directory_of (arc_value shared) ≡ slice_index_or self.now id.0 d) }
+    /// So many directories from one on, which stand side by side in path order. `O(1)`.
+    pub fn range(&self, first: DirId, count: u32) -> DirRange<'_>
+        requires { first.0 + count ≤ length self.now }
+        ensures { result ≡ take count (drop first.0 self.now) }
     {
-        Arc::try_clone(&self.stored[id.0 as usize])
+        // Its clause tells that the sum is a number of 32 bits.
+        let _count = self.dirs();
+        DirRange::between(self, first.0, first.0 + count)
     }
 
     /// The record of a directory.
-    pub fn rec(&self, id: DirId) -> &Rec
+    #[inline]
+    pub fn rec(&self, id: DirId) -> RecRef<'_>
         requires { id.0 < length self.now }
-        ensures { (d : Directory) → result.now ≡ (slice_index_or self.now id.0 d).rec }
+        ensures { (d : Directory) → result ≡ (slice_index_or self.now id.0 d).rec }
     {
-        &self.at(id).rec
+        self.dir(id).rec()
     }
 
     /// What guards a directory.
+    #[inline]
     pub fn guard(&self, id: DirId) -> Guard
         requires { id.0 < length self.now }
         ensures { (d : Directory) → rights result ≡ rights_of (slice_index_or self.now id.0 d).rec }
     {
-        guard_of(self.rec(id))
+        guard_of(self.rec(id).meta())
     }
 
     /// The path of a directory, borrowed.
-    pub fn path(&self, id: DirId) -> &Path
+    #[inline]
+    pub fn path(&self, id: DirId) -> PathRef<'_>
         requires { id.0 < length self.now }
-        ensures { result.now ≡ path_at self.now id.0 }
+        ensures { result ≡ path_at self.now id.0 }
     {
-        &self.at(id).path
+        self.dir(id).path()
     }
 
     /// The path of a directory, in memory of its own.
@@ -164,15 +170,17 @@ impl Tree {
     }
 
     /// The entries of a directory, in name order.
-    pub fn entries(&self, id: DirId) -> &[Entry]
+    #[inline]
+    pub fn entries(&self, id: DirId) -> EntriesRef<'_>
         requires { id.0 < length self.now }
-        ensures value { (d : Directory) → result.now ≡ (slice_index_or self.now id.0 d).entries }
-        ensures order { IsTrue (ascends entry_cmp result.now) }
+        ensures value { (d : Directory) → result ≡ (slice_index_or self.now id.0 d).entries }
+        ensures order { IsTrue (ascends entry_cmp result) }
     {
-        self.at(id).entries.as_slice()
+        self.dir(id).entries()
     }
 
     /// The directories right below a directory, in path order.
+    #[inline]
     pub fn subdirs(&self, id: DirId) -> &[DirId]
         requires { id.0 < length self.now }
         ensures { result.now ≡ child_ids self.now (path_at self.now id.0) }
@@ -184,19 +192,19 @@ impl Tree {
     pub fn find(&self, path: &Path) -> Option<DirId>
         ensures { result ≡ option_map dir_id (place_of self.now path.now) }
     {
-        match find_shared(self.stored(), path.text()) {
+        match find_dir(self.kept(), path.text()) {
             None => None,
             Some(place) => Some(DirId(place as u32)),
         }
     }
 }
 
-pub(crate) fn guard_of(rec: &Rec) -> Guard
-    ensures { rights result ≡ rights_of rec.now }
+pub(crate) fn guard_of(meta: &Meta) -> Guard
+    ensures { rights result ≡ record { uid = meta.now.uid; gid = meta.now.gid; mode = meta.now.mode } }
 {
     Guard {
-        uid: rec.meta.uid,
-        gid: rec.meta.gid,
-        mode: rec.meta.mode,
+        uid: meta.uid,
+        gid: meta.gid,
+        mode: meta.mode,
     }
 }

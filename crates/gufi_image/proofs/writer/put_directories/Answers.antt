@@ -12,10 +12,10 @@ loop-number-preserved c =
     let limit = c.args.snap.now.limit in
     let seen = c.tree-tree.result.now in
     let i = c.loop-number.number in
-    let own = parts_image c.parent_number.result c.rolled.result c.path.result.now c.rec.result.now c.entries.result.now in
+    let own = parts_image c.parent_number.result c.rolled.result c.path.result c.rec.result c.entries.result in
     let same = c.tree-tree.ensures.tree in
     let flag = subst (λ (t : List Directory). c.rolled.result ≡ can_roll t limit (path_at t i)) (sym same) c.rolled.ensures in
-    let more = directories_more seen limit i c.parent_number.result c.rolled.result c.path.result.now c.rec.result.now c.entries.result.now c.parent_number.ensures flag c.path.ensures c.rec.ensures c.entries.ensures.value
+    let more = directories_more seen limit i c.parent_number.result c.rolled.result c.path.result c.rec.result c.entries.result c.parent_number.ensures flag c.path.ensures c.rec.ensures c.entries.ensures.value
     (omega (arith, c.loop-number-test.true, c.dirs-number-end.ensures.count))
     in
     let there = subst (λ (t : List Directory). directories_image t limit (take (i + 1) t) ≡ directories_image t limit (take i t) ++ own) same more in

@@ -1,4 +1,4 @@
-use Rattle.std.proofs.Common.{◌<◌, length, refl, ap, arith}
+use Rattle.std.proofs.Common.{◌<◌, ◌∙◌, length, refl, ap, arith}
 use Rattle.gufi_tree.proofs.Kids.{at_place}
 use Rattle.gufi_roll.proofs.Tops.{flags_len, rolled_fits, tops_fit, rows_fit, report_more}
 use Rattle.gufi_roll.proofs.report.with_rolled.Goals as goal
@@ -20,11 +20,11 @@ overflow_add-result-2 c =
 pub overflow_add-result-3 : goal.overflow_add-result-3
 overflow_add-result-3 c =
     let d = (at_place c.args.tree.now c.args.id.0 c.requires.within).0 in
-    let fits = rows_fit c.args.tree.now c.args.flags.now c.args.id.0 d (flags_len c.args.tree.now c.args.flags.now c.requires.flags) c.requires.within c.args.report c.requires.before c.requires.rolled (length c.entries.result.now) 4294967296 (ap length (c.entries.ensures.value d)) c.dirs-count.ensures.rows in
+    let fits = rows_fit c.args.tree.now c.args.flags.now c.args.id.0 d (flags_len c.args.tree.now c.args.flags.now c.requires.flags) c.requires.within c.args.report c.requires.before c.requires.rolled c.len.result 4294967296 (c.len.ensures ∙ ap length (c.entries.ensures.value d)) c.dirs-count.ensures.rows in
     omega (arith, fits)
 
 pub returns : goal.returns
 returns c =
     let d = (at_place c.args.tree.now c.args.id.0 c.requires.within).0 in
-    report_more c.args.tree.now c.args.flags.now c.args.id.0 d (flags_len c.args.tree.now c.args.flags.now c.requires.flags) c.requires.within c.args.report c.requires.before c.requires.rolled _ (length c.entries.result.now) c.top_count-top.result
-    refl (ap length (c.entries.ensures.value d)) (c.top_count-top.ensures.value d)
+    report_more c.args.tree.now c.args.flags.now c.args.id.0 d (flags_len c.args.tree.now c.args.flags.now c.requires.flags) c.requires.within c.args.report c.requires.before c.requires.rolled _ c.len.result c.top_count-top.result
+    refl (c.len.ensures ∙ ap length (c.entries.ensures.value d)) (c.top_count-top.ensures.value d)

@@ -5,9 +5,9 @@ use Rattle.gufi_tree.specs.Tree.{entry_row}
 use Rattle.gufi_sums.specs.Total.{rows_in, IsBounded, IsTotal}
 use Rattle.gufi_snap.proofs.sums.add_entries.Given as goal
 
-abbrev pub invariant-loop-entry : goal.invariant-loop-entry
-invariant-loop-entry l = record {
-  counted : rows_in l.sum ≡ rows_in l.fn.sum + l.entry-index;
+abbrev pub invariant-loop-place : goal.invariant-loop-place
+invariant-loop-place l = record {
+  counted : rows_in l.sum ≡ rows_in l.fn.sum + l.place;
   bounded : IsBounded l.sum;
-  rows : (path : Components) (rows : List Row) → IsTotal l.fn.sum rows → IsTotal l.sum (rows ++ map (entry_row path) (take l.entry-index l.entries));
+  rows : (path : Components) (rows : List Row) → IsTotal l.fn.sum rows → IsTotal l.sum (rows ++ map (entry_row path) (take l.place l.entries));
 }

@@ -5,9 +5,9 @@ use Rattle.gufi_tree.specs.Tree.{own_rows}
 use Rattle.gufi_store.specs.Scan.{is_met}
 use Rattle.gufi_store.proofs.DirStore.scan_rows.Given as goal
 
-abbrev pub invariant-loop-entry : goal.invariant-loop-entry
-invariant-loop-entry g l = record {
+abbrev pub invariant-loop-place : goal.invariant-loop-place
+invariant-loop-place g l = record {
   same : g.T.Tester.meets l.tester ≡ g.T.Tester.meets l.fn.tester;
   rows : (rows : List Row) → g.Y.Yield.stands_for l.fn.out rows
-      → g.Y.Yield.stands_for l.out (rows ++ filter (is_met l.above (g.T.Tester.meets l.fn.tester)) (take (l.entry-index + 1) (own_rows l.self)));
+      → g.Y.Yield.stands_for l.out (rows ++ filter (is_met l.above (g.T.Tester.meets l.fn.tester)) (take (l.place + 1) (own_rows l.self)));
 }

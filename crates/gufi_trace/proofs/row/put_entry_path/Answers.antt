@@ -10,5 +10,5 @@ returns c =
     let front = c.in_ok-put.ensures
     ∙ ap (λ (t : List ℕ). t ++ 47 ∷ []) (c.in_ok-put_slashed-2.ensures ∙ ap (λ (t : List ℕ). t ++ path) c.in_ok-put_slashed.ensures)
     ∙ simp append_assoc in
-    append_ok c.put-2.result c.args.out.now.items c.put.new.out.items c.put-2.new.out.items (root ++ (path ++ 47 ∷ [])) c.args.name.now _ front (rw c.as_slice.ensures.value at c.put-2.ensures)
+    append_ok c.put-2.result c.args.out.now.items c.put.new.out.items c.put-2.new.out.items (root ++ (path ++ 47 ∷ [])) c.args.name.now _ front c.put-2.ensures
     (entry_path_text c.args.root.now c.args.path.now c.args.name.now ∙ sym (append_assoc root (path ++ 47 ∷ []) c.args.name.now ∙ ap (λ (t : List ℕ). root ++ t) (append_assoc path (47 ∷ []) c.args.name.now)))

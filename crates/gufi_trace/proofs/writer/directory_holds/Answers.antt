@@ -7,7 +7,7 @@ use Rattle.gufi_trace.proofs.writer.directory_holds.Goals as goal
 
 pub returns-else-in_link : goal.returns-else-in_link
 returns-else-in_link c =
-    let link = c.holds-in_link.ensures ∙ ap (holds_byte c.args.delim) c.as_slice.ensures in
+    let link = c.holds-in_link.ensures ∙ ap (holds_byte c.args.delim) c.link.ensures in
     c.any_entry_holds-in_entry.ensures
     ∙ third_is (list_any (holds_byte c.args.delim) c.args.path.now) (holds_byte c.args.delim c.args.rec.now.link) (list_any (entry_holds c.args.delim) c.args.entries.now) (own_holds c.args.delim (directory c.args.path.now c.args.rec.now c.args.entries.now))
     (sym c.path_holds-in_path.ensures ∙ c.if-in_link.false.0) (sym link ∙ c.if-in_link.false.1) (own_holds-parts c.args.delim c.args.path.now c.args.rec.now c.args.entries.now)

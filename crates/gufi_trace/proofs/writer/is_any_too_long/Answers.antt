@@ -8,12 +8,12 @@ use Rattle.gufi_trace.proofs.writer.is_any_too_long.Goals as goal
 pub returns-then-directory_is_too_long : goal.returns-then-directory_is_too_long
 returns-then-directory_is_too_long c =
     sym (any_rows (λ (row : Row). is_too_long (c.args.root.now ++ row.path)) c.args.tree.now
-    ∙ any_here c.args.tree.now c.loop-number.number c.path.result.now c.rec.result.now c.entries.result.now c.path.ensures c.rec.ensures c.entries.ensures.value (omega arith) (own_too_long c.args.root.now)
+    ∙ any_here c.args.tree.now c.loop-number.number c.path.result c.rec.result c.entries.result c.path.ensures c.rec.ensures c.entries.ensures.value (omega arith) (own_too_long c.args.root.now)
     (sym c.directory_is_too_long.ensures ∙ c.if-directory_is_too_long.true))
 
 pub loop-number-preserved : goal.loop-number-preserved
 loop-number-preserved c =
-    none_more c.args.tree.now c.loop-number.number c.path.result.now c.rec.result.now c.entries.result.now c.path.ensures c.rec.ensures c.entries.ensures.value (omega arith) (own_too_long c.args.root.now) c.loop-number.invariant
+    none_more c.args.tree.now c.loop-number.number c.path.result c.rec.result c.entries.result c.path.ensures c.rec.ensures c.entries.ensures.value (omega arith) (own_too_long c.args.root.now) c.loop-number.invariant
     (sym c.directory_is_too_long.ensures ∙ c.if-directory_is_too_long.false)
 
 pub returns : goal.returns

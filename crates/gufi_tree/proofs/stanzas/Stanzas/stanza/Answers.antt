@@ -1,6 +1,5 @@
 use Rattle.std.proofs.Common.{List, reverse, sym, ap, ◌∙◌}
 use Rattle.gufi_base.specs.declared.record.Line.{Line}
-use Rattle.gufi_tree.specs.Stored.{values_of}
 use Rattle.gufi_tree.specs.StanzaLines.{stanza_holds}
 use Rattle.gufi_tree.proofs.Ended.{holds_of}
 use Rattle.gufi_tree.proofs.stanzas.Stanzas.stanza.Goals as goal
@@ -8,4 +7,4 @@ use Rattle.gufi_tree.proofs.stanzas.Stanzas.stanza.Goals as goal
 pub returns-in-Some : goal.returns-in-Some
 returns-in-Some c = λ child.
     let i = c.self.inside in
-    ap (λ (ls : List Line). stanza_holds (reverse ls) child) (sym c.self.view_is) ∙ holds_of (values_of i.closed.stored.items) i.closed.places.items i.begun c.in-Some.begun i.entries.items child c.in-Some.is c.self.invariant.kinds
+    ap (λ (ls : List Line). stanza_holds (reverse ls) child) (sym c.self.view_is) ∙ holds_of i.closed.dirs i.closed.places.items i.begun c.in-Some.begun i.entries.items child c.in-Some.is c.self.invariant.kinds

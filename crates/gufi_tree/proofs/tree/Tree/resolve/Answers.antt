@@ -11,5 +11,5 @@ resolve_text-requires-clause-text c = subst IsText (sym c.text.ensures.text) (Is
 
 pub returns : goal.returns
 returns c =
-    c.resolve_text.ensures ∙ ap (λ (t : List Directory). resolve t c.args.who.now (names c.text.result.now)) c.stored.ensures.value
+    c.resolve_text.ensures ∙ ap (λ (t : List Directory). resolve t c.args.who.now (names c.text.result.now)) c.kept.ensures.value
     ∙ ap (λ (p : Components). resolve c.args.self.now c.args.who.now p) (ap names c.text.ensures.text ∙ names-kept_text c.args.path.now c.text.ensures.names)

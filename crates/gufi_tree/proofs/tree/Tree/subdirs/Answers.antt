@@ -1,9 +1,7 @@
 use Rattle.std.proofs.Common.{◌∙◌}
-use Rattle.gufi_tree.specs.Stored.{directories_of, values_of}
 use Rattle.gufi_tree.proofs.Linked.{ids_under-children}
 use Rattle.gufi_tree.proofs.tree.Tree.subdirs.Goals as goal
 
 pub returns : goal.returns
 returns c =
-    let tree = directories_of (values_of c.self.inside.stored.items) in
-    rw (← c.self.view_is) (c.subdirs.ensures ∙ ids_under-children tree c.self.inside.links c.self.invariant.shape c.self.invariant.parents c.args.id.0 (rw (c.self.view_is) c.requires))
+    rw (← c.self.view_is) (c.subdirs.ensures ∙ ids_under-children c.self.inside.dirs c.self.inside.links c.self.invariant.shape c.self.invariant.parents c.args.id.0 (rw (c.self.view_is) c.requires))

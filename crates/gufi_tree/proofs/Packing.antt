@@ -1,0 +1,133 @@
+-- What is packed goes on to mean the same when more is packed behind it.
+use Rattle.std.proofs.Common.{◌≡◌, ◌∙◌, ℕ, ◌+◌, ◌≤◌, List, [], ◌∷◌, ◌++◌, length, map, suc, take, drop, refl, sym, ap, subst, append_assoc, arith}
+use Rattle.std.specs.Prelude.{All, IsTrue, true}
+use Rattle.std.specs.List.{list_all}
+use Rattle.std.proofs.lemmas.List.{append-nil, drop-append-le, drop_at, drop-map, length-append, length-drop, length-map, map-append, take-append-le, take-map, take_all}
+use Rattle.std.proofs.lemmas.List.Elements.{All-drop, All-push, All-take, All-weaker}
+use Rattle.gufi_base.specs.Names.{is_name}
+use Rattle.gufi_base.specs.PathTexts.{kept_text, names, IsText}
+use Rattle.gufi_base.proofs.Names.{names-kept_text, IsText-kept_text}
+use Rattle.gufi_tree.specs.declared.tree.Entry.{Entry}
+use Rattle.gufi_tree.specs.declared.bundle.Packed.{Packed}
+use Rattle.gufi_tree.specs.declared.bundle.Head.{Head}
+use Rattle.gufi_tree.specs.Tree.{Directory}
+use Rattle.gufi_tree.specs.Bundles.{bytes_at, directory_in, entries_in, entry_in, name_in, path_in, IsBundle, IsHead, IsPacked}
+use Rattle.gufi_tree.specs.Packing.{GoesOn}
+
+-- what holds of each, where two functions are equal
+pub map-same : {X Y : Type 0} (f g : X → Y) (xs : List X) → All (λ x. f x ≡ g x) xs → map f xs ≡ map g xs
+map-same f g [] same = refl
+map-same f g (x ∷ xs) same = ap (λ y. y ∷ map f xs) (same 0 x (omega arith)) ∙ ap (λ ys. g x ∷ ys) (map-same f g xs (λ k d lt. same (suc k) d (omega (arith, lt))))
+
+-- a part of a list that goes on
+part-more : {X : Type 0} (xs more : List X) (at count : ℕ) → at + count ≤ length xs → take count (drop at (xs ++ more)) ≡ take count (drop at xs)
+part-more xs more at count within =
+    ap (take count) (drop-append-le at xs more (omega (arith, within))) ∙ take-append-le count (drop at xs) more (omega (arith, within, length-drop at xs))
+
+entry_in-more : (text more : List ℕ) (p : Packed) → IsPacked text p → entry_in (text ++ more) p ≡ entry_in text p
+entry_in-more text more p is =
+    let name : name_in (text ++ more) p ≡ name_in text p = part-more text more p.at p.name (omega (arith, is.within)) in
+    let link : bytes_at (text ++ more) (p.at + p.name) p.link ≡ bytes_at text (p.at + p.name) p.link = part-more text more (p.at + p.name) p.link is.within in
+    λ i. record { name = name i; rec = record { link = link i; meta = p.meta } }
+
+IsPacked-more : (text more : List ℕ) (p : Packed) → IsPacked text p → IsPacked (text ++ more) p
+IsPacked-more text more p is = record {
+  within = omega (arith, is.within, length-append text more);
+  name = subst (λ n. IsTrue (is_name n)) (sym (part-more text more p.at p.name (omega (arith, is.within)))) is.name;
+}
+
+entries_in-more : (text more : List ℕ) (rows : List Packed) → All (IsPacked text) rows → entries_in (text ++ more) rows ≡ entries_in text rows
+entries_in-more text more rows all = map-same (entry_in (text ++ more)) (entry_in text) rows (All-weaker (IsPacked text) _ (entry_in-more text more) rows all)
+
+pub entries_in-goes_on : (text next : List ℕ) (rows : List Packed) → (more : List ℕ) × (next ≡ text ++ more) → All (IsPacked text) rows → entries_in next rows ≡ entries_in text rows
+entries_in-goes_on text next rows more all = ap (λ t. entries_in t rows) more.1 ∙ entries_in-more text more.0 rows all
+
+pub IsPacked-goes_on : (text next : List ℕ) (rows : List Packed) → (more : List ℕ) × (next ≡ text ++ more) → All (IsPacked text) rows → All (IsPacked next) rows
+IsPacked-goes_on text next rows more all = subst (λ t. All (IsPacked t) rows) (sym more.1) (All-weaker (IsPacked text) (IsPacked (text ++ more.0)) (IsPacked-more text more.0) rows all)
+
+-- some bytes more, and no entry
+pub GoesOn-bytes : (text mid next : List ℕ) (rows after : List Packed) → GoesOn text mid rows after → (more : List ℕ) × (next ≡ mid ++ more) → GoesOn text next rows after
+GoesOn-bytes text mid next rows after goes more = record {
+  bytes = (goes.bytes.0 ++ more.0, more.1 ∙ ap (λ t. t ++ more.0) goes.bytes.1 ∙ append_assoc text goes.bytes.0 more.0);
+  entries = goes.entries;
+  packed = IsPacked-goes_on mid next after more goes.packed;
+}
+
+pub GoesOn-start : (text : List ℕ) (rows : List Packed) → All (IsPacked text) rows → GoesOn text text rows rows
+GoesOn-start text rows all = record { bytes = ([], sym (append-nil text)); entries = ([], sym (append-nil rows)); packed = all }
+
+-- one entry more
+pub GoesOn-push : (text next : List ℕ) (rows : List Packed) (p : Packed) → (more : List ℕ) × (next ≡ text ++ more) → All (IsPacked text) rows → IsPacked next p → GoesOn text next rows (rows ++ p ∷ [])
+GoesOn-push text next rows p more all is = record {
+  bytes = more;
+  entries = (p ∷ [], refl);
+  packed = All-push (IsPacked next) rows p (IsPacked-goes_on text next rows more all) is;
+}
+
+pub entries_in-push : (text next : List ℕ) (rows : List Packed) (p : Packed) (entry : Entry) → (more : List ℕ) × (next ≡ text ++ more) → All (IsPacked text) rows → entry_in next p ≡ entry
+    → entries_in next (rows ++ p ∷ []) ≡ entries_in text rows ++ entry ∷ []
+entries_in-push text next rows p entry more all is =
+    map-append (entry_in next) rows (p ∷ []) ∙ ap (λ es. es ++ entry_in next p ∷ []) (entries_in-goes_on text next rows more all) ∙ ap (λ e. entries_in text rows ++ e ∷ []) is
+
+-- directories, when a text and its entries go on
+module _ (text next : List ℕ) (rows after : List Packed) (goes : GoesOn text next rows after) (all : All (IsPacked text) rows) where
+  IsHead-more : (h : Head) → IsHead text rows h → IsHead next after h
+  IsHead-more h is = record {
+    within = omega (arith, is.within, ap length goes.bytes.1, length-append text goes.bytes.0);
+    path = subst IsText (sym (ap (λ t. path_in t h) goes.bytes.1 ∙ part-more text goes.bytes.0 h.at h.path (omega (arith, is.within)))) is.path;
+    entries = omega (arith, is.entries, ap length goes.entries.1, length-append rows goes.entries.0);
+  }
+
+  directory_in-more : (h : Head) → IsHead text rows h → directory_in next after h ≡ directory_in text rows h
+  directory_in-more h is =
+      let path : path_in next h ≡ path_in text h = ap (λ t. path_in t h) goes.bytes.1 ∙ part-more text goes.bytes.0 h.at h.path (omega (arith, is.within)) in
+      let link : bytes_at next (h.at + h.path) h.link ≡ bytes_at text (h.at + h.path) h.link =
+      ap (λ t. bytes_at t (h.at + h.path) h.link) goes.bytes.1 ∙ part-more text goes.bytes.0 (h.at + h.path) h.link is.within in
+      let own : List Packed = take h.count (drop h.first rows) in
+      let entries : entries_in next (take h.count (drop h.first after)) ≡ entries_in text own =
+      ap (λ rs. entries_in next (take h.count (drop h.first rs))) goes.entries.1 ∙ ap (entries_in next) (part-more rows goes.entries.0 h.first h.count is.entries)
+      ∙ entries_in-goes_on text next own goes.bytes (All-take (IsPacked text) h.count (drop h.first rows) (All-drop (IsPacked text) h.first rows all)) in
+      λ i. record { path = names (path i); rec = record { link = link i; meta = h.meta }; entries = entries i }
+
+  pub directories-goes_on : (heads : List Head) → All (IsHead text rows) heads → map (directory_in next after) heads ≡ map (directory_in text rows) heads
+  directories-goes_on heads each = map-same (directory_in next after) (directory_in text rows) heads (All-weaker (IsHead text rows) _ directory_in-more heads each)
+
+  pub IsBundle-goes_on : (heads : List Head) → All (IsHead text rows) heads → IsBundle next after heads
+  IsBundle-goes_on heads each = record { each = All-weaker (IsHead text rows) (IsHead next after) IsHead-more heads each; packed = goes.packed }
+
+pub IsBundle-push : (text : List ℕ) (rows : List Packed) (heads : List Head) (h : Head) → IsBundle text rows heads → IsHead text rows h → IsBundle text rows (heads ++ h ∷ [])
+IsBundle-push text rows heads h is here = record { each = All-push (IsHead text rows) heads h is.each here; packed = is.packed }
+
+-- the entries that were packed last
+module _ (text next : List ℕ) (rows after : List Packed) (entries : List Entry) (is : entries_in next after ≡ entries_in text rows ++ entries) where
+  pub length-last : length after ≡ length rows + length entries
+  length-last = omega (arith, ap length is, length-append (entries_in text rows) entries, length-map after (entry_in next), length-map rows (entry_in text))
+
+  pub entries_in-last : (first count : ℕ) → first ≡ length rows → count ≡ length entries → entries_in next (take count (drop first after)) ≡ entries
+  entries_in-last first count f c =
+      sym (ap (take count) (drop-map (entry_in next) first after) ∙ take-map (entry_in next) count (drop first after)) ∙ ap (λ es. take count (drop first es)) is
+      ∙ ap (take count) (drop_at (entries_in text rows) entries first (omega (arith, f, length-map rows (entry_in text)))) ∙ take_all count entries (omega (arith, c))
+
+-- a directory whose path and link were put behind the text of its entries
+module _ (text mid next : List ℕ) (rows after : List Packed) (h : Head) (dir : Directory) (kept link : List ℕ) (is : entries_in mid after ≡ entries_in text rows ++ dir.entries)
+    (more : (bytes : List ℕ) × (next ≡ mid ++ bytes)) (within : h.at + length kept + length link ≤ length next) (first : h.first ≡ length rows) (count : h.count ≡ length dir.entries)
+    (path : h.path ≡ length kept) (target : h.link ≡ length link) (of : kept ≡ kept_text dir.path) (put : bytes_at next h.at (length kept) ≡ kept) (named : list_all is_name dir.path ≡ true) where
+  kept_there : path_in next h ≡ kept_text dir.path
+  kept_there = ap (bytes_at next h.at) path ∙ put ∙ of
+
+  pub IsHead-put : IsHead next after h
+  IsHead-put = record {
+    within = omega (arith, within, path, target);
+    path = subst IsText (sym kept_there) (IsText-kept_text dir.path named);
+    entries = omega (arith, first, count, length-last text mid rows after dir.entries is);
+  }
+
+  pub directory_in-put : h.meta ≡ dir.rec.meta → link ≡ dir.rec.link → bytes_at next (h.at + length kept) (length link) ≡ link → All (IsPacked mid) after → directory_in next after h ≡ dir
+  directory_in-put meta l there packed =
+      let own : List Packed = take h.count (drop h.first after) in
+      let names_there : names (path_in next h) ≡ dir.path = ap names kept_there ∙ names-kept_text dir.path named in
+      let link_there : bytes_at next (h.at + h.path) h.link ≡ dir.rec.link = ap (λ n. bytes_at next (h.at + n) h.link) path ∙ ap (bytes_at next (h.at + length kept)) target ∙ there ∙ l in
+      let entries : entries_in next own ≡ dir.entries =
+      entries_in-goes_on mid next own more (All-take (IsPacked mid) h.count (drop h.first after) (All-drop (IsPacked mid) h.first after packed))
+      ∙ entries_in-last text mid rows after dir.entries is h.first h.count first count in
+      λ i. record { path = names_there i; rec = record { link = link_there i; meta = meta i }; entries = entries i }

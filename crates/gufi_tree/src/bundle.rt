@@ -1,0 +1,235 @@
+//! Bundles: directories packed side by side, with one vector of entries and one text for all of them.
+
+ghost use Rattle.std.specs.Prelude.{◌≡◌, ℕ, ◌+◌, ◌<◌, ◌≤◌, ◌++◌, ◌∷◌, [], List, length, slice_index_or, All, IfOk, OnOk, OnErr};
+ghost use Rattle.gufi_tree.specs.Tree.{Directory};
+ghost use Rattle.gufi_tree.specs.Stored.{directory_of};
+ghost use Rattle.gufi_tree.specs.Bundles.{bytes_at, directory_in, entry_in, entries_in, IsHead, IsPacked};
+ghost use Rattle.gufi_tree.specs.Packing.{GoesOn};
+
+use crate::borrowed::DirRef;
+use crate::tree::{Entry, Stored};
+use gufi_base::Meta;
+use std::alloc::{AllocError, Global};
+use std::marker::Model;
+
+/// An entry: its record, and where its name and behind it its link stand in a text, by their lengths in bytes. It has 88 bytes.
+#[derive(Clone, Copy)]
+pub(crate) struct Packed {
+    pub(crate) meta: Meta,
+    pub(crate) at: u32,
+    pub(crate) link: u16,
+    pub(crate) name: u8,
+}
+
+/// A directory: its record, where the kept text of its path and behind it its link stand in a text, by their lengths in bytes, and
+/// which entries are its own. It has 96 bytes.
+#[derive(Clone, Copy)]
+pub(crate) struct Head {
+    pub(crate) meta: Meta,
+    pub(crate) at: u32,
+    pub(crate) path: u16,
+    pub(crate) link: u16,
+    pub(crate) first: u32,
+    pub(crate) count: u32,
+}
+
+/// Directories with their entries, in memory that they share: three arrays. The text has less than 4 GiB.
+#[derive(Drop)]
+pub(crate) struct Bundle {
+    heads: Vec<Head>,
+    rows: Vec<Packed>,
+    text: Vec<u8>,
+}
+
+impl Model for Bundle {
+    ghost use Rattle.std.specs.Prelude.{List, map};
+    ghost use Rattle.gufi_tree.specs.Tree.{Directory};
+
+    ghost Value = { List Directory };
+
+    ghost use Rattle.gufi_tree.specs.Bundles.{directory_in, IsBundle};
+
+    ghost view = { λ b. map (directory_in b.text.items b.rows.items) b.heads.items };
+
+    ghost invariant = { λ b. IsBundle b.text.items b.rows.items b.heads.items };
+}
+
+/// A number of 32 bits; a larger one is taken for want of memory.
+pub(crate) fn word_of(n: usize) -> Result<u32, AllocError>
+    ensures { IfOk result (λ word. word ≡ n) }
+{
+    if n > u32::MAX as usize {
+        return Err(AllocError);
+    }
+    Ok(n as u32)
+}
+
+/// A length of 16 bits; a larger one is taken for want of memory.
+fn short_length(n: usize) -> Result<u16, AllocError>
+    ensures { IfOk result (λ short. short ≡ n) }
+{
+    if n > u16::MAX as usize {
+        return Err(AllocError);
+    }
+    Ok(n as u16)
+}
+
+/// Puts some bytes and a link behind a text, and tells where they begin.
+fn put_bytes(text: &mut Vec<u8>, bytes: &[u8], link: &[u8]) -> Result<u32, AllocError>
+    ensures grown { (more : List ℕ) × (text.new.items ≡ text.old.items ++ more) }
+    ensures within { IfOk result (λ at. at + length bytes.now + length link.now ≤ length text.new.items) }
+    ensures bytes { IfOk result (λ at. bytes_at text.new.items at (length bytes.now) ≡ bytes.now) }
+    ensures link { IfOk result (λ at. bytes_at text.new.items (at + length bytes.now) (length link.now) ≡ link.now) }
+{
+    let at = word_of(text.len())?;
+    text.extend_from_slice(bytes)?;
+    text.extend_from_slice(link)?;
+    Ok(at)
+}
+
+/// Puts the bytes of an entry behind a text.
+fn pack_entry(text: &mut Vec<u8>, entry: &Entry) -> Result<Packed, AllocError>
+    ensures grown { (more : List ℕ) × (text.new.items ≡ text.old.items ++ more) }
+    ensures packed { IfOk result (IsPacked text.new.items) }
+    ensures entry { IfOk result (λ packed. entry_in text.new.items packed ≡ entry.now) }
+{
+    let name = entry.name.as_slice();
+    let target = entry.rec.link.as_slice();
+    let link = short_length(target.len())?;
+    let at = put_bytes(text, name, target)?;
+    let meta = entry.rec.meta;
+    Ok(Packed {
+        meta,
+        at,
+        link,
+        name: name.len() as u8,
+    })
+}
+
+/// Packs an entry behind others.
+fn push_entry(text: &mut Vec<u8>, rows: &mut Vec<Packed>, entry: &Entry) -> Result<(), AllocError>
+    requires { All (IsPacked text.old.items) rows.old.items }
+    ensures goes_on { GoesOn text.old.items text.new.items rows.old.items rows.new.items }
+    ensures entry { OnOk result (entries_in text.new.items rows.new.items ≡ entries_in text.old.items rows.old.items ++ entry.now ∷ []) }
+{
+    let packed = pack_entry(text, entry)?;
+    rows.push(packed)?;
+    Ok(())
+}
+
+/// Packs entries behind others.
+fn push_entries(
+    text: &mut Vec<u8>,
+    rows: &mut Vec<Packed>,
+    entries: &[Entry],
+) -> Result<(), AllocError>
+    requires { All (IsPacked text.old.items) rows.old.items }
+    ensures goes_on { GoesOn text.old.items text.new.items rows.old.items rows.new.items }
+    ensures entries { OnOk result (entries_in text.new.items rows.new.items ≡ entries_in text.old.items rows.old.items ++ entries.now) }
+{
+    rows.reserve(entries.len())?;
+    for entry in entries {
+        push_entry(text, rows, entry)?;
+    }
+    Ok(())
+}
+
+/// Packs a directory's entries behind others, and puts its path and its link behind the text.
+fn pack_directory(
+    text: &mut Vec<u8>,
+    rows: &mut Vec<Packed>,
+    dir: &Stored,
+) -> Result<Head, AllocError>
+    requires { All (IsPacked text.old.items) rows.old.items }
+    ensures goes_on { GoesOn text.old.items text.new.items rows.old.items rows.new.items }
+    ensures head { IfOk result (IsHead text.new.items rows.new.items) }
+    ensures directory { IfOk result (λ head. directory_in text.new.items rows.new.items head ≡ directory_of dir.now) }
+{
+    let first = word_of(rows.len())?;
+    let count = word_of(dir.entries.len())?;
+    push_entries(text, rows, dir.entries.as_slice())?;
+    let kept = dir.path.text();
+    let target = dir.rec.link.as_slice();
+    let path = short_length(kept.len())?;
+    let link = short_length(target.len())?;
+    let at = put_bytes(text, kept, target)?;
+    let meta = dir.rec.meta;
+    Ok(Head {
+        meta,
+        at,
+        path,
+        link,
+        first,
+        count,
+    })
+}
+
+impl Bundle {
+    /// No directory. Takes no memory.
+    pub(crate) fn new(alloc: Global) -> Bundle
+        ensures { result ≡ [] }
+    {
+        Bundle {
+            heads: Vec::new(alloc),
+            rows: Vec::new(alloc),
+            text: Vec::new(alloc),
+        }
+    }
+
+    /// How many directories there are.
+    pub(crate) fn len(&self) -> usize
+        ensures { result ≡ length self.now }
+    {
+        self.heads.len()
+    }
+
+    /// How many directories and entries are kept.
+    pub(crate) fn rows(&self) -> usize {
+        self.heads.len().saturating_add(self.rows.len())
+    }
+
+    /// The directory at a place. `O(1)`.
+    #[inline]
+    pub(crate) fn at(&self, place: usize) -> DirRef<'_>
+        requires { place < length self.now }
+        ensures { (d : Directory) → result ≡ slice_index_or self.now place d }
+    {
+        DirRef::of(
+            &self.heads[place],
+            self.rows.as_slice(),
+            self.text.as_slice(),
+        )
+    }
+
+    /// Packs a directory behind the others, in time in proportion to its bytes.
+    ///
+    /// What doesn't fit is answered as want of memory: a path or a link of more than 65,535 bytes, or bytes behind the first 4 GiB.
+    pub(crate) fn push(&mut self, dir: &Stored) -> Result<(), AllocError>
+        ensures pushed { OnOk result (self.new ≡ self.old ++ directory_of dir.now ∷ []) }
+        ensures unchanged { OnErr result (self.new ≡ self.old) }
+    {
+        let head = pack_directory(&mut self.text, &mut self.rows, dir)?;
+        self.heads.push(head)?;
+        Ok(())
+    }
+
+    /// The same directories, in as much memory as they take.
+    pub(crate) fn copy(&self, alloc: Global) -> Result<Bundle, AllocError>
+        ensures { IfOk result (λ copy. copy ≡ self.now) }
+    {
+        Ok(Bundle {
+            heads: Vec::from_slice(alloc, self.heads.as_slice())?,
+            rows: Vec::from_slice(alloc, self.rows.as_slice())?,
+            text: Vec::from_slice(alloc, self.text.as_slice())?,
+        })
+    }
+
+    /// Gives up all directories and keeps the memory.
+    pub(crate) fn clear(&mut self)
+        ensures { self.new ≡ [] }
+    {
+        self.heads.clear();
+        self.rows.clear();
+        self.text.clear();
+    }
+}

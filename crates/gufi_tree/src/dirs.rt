@@ -1,0 +1,217 @@
+//! Directories as they are kept: by their places in bundles, which lists of directories share.
+
+ghost use Rattle.std.specs.Prelude.{◌≡◌, ◌<◌, ◌++◌, ◌∷◌, [], length, map, slice_index_or, IfOk, OnOk};
+ghost use Rattle.std.specs.Arc.{arc_value};
+ghost use Rattle.std.specs.List.Sorted.{IsPermutation};
+ghost use Rattle.gufi_tree.specs.Tree.{Directory};
+ghost use Rattle.gufi_tree.specs.Stored.{directory_of};
+ghost use Rattle.gufi_tree.specs.Bundled.{lists_of, directory_at, Keep, Stands};
+
+use crate::borrowed::DirRef;
+use crate::bundle::{Bundle, word_of};
+use crate::likely::move_to;
+use crate::tree::Stored;
+use gufi_base::text_cmp;
+use std::alloc::{AllocError, Global};
+use std::cmp::Ordering;
+use std::marker::Model;
+use std::sync::Arc;
+
+/// How many directories and entries a bundle has before the next one begins: few, so that little is copied where it is changed.
+const ENOUGH: usize = 512;
+
+/// The number of a bundle, and which of its directories.
+#[derive(Clone, Copy)]
+pub(crate) struct Place {
+    bundle: u32,
+    head: u32,
+}
+
+/// Directories, each with its entries. Contracts see their list.
+#[derive(Drop)]
+pub struct Dirs {
+    bundles: Vec<Arc<Bundle, Global>>,
+    last: Bundle,
+    places: Vec<Place>,
+}
+
+impl Model for Dirs {
+    ghost use Rattle.gufi_tree.specs.Tree.{Directory};
+    ghost use Rattle.std.specs.Prelude.{List, All};
+
+    ghost Value = { List Directory };
+
+    ghost use Rattle.gufi_tree.specs.Bundled.{lists_of, directories_at, Stands};
+
+    ghost view = { λ d. directories_at (lists_of d.bundles.items d.last) d.places.items };
+
+    ghost invariant = { λ d. All (Stands (lists_of d.bundles.items d.last)) d.places.items };
+}
+
+/// The bundle of a number; the last one's is that behind the others.
+#[inline]
+fn bundle_at<'a>(bundles: &'a [Arc<Bundle, Global>], last: &'a Bundle, number: u32) -> &'a Bundle
+    requires { number < length (lists_of bundles.now last.now) }
+    ensures { result.now ≡ slice_index_or (lists_of bundles.now last.now) number [] }
+{
+    let number = number as usize;
+    if number < bundles.len() {
+        &bundles[number]
+    } else {
+        last
+    }
+}
+
+/// The same bundles, shared once more.
+fn share_bundles(
+    alloc: Global,
+    bundles: &[Arc<Bundle, Global>],
+) -> Result<Vec<Arc<Bundle, Global>>, AllocError>
+    ensures { IfOk result (λ again. map arc_value again.items ≡ map arc_value bundles.now) }
+{
+    let mut again = Vec::with_capacity(alloc, bundles.len())?;
+    for bundle in bundles {
+        again.push(Arc::try_clone(bundle)?)?;
+    }
+    Ok(again)
+}
+
+/// Puts the last bundle's directories behind the other bundles, in as much memory as they take, and begins the last one anew.
+fn close_last(
+    alloc: Global,
+    bundles: &mut Vec<Arc<Bundle, Global>>,
+    last: &mut Bundle,
+) -> Result<(), AllocError>
+    ensures { Keep (lists_of bundles.old.items last.old) (lists_of bundles.new.items last.new) }
+{
+    let copy = last.copy(alloc)?;
+    bundles.push(Arc::new(alloc, copy)?)?;
+    last.clear();
+    Ok(())
+}
+
+/// Begins the last bundle anew where it has enough.
+fn make_room(
+    alloc: Global,
+    bundles: &mut Vec<Arc<Bundle, Global>>,
+    last: &mut Bundle,
+) -> Result<(), AllocError>
+    ensures { Keep (lists_of bundles.old.items last.old) (lists_of bundles.new.items last.new) }
+{
+    if last.rows() < ENOUGH {
+        return Ok(());
+    }
+    close_last(alloc, bundles, last)
+}
+
+/// Packs a directory behind those of the last bundle.
+fn push_last(
+    bundles: &[Arc<Bundle, Global>],
+    last: &mut Bundle,
+    dir: &Stored,
+) -> Result<Place, AllocError>
+    ensures keep { Keep (lists_of bundles.now last.old) (lists_of bundles.now last.new) }
+    ensures stands { IfOk result (Stands (lists_of bundles.now last.new)) }
+    ensures directory { IfOk result (λ place. directory_at (lists_of bundles.now last.new) place ≡ directory_of dir.now) }
+{
+    let bundle = word_of(bundles.len())?;
+    let head = word_of(last.len())?;
+    last.push(dir)?;
+    Ok(Place { bundle, head })
+}
+
+/// The directory at a place, where there is one.
+fn found_at<'a>(
+    bundles: &'a [Arc<Bundle, Global>],
+    last: &'a Bundle,
+    place: Place,
+) -> Option<DirRef<'a>> {
+    let number = place.bundle as usize;
+    if number > bundles.len() {
+        return None;
+    }
+    let bundle = bundle_at(bundles, last, place.bundle);
+    let head = place.head as usize;
+    if head < bundle.len() {
+        Some(bundle.at(head))
+    } else {
+        None
+    }
+}
+
+/// The order of the paths of the directories at two places.
+fn place_cmp(bundles: &[Arc<Bundle, Global>], last: &Bundle, a: Place, b: Place) -> Ordering {
+    match (found_at(bundles, last, a), found_at(bundles, last, b)) {
+        (Some(left), Some(right)) => text_cmp(left.path().text(), right.path().text()),
+        _ => Ordering::Equal,
+    }
+}
+
+impl Dirs {
+    /// No directory.
+    pub fn new(alloc: Global) -> Dirs
+        ensures { result ≡ [] }
+    {
+        Dirs {
+            bundles: Vec::new(alloc),
+            last: Bundle::new(alloc),
+            places: Vec::new(alloc),
+        }
+    }
+
+    /// How many there are.
+    pub fn len(&self) -> usize
+        ensures { result ≡ length self.now }
+    {
+        self.places.len()
+    }
+
+    /// The directory at a place. `O(1)`.
+    #[inline]
+    pub fn at(&self, place: usize) -> DirRef<'_>
+        requires { place < length self.now }
+        ensures { (d : Directory) → result ≡ slice_index_or self.now place d }
+    {
+        let Place { bundle, head } = self.places[place];
+        bundle_at(self.bundles.as_slice(), &self.last, bundle).at(head as usize)
+    }
+
+    /// Adds a directory behind the others. What doesn't fit in a bundle is answered as want of memory: a path or a link of more than
+    /// 65,535 bytes, or 4 GiB of names.
+    pub fn push(&mut self, alloc: Global, dir: Stored) -> Result<(), AllocError>
+        ensures { OnOk result (self.new ≡ self.old ++ directory_of dir ∷ []) }
+    {
+        make_room(alloc, &mut self.bundles, &mut self.last)?;
+        let place = push_last(self.bundles.as_slice(), &mut self.last, &dir)?;
+        self.places.push(place)?;
+        Ok(())
+    }
+
+    /// The same directories. Bundles are shared, but for the last one, which is copied.
+    pub(crate) fn again(&self, alloc: Global) -> Result<Dirs, AllocError>
+        ensures { IfOk result (λ again. again ≡ self.now) }
+    {
+        Ok(Dirs {
+            bundles: share_bundles(alloc, self.bundles.as_slice())?,
+            last: self.last.copy(alloc)?,
+            places: Vec::from_slice(alloc, self.places.as_slice())?,
+        })
+    }
+
+    /// Moves each directory to its place, where each has another.
+    pub(crate) fn move_to(&mut self, places: Vec<u32>)
+        ensures { IsPermutation self.old self.new }
+    {
+        move_to(&mut self.places, places);
+    }
+
+    /// Puts directories in path order; linear where they are.
+    pub(crate) fn sort(&mut self)
+        ensures { IsPermutation self.old self.new }
+    {
+        let bundles = self.bundles.as_slice();
+        let last = &self.last;
+        self.places
+            .sort_unstable_by(|a, b| place_cmp(bundles, last, *a, *b));
+    }
+}
