@@ -129,21 +129,19 @@ slashes (name ∷ path) h =
 pub slashes-text : (text : List ℕ) → IsText text → length (filter (λ b. eqb b 47) text) ≡ suc (length (names text))
 slashes-text text is = ap (λ (t : List ℕ). length (filter (λ b. eqb b 47) t)) (sym is.whole) ∙ ap suc (slashes (names text) is.each)
 
-pub depth-text : (text given : List ℕ) (count : ℕ) → IsText text → given ≡ text → count ≡ length (filter (λ b. eqb b 47) given) → count - 1 ≡ length (names text)
-depth-text text given count is e n = omega (arith, n, ap (λ (t : List ℕ). length (filter (λ b. eqb b 47) t)) e, slashes-text text is)
+pub depth-text : (text : List ℕ) (count : ℕ) → IsText text → count ≡ length (filter (λ b. eqb b 47) text) → count - 1 ≡ length (names text)
+depth-text text count is n = omega (arith, n, slashes-text text is)
 
 some_names : (path : Components) → (path ≡ [] → ⊥) → not (is_empty path) ≡ true
 some_names [] some = absurd (some refl)
 some_names (name ∷ path) some = refl
 
 -- a path is a parent's child where the text before its last name is the parent's
-pub child-text : (text given parent up above : List ℕ) (r : Bool) → IsText text → IsText parent → given ≡ text → up ≡ parent → (names given ≡ [] → ⊥) → above ≡ kept_text (parent_path (names given)) → r ≡ bytes_eq above up
-    → r ≡ is_child_of (names parent) (names text)
-child-text text given parent up above r p q e f some is eq =
-    let texts : bytes_eq above up ≡ bytes_eq (kept_text (parent_path (names text))) (kept_text (names parent)) =
-    ap (λ (t : List ℕ). bytes_eq t up) (is ∙ ap (λ (t : List ℕ). kept_text (parent_path (names t))) e) ∙ ap (bytes_eq (kept_text (parent_path (names text)))) (f ∙ sym q.whole) in
-    eq ∙ texts ∙ same_text (parent_path (names text)) (names parent) (parent_named (names text) p.each) q.each
-    ∙ sym (ap (λ t. t && path_eq (names parent) (parent_path (names text))) (some_names (names text) (λ h. some (ap names e ∙ h))))
+pub child-text : (path parent : Components) (above text : List ℕ) (r : Bool) → list_all is_name path ≡ true → list_all is_name parent ≡ true → (path ≡ [] → ⊥) → above ≡ kept_text (parent_path path) → text ≡ kept_text parent → r ≡ bytes_eq above text
+    → r ≡ is_child_of parent path
+child-text path parent above text r p q some is same eq =
+    let texts : bytes_eq above text ≡ bytes_eq (kept_text (parent_path path)) (kept_text parent) = ap (λ (t : List ℕ). bytes_eq t text) is ∙ ap (bytes_eq (kept_text (parent_path path))) same in
+    eq ∙ texts ∙ same_text (parent_path path) parent (parent_named path p) q ∙ sym (ap (λ t. t && path_eq parent (parent_path path)) (some_names path some))
 
 pub prefix-given : (root front text given : List ℕ) (b : Bool) → front ≡ root → given ≡ text → b ≡ is_prefix (names front) (names given) → b ≡ true → is_prefix (names root) (names text) ≡ true
 prefix-given root front text given b e f is t =

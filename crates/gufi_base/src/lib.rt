@@ -20,12 +20,13 @@ mod predicate;
 mod rec_ref;
 mod record;
 mod steps;
+mod width;
 mod yields;
 
 pub use lines::lines_of;
 pub use list::{Bytes, Items, Nums, Text};
 pub use name::{Name, NameFault, name_cmp};
-pub use number::{put_i64, put_u64, put_u128, read_i64, read_octal, read_u32, read_u64};
+pub use number::{put, put_i64, put_u64, put_u128, read_i64, read_octal, read_u32, read_u64};
 pub use order::{common_front, path_cmp, same_bytes, text_cmp};
 pub use path::{Path, PathFault, path_text};
 pub use path_ref::PathRef;
@@ -35,6 +36,7 @@ pub use rec_ref::RecRef;
 pub use record::{Kind, Line, Meta, Rec, Row, RowRef, read_kind};
 use std::alloc::{AllocError, AllocFailed};
 pub use steps::Steps;
+pub use width::{u16_of, u32_of};
 pub use yields::Yield;
 
 /// Memory was wanted, and there was none.

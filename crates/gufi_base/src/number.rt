@@ -156,6 +156,14 @@ fn fill_wide_digits(buffer: &mut [u8], number: u128) -> usize
     at
 }
 
+/// Appends bytes.
+pub fn put(out: &mut Vec<u8>, text: &[u8]) -> Result<(), Memory>
+    ensures { OnOk result (out.new.items ≡ out.old.items ++ text.now) }
+{
+    out.extend_from_slice(text)?;
+    Ok(())
+}
+
 /// Appends the decimal digits of a number, without leading zeros.
 pub fn put_u64(out: &mut Vec<u8>, number: u64) -> Result<(), Memory>
     ensures ok { OnOk result (out.new.items ≡ out.old.items ++ decimal number) }

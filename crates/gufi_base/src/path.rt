@@ -10,11 +10,7 @@ ghost use Rattle.gufi_base.specs.PathParts.{ArePartsOf};
 
 use crate::Memory;
 use crate::name::Name;
-use crate::order::same_bytes;
-use crate::path_parts::{
-    base_name_of, count_slashes, last_name_at, parent_of, printed_of, stem_and_base_of, stem_of,
-    text_of_child, text_of_row, without_front,
-};
+use crate::path_parts::{last_name_at, text_of_child, text_of_row, without_front};
 use crate::path_reading::{closed, text_of_parts, without_first_slash};
 use crate::path_ref::PathRef;
 use crate::path_relations::{begins_with, child_name, names_behind};
@@ -120,6 +116,7 @@ impl Path {
     }
 
     /// The path, borrowed.
+    #[inline]
     pub fn as_path_ref(&self) -> PathRef<'_>
         ensures { result ≡ self.now }
     {
@@ -150,38 +147,41 @@ impl Path {
     pub fn copy(&self, alloc: Global) -> Result<Path, AllocError>
         ensures { IfOk result (λ path. path ≡ self.now) }
     {
-        let text = Vec::from_slice(alloc, self.text.as_slice())?;
-        Ok(Path { text })
+        self.as_path_ref().copy(alloc)
     }
 
     /// The text that is kept: a slash, and then each name with a slash behind it.
+    #[inline]
     pub fn text(&self) -> &[u8]
         ensures text { result.now ≡ kept_text self.now }
         ensures names { IsTrue (list_all is_name self.now) }
     {
-        self.text.as_slice()
+        self.as_path_ref().text()
     }
 
     /// The printed text: `/` for the root, else a slash and the name for each name.
+    #[inline]
     pub fn printed(&self) -> &[u8]
         ensures { result.now ≡ path_text self.now }
     {
-        printed_of(self.text.as_slice())
+        self.as_path_ref().printed()
     }
 
     /// Whether it is the root.
+    #[inline]
     pub fn is_root(&self) -> bool
         ensures value { result ≡ has_no_element self.now }
         ensures exact { IsTrue result ↔ (self.now ≡ []) }
     {
-        self.text.len() <= 1
+        self.as_path_ref().is_root()
     }
 
     /// How many names it has.
+    #[inline]
     pub fn depth(&self) -> usize
         ensures { result ≡ length self.now }
     {
-        count_slashes(self.text.as_slice()) - 1
+        self.as_path_ref().depth()
     }
 
     /// Whether the front is the path or leads to it.
@@ -192,13 +192,11 @@ impl Path {
     }
 
     /// Whether it is the parent followed by one name.
+    #[inline]
     pub fn is_child_of(&self, parent: &Path) -> bool
         ensures { result ≡ is_child_of parent.now self.now }
     {
-        match parent_of(self.text.as_slice()) {
-            None => false,
-            Some(above) => same_bytes(above, parent.text.as_slice()),
-        }
+        self.as_path_ref().is_child_of(&parent.as_path_ref())
     }
 
     /// What is left of it below a root that it begins with. Takes no memory.
@@ -229,32 +227,36 @@ impl Path {
     }
 
     /// The kept text of the directory that it lies in; the root lies in none.
+    #[inline]
     pub fn parent_text(&self) -> Option<&[u8]>
         ensures { MatchOption result (self.now ≡ []) (λ parent. (self.now ≢ []) × (parent.now ≡ kept_text (parent_path self.now))) }
     {
-        parent_of(self.text.as_slice())
+        self.as_path_ref().parent_text()
     }
 
     /// The last name; the root's is `/`.
+    #[inline]
     pub fn base_name(&self) -> &[u8]
         ensures { result.now ≡ base_name self.now }
     {
-        base_name_of(self.text.as_slice())
+        self.as_path_ref().base_name()
     }
 
     /// What stands before the base name in the printed text.
+    #[inline]
     pub fn stem(&self) -> &[u8]
         ensures { result.now ≡ stem self.now }
     {
-        stem_of(self.text.as_slice())
+        self.stem_and_base().0
     }
 
     /// The stem and the base name, by one look for where they part.
+    #[inline]
     pub fn stem_and_base(&self) -> (&[u8], &[u8])
         ensures stem { result.0.now ≡ stem self.now }
         ensures base { result.1.now ≡ base_name self.now }
     {
-        stem_and_base_of(self.text.as_slice())
+        self.as_path_ref().stem_and_base()
     }
 }
 

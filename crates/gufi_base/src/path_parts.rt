@@ -1,7 +1,7 @@
 //! The parts of a path's kept text.
 
-ghost use Rattle.std.specs.Prelude.{◌≡◌, ◌≢◌, ◌==◌, ◌<◌, ◌≤◌, [], ◌∷◌, ◌++◌, length, filter, drop, IfOk, MatchOption};
-ghost use Rattle.gufi_base.specs.Paths.{path_text, parent_path, base_name, stem};
+ghost use Rattle.std.specs.Prelude.{◌≡◌, ◌==◌, ◌<◌, ◌≤◌, [], ◌∷◌, ◌++◌, length, filter, drop, IfOk};
+ghost use Rattle.gufi_base.specs.Paths.{parent_path};
 ghost use Rattle.gufi_base.specs.PathTexts.{kept_text, names, IsText};
 
 use std::alloc::{AllocError, Global};
@@ -70,54 +70,4 @@ pub(crate) fn last_name_at(text: &[u8]) -> usize
         at -= 1;
     }
     at
-}
-
-/// The text of the directory that a path lies in.
-pub(crate) fn parent_of(text: &[u8]) -> Option<&[u8]>
-    requires { IsText text.now }
-    ensures { MatchOption result
-        (names text.now ≡ [])
-        (λ parent. (names text.now ≢ []) × (parent.now ≡ kept_text (parent_path (names text.now)))) }
-{
-    if text.len() <= 1 {
-        return None;
-    }
-    Some(&text[..last_name_at(text)])
-}
-
-/// The stem of a path, and its base name.
-pub(crate) fn stem_and_base_of(text: &[u8]) -> (&[u8], &[u8])
-    requires { IsText text.now }
-    ensures stem { result.0.now ≡ stem (names text.now) }
-    ensures base { result.1.now ≡ base_name (names text.now) }
-{
-    if text.len() <= 1 {
-        return (&[], text);
-    }
-    let at = last_name_at(text);
-    (&text[..at], &text[at..text.len() - 1])
-}
-
-pub(crate) fn stem_of(text: &[u8]) -> &[u8]
-    requires { IsText text.now }
-    ensures { result.now ≡ stem (names text.now) }
-{
-    stem_and_base_of(text).0
-}
-
-pub(crate) fn base_name_of(text: &[u8]) -> &[u8]
-    requires { IsText text.now }
-    ensures { result.now ≡ base_name (names text.now) }
-{
-    stem_and_base_of(text).1
-}
-
-pub(crate) fn printed_of(text: &[u8]) -> &[u8]
-    requires { IsText text.now }
-    ensures { result.now ≡ path_text (names text.now) }
-{
-    if text.len() <= 1 {
-        return text;
-    }
-    &text[..text.len() - 1]
 }

@@ -9,7 +9,7 @@ ghost use Rattle.gufi_base.specs.PathTexts.{kept_text, names, IsText};
 
 use crate::order::same_bytes;
 use crate::path::Path;
-use crate::path_parts::{base_name_of, count_slashes, parent_of, printed_of, stem_and_base_of};
+use crate::path_parts::{count_slashes, last_name_at};
 use std::alloc::{AllocError, Global};
 use std::marker::Model;
 
@@ -57,10 +57,14 @@ impl<'a> PathRef<'a> {
     }
 
     /// The printed text: `/` for the root, else a slash and the name for each name.
+    #[inline]
     pub fn printed(&self) -> &'a [u8]
         ensures { result.now ≡ path_text self.now }
     {
-        printed_of(self.text)
+        if self.text.len() <= 1 {
+            return self.text;
+        }
+        &self.text[..self.text.len() - 1]
     }
 
     /// Whether it is the root.
@@ -83,9 +87,11 @@ impl<'a> PathRef<'a> {
     pub fn is_child_of(&self, parent: &PathRef<'_>) -> bool
         ensures { result ≡ is_child_of parent.now self.now }
     {
-        match parent_of(self.text) {
+        // A path's own text tells that its names are names.
+        let _text = self.text();
+        match self.parent_text() {
             None => false,
-            Some(above) => same_bytes(above, parent.text),
+            Some(above) => same_bytes(above, parent.text()),
         }
     }
 
@@ -93,14 +99,18 @@ impl<'a> PathRef<'a> {
     pub fn parent_text(&self) -> Option<&'a [u8]>
         ensures { MatchOption result (self.now ≡ []) (λ parent. (self.now ≢ []) × (parent.now ≡ kept_text (parent_path self.now))) }
     {
-        parent_of(self.text)
+        if self.text.len() <= 1 {
+            return None;
+        }
+        Some(&self.text[..last_name_at(self.text)])
     }
 
     /// The last name; the root's is `/`.
+    #[inline]
     pub fn base_name(&self) -> &'a [u8]
         ensures { result.now ≡ base_name self.now }
     {
-        base_name_of(self.text)
+        self.stem_and_base().1
     }
 
     /// The stem and the base name, by one look for where they part.
@@ -108,6 +118,10 @@ impl<'a> PathRef<'a> {
         ensures stem { result.0.now ≡ stem self.now }
         ensures base { result.1.now ≡ base_name self.now }
     {
-        stem_and_base_of(self.text)
+        if self.text.len() <= 1 {
+            return (&[], self.text);
+        }
+        let at = last_name_at(self.text);
+        (&self.text[..at], &self.text[at..self.text.len() - 1])
     }
 }

@@ -4,7 +4,7 @@ ghost use Rattle.std.specs.Prelude.{◌≡◌, ℕ, ◌+◌, ◌-◌, ◌<◌, �
 ghost use Rattle.gufi_page.specs.Packed.{Ascend, GoesOn, HaveBegun, IsIn, IsPut, IsWithin, base_in, bytes_in, link_in, number_at, stem_in};
 ghost use Rattle.gufi_page.specs.declared.text.Stem.{Stem as SeenStem};
 
-use gufi_base::{Memory, RowRef, same_bytes};
+use gufi_base::{Memory, RowRef, same_bytes, u16_of, u32_of};
 
 /// The bytes of a stem in a text, and the number of the first row that has it. A text has less than 4 GiB.
 #[derive(Clone, Copy)]
@@ -20,26 +20,6 @@ pub struct Ends {
     pub at: u32,
     pub name: u8,
     pub link: u16,
-}
-
-/// A place in a text as a number of 32 bits; a text that is longer is taken for want of memory.
-fn place_of(n: usize) -> Result<u32, Memory>
-    ensures { IfOk result (λ place. place ≡ n) }
-{
-    if n > u32::MAX as usize {
-        return Err(Memory);
-    }
-    Ok(n as u32)
-}
-
-/// A link's length as a number of 16 bits; a link that is longer is taken for want of memory.
-fn link_length(n: usize) -> Result<u16, Memory>
-    ensures { IfOk result (λ short. short ≡ n) }
-{
-    if n > u16::MAX as usize {
-        return Err(Memory);
-    }
-    Ok(n as u16)
 }
 
 /// The bytes of a stem.
@@ -72,9 +52,9 @@ fn put_stem(text: &mut Vec<u8>, bytes: &[u8], first: u32) -> Result<Stem, Memory
     ensures first { IfOk result (λ stem. stem.first ≡ first) }
     ensures bytes { IfOk result (λ stem. bytes_in text.new.items stem ≡ bytes.now) }
 {
-    let from = place_of(text.len())?;
+    let from = u32_of(text.len())?;
     text.extend_from_slice(bytes)?;
-    let end = place_of(text.len())?;
+    let end = u32_of(text.len())?;
     Ok(Stem { from, end, first })
 }
 
@@ -86,8 +66,8 @@ fn put_ends(text: &mut Vec<u8>, base: &[u8], link: &[u8]) -> Result<Ends, Memory
     ensures base { IfOk result (λ ends. base_in text.new.items ends ≡ base.now) }
     ensures link { IfOk result (λ ends. link_in text.new.items ends ≡ link.now) }
 {
-    let at = place_of(text.len())?;
-    let length = link_length(link.len())?;
+    let at = u32_of(text.len())?;
+    let length = u16_of(link.len())?;
     text.extend_from_slice(base)?;
     text.extend_from_slice(link)?;
     Ok(Ends {

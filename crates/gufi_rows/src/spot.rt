@@ -7,7 +7,7 @@ ghost use Rattle.gufi_base.specs.Paths.{Components, path_cmp};
 ghost use Rattle.gufi_base.specs.PathParts.{ArePartsOf};
 ghost use Rattle.gufi_rows.specs.PathLists.{Grows, IsSpan, IsSpot, bytes_in, path_in, StandsBehind, FitsBehind, SpotFitsBehind, span_behind, spot_behind};
 
-use gufi_base::{Memory, common_front, same_bytes, text_cmp};
+use gufi_base::{Memory, common_front, same_bytes, text_cmp, u32_of};
 use std::cmp::Ordering;
 
 /// Bytes of a text, from a place to another. A text has less than 4 GiB.
@@ -32,16 +32,6 @@ pub(crate) struct Parts<'a> {
     pub(crate) base: &'a [u8],
 }
 
-/// A place in a text as a number of 32 bits; a text that is longer is taken for want of memory.
-pub(crate) fn place_of(n: usize) -> Result<u32, Memory>
-    ensures { IfOk result (λ place. place ≡ n) }
-{
-    if n > u32::MAX as usize {
-        return Err(Memory);
-    }
-    Ok(n as u32)
-}
-
 /// The bytes of a span.
 #[inline]
 pub(crate) fn bytes_at(text: &[u8], span: Span) -> &[u8]
@@ -60,9 +50,9 @@ pub(crate) fn put(text: &mut Vec<u8>, bytes: &[u8]) -> Result<Span, Memory>
     ensures put { OnOk result (text.new.items ≡ text.old.items ++ bytes.now) }
     ensures room { OnOk result (length text.new.items < 2 ^ 32) }
 {
-    let from = place_of(text.len())?;
+    let from = u32_of(text.len())?;
     text.extend_from_slice(bytes)?;
-    let end = place_of(text.len())?;
+    let end = u32_of(text.len())?;
     Ok(Span { from, end })
 }
 

@@ -8,7 +8,7 @@ ghost use Rattle.gufi_tree.specs.Packing.{GoesOn};
 
 use crate::borrowed::DirRef;
 use crate::tree::{Entry, Stored};
-use gufi_base::Meta;
+use gufi_base::{Meta, u16_of, u32_of};
 use std::alloc::{AllocError, Global};
 use std::marker::Model;
 
@@ -54,26 +54,6 @@ impl Model for Bundle {
     ghost invariant = { λ b. IsBundle b.text.items b.rows.items b.heads.items };
 }
 
-/// A number of 32 bits; a larger one is taken for want of memory.
-pub(crate) fn word_of(n: usize) -> Result<u32, AllocError>
-    ensures { IfOk result (λ word. word ≡ n) }
-{
-    if n > u32::MAX as usize {
-        return Err(AllocError);
-    }
-    Ok(n as u32)
-}
-
-/// A length of 16 bits; a larger one is taken for want of memory.
-fn short_length(n: usize) -> Result<u16, AllocError>
-    ensures { IfOk result (λ short. short ≡ n) }
-{
-    if n > u16::MAX as usize {
-        return Err(AllocError);
-    }
-    Ok(n as u16)
-}
-
 /// Puts some bytes and a link behind a text, and tells where they begin.
 fn put_bytes(text: &mut Vec<u8>, bytes: &[u8], link: &[u8]) -> Result<u32, AllocError>
     ensures grown { (more : List ℕ) × (text.new.items ≡ text.old.items ++ more) }
@@ -81,7 +61,7 @@ fn put_bytes(text: &mut Vec<u8>, bytes: &[u8], link: &[u8]) -> Result<u32, Alloc
     ensures bytes { IfOk result (λ at. bytes_at text.new.items at (length bytes.now) ≡ bytes.now) }
     ensures link { IfOk result (λ at. bytes_at text.new.items (at + length bytes.now) (length link.now) ≡ link.now) }
 {
-    let at = word_of(text.len())?;
+    let at = u32_of(text.len())?;
     text.extend_from_slice(bytes)?;
     text.extend_from_slice(link)?;
     Ok(at)
@@ -95,7 +75,7 @@ fn pack_entry(text: &mut Vec<u8>, entry: &Entry) -> Result<Packed, AllocError>
 {
     let name = entry.name.as_slice();
     let target = entry.rec.link.as_slice();
-    let link = short_length(target.len())?;
+    let link = u16_of(target.len())?;
     let at = put_bytes(text, name, target)?;
     let meta = entry.rec.meta;
     Ok(Packed {
@@ -145,13 +125,13 @@ fn pack_directory(
     ensures head { IfOk result (IsHead text.new.items rows.new.items) }
     ensures directory { IfOk result (λ head. directory_in text.new.items rows.new.items head ≡ directory_of dir.now) }
 {
-    let first = word_of(rows.len())?;
-    let count = word_of(dir.entries.len())?;
+    let first = u32_of(rows.len())?;
+    let count = u32_of(dir.entries.len())?;
     push_entries(text, rows, dir.entries.as_slice())?;
     let kept = dir.path.text();
     let target = dir.rec.link.as_slice();
-    let path = short_length(kept.len())?;
-    let link = short_length(target.len())?;
+    let path = u16_of(kept.len())?;
+    let link = u16_of(target.len())?;
     let at = put_bytes(text, kept, target)?;
     let meta = dir.rec.meta;
     Ok(Head {

@@ -8,10 +8,10 @@ ghost use Rattle.gufi_tree.specs.Stored.{directory_of};
 ghost use Rattle.gufi_tree.specs.Bundled.{lists_of, directory_at, Keep, Stands};
 
 use crate::borrowed::DirRef;
-use crate::bundle::{Bundle, word_of};
+use crate::bundle::Bundle;
 use crate::likely::move_to;
 use crate::tree::Stored;
-use gufi_base::text_cmp;
+use gufi_base::{text_cmp, u32_of};
 use std::alloc::{AllocError, Global};
 use std::cmp::Ordering;
 use std::marker::Model;
@@ -114,8 +114,8 @@ fn push_last(
     ensures stands { IfOk result (Stands (lists_of bundles.now last.new)) }
     ensures directory { IfOk result (λ place. directory_at (lists_of bundles.now last.new) place ≡ directory_of dir.now) }
 {
-    let bundle = word_of(bundles.len())?;
-    let head = word_of(last.len())?;
+    let bundle = u32_of(bundles.len())?;
+    let head = u32_of(last.len())?;
     last.push(dir)?;
     Ok(Place { bundle, head })
 }

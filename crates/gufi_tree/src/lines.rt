@@ -22,7 +22,7 @@ use gufi_base::Line;
 use std::alloc::{AllocError, Global};
 
 /// The directories, kept one behind another.
-fn share_all(alloc: Global, stored: Vec<Stored>) -> Result<Dirs, AllocError>
+fn keep_all(alloc: Global, stored: Vec<Stored>) -> Result<Dirs, AllocError>
     ensures { IfOk result (λ dirs. dirs ≡ directories_of stored.items) }
 {
     let mut dirs = Dirs::new(alloc);
@@ -42,7 +42,7 @@ fn arrange(alloc: Global, lines: Vec<Line>) -> Result<Dirs, AllocError>
     sort_directories(&mut stored);
     place(&mut stored, gathered.loose)?;
     sort_entries(&mut stored);
-    share_all(alloc, stored)
+    keep_all(alloc, stored)
 }
 
 /// The directories of the lines, in order, or their least fault.

@@ -31,4 +31,4 @@ returns c =
     (c.sort_entries.ensures.kinds ∙ c.in_ok-place.ensures.kinds g.kinds)
     (AreInOrder-same final sorted (c.sort_entries.ensures.paths ∙ c.in_ok-place.ensures.paths) order)
     c.sort_entries.ensures.order in
-    IfOk-weaker c.share_all.result _ _ (λ shared e. subst (IsArranged lines) (sym e) done) c.share_all.ensures
+    IfOk-weaker c.keep_all.result _ _ (λ kept e. subst (IsArranged lines) (sym e) done) c.keep_all.ensures

@@ -1,6 +1,5 @@
-use Rattle.std.proofs.Common.{refl}
 use Rattle.gufi_base.proofs.Below.{depth-text}
 use Rattle.gufi_base.proofs.path_ref.PathRef.depth.Goals as goal
 
 pub returns : goal.returns
-returns c = rw (← c.self.view_is) (depth-text c.self.inside.text.now _ c.count_slashes.result c.self.invariant refl c.count_slashes.ensures)
+returns c = rw (← c.self.view_is) (depth-text c.self.inside.text.now c.count_slashes.result c.self.invariant c.count_slashes.ensures)

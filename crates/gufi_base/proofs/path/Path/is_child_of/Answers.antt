@@ -1,7 +1,0 @@
-use Rattle.gufi_base.proofs.Below.{child-text}
-use Rattle.gufi_base.proofs.path.Path.is_child_of.Goals as goal
-
-pub returns-in-Some : goal.returns-in-Some
-returns-in-Some c =
-    rw (← c.self.view_is, ← c.parent.view_is) (child-text c.self.inside.text.items c.as_slice.result.now c.parent.inside.text.items c.as_slice-in-Some.result.now c.in-Some.above.now c.same_bytes.result c.self.invariant c.parent.invariant
-    c.as_slice.ensures.value c.as_slice-in-Some.ensures.value (λ e. c.in-Some.ensures.0 e) c.in-Some.ensures.1 c.same_bytes.ensures)
