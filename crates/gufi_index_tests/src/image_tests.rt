@@ -1,54 +1,47 @@
-use crate::lines::{self, line_of};
-use gufi_access::Guard;
-use gufi_base::{Kind, Meta, Path};
 use gufi_image::{ImageError, ImageKind, read_image, write_image};
 use gufi_snap::Snapshot;
-use gufi_tree::build;
+use gufi_trace::read_trace;
+use gufi_tree::build_stanzas;
 use std::alloc::Global;
 use std::test::Fail;
 
-fn meta(kind: Kind, inode: u64, mode: u16, owner: (u32, u32)) -> Meta {
-    let (uid, gid) = owner;
-    Meta {
-        inode,
-        nlink: 2,
-        size: 4096,
-        ..lines::meta(kind, Guard { uid, gid, mode })
-    }
+fn snapshot_of(alloc: Global, trace: &[u8], limit: u64) -> Result<Snapshot, Fail> {
+    let tree = build_stanzas(alloc, read_trace(alloc, b'|', trace)?)?;
+    Ok(Snapshot::build_uncounted(alloc, tree, limit)?)
 }
+
+const LONE_ROOT: &[u8] = b"/|d|1|493|2|101|100|4096|4096|8|10|20|30|
+";
 
 /// A root alone, and the 110 bytes of its image.
 fn lone_root(alloc: Global) -> Result<Snapshot, Fail> {
-    let lines = vec![in alloc; line_of(alloc, 1, b"/", meta(Kind::Dir, 1, 0o755, (101, 100)))?]?;
-    Ok(Snapshot::build_uncounted(alloc, build(alloc, lines)?, 0)?)
+    snapshot_of(alloc, LONE_ROOT, 0)
 }
 
 fn lone_image() -> &'static [u8] {
     b"GUFIX\0\x01\0\0\0\0\0\0\0\0\0\x01\0\0\0\0\0\0\0\xff\xff\xff\xff\0\0\x01\0\0\0\0\0\0\0\xed\x01\x02\0\0\0\0\0\0\0\x65\0\0\0\x64\0\0\0\0\x10\0\0\0\0\0\0\0\x10\0\0\0\0\0\0\x08\0\0\0\0\0\0\0\x0a\0\0\0\0\0\0\0\x14\0\0\0\0\0\0\0\x1e\0\0\0\0\0\0\0\0\0\0\0\0\0"
 }
 
+const WITH_A_FOLD: &[u8] = b"/|d|1|493|2|101|100|4096|4096|8|10|20|30|
+/c|d|2|45|2|102|200|4096|4096|8|10|20|30|
+/c/x|f|3|420|2|102|200|4096|4096|8|10|20|30|
+";
+
 /// A root that may not be rolled up, since few may list the directory in it, which may.
 fn with_a_fold(alloc: Global) -> Result<Snapshot, Fail> {
-    let lines = vec![in alloc;
-        line_of(alloc, 1, b"/", meta(Kind::Dir, 1, 0o755, (101, 100)))?,
-        line_of(alloc, 2, b"/c", meta(Kind::Dir, 2, 0o055, (102, 200)))?,
-        line_of(alloc, 3, b"/c/x", meta(Kind::File, 3, 0o644, (102, 200)))?,
-    ]?;
-    Ok(Snapshot::build_uncounted(alloc, build(alloc, lines)?, 100)?)
+    snapshot_of(alloc, WITH_A_FOLD, 100)
 }
+
+const WIDE: &[u8] = b"/|d|1|493|2|101|100|4096|4096|8|10|20|30|
+/c|f|1|420|2|101|100|4096|4096|8|10|20|30|
+/e|l|1|420|2|101|100|4096|4096|8|10|20|30|
+/m|d|1|493|2|101|100|4096|4096|8|10|20|30|
+/n|d|1|493|2|101|100|4096|4096|8|10|20|30|
+";
 
 /// The image of a root with the files c and e and the directories m and n.
 fn wide_image(alloc: Global) -> Result<Vec<u8>, Fail> {
-    let owner = (101, 100);
-    let lines = vec![in alloc;
-        line_of(alloc, 1, b"/", meta(Kind::Dir, 1, 0o755, owner))?,
-        line_of(alloc, 2, b"/c", meta(Kind::File, 1, 0o644, owner))?,
-        line_of(alloc, 3, b"/e", meta(Kind::Link, 1, 0o644, owner))?,
-        line_of(alloc, 4, b"/m", meta(Kind::Dir, 1, 0o755, owner))?,
-        line_of(alloc, 5, b"/n", meta(Kind::Dir, 1, 0o755, owner))?,
-    ]?;
-    let snap = Snapshot::build_uncounted(alloc, build(alloc, lines)?, 0)?;
-    Ok(write_image(alloc, &snap)?)
+    Ok(write_image(alloc, &snapshot_of(alloc, WIDE, 0)?)?)
 }
 
 /// The fault of some bytes, of which there are few.

@@ -1,6 +1,7 @@
-//! Tests of the index: access rules, lists of rows, pages, trees, stores, sums, snapshots, traces, images, listings, reports and walks.
+//! Tests of how an index is read and written: traces, images, generated traces and listings; and of access rules and sums.
 //!
-//! They stand beside the crates that they call, since a crate with tests is proved twice.
+//! They stand beside the crates that they call, since a crate with tests is proved twice; and apart from the tests of trees,
+//! since a test is proved the sooner the fewer libraries its crate loads.
 #![tactic(auto)]
 
 #[cfg(test)]
@@ -10,28 +11,8 @@ mod gen_tests;
 #[cfg(test)]
 mod image_tests;
 #[cfg(test)]
-mod lines;
-#[cfg(test)]
 mod list_tests;
-#[cfg(test)]
-mod page_tests;
-#[cfg(test)]
-mod roll_tests;
-#[cfg(test)]
-mod rows_tests;
-#[cfg(test)]
-mod snap_tests;
-#[cfg(test)]
-mod stats_tests;
-#[cfg(test)]
-mod store_tests;
 #[cfg(test)]
 mod sums_tests;
 #[cfg(test)]
 mod trace_tests;
-#[cfg(test)]
-mod tree_tests;
-#[cfg(test)]
-mod walk_tests;
-#[cfg(test)]
-mod walkers_tests;

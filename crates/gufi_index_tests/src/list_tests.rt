@@ -1,9 +1,8 @@
 //! Texts written by hand.
-use crate::lines::{meta, row_of};
-use gufi_access::Guard;
-use gufi_base::{Kind, Meta, Row};
+use gufi_base::{Line, Row};
 use gufi_list::{ls_text, stat_text, total_text};
 use gufi_sums::Summary;
+use gufi_trace::read_trace;
 use gufi_users::{Users, read_group, read_passwd};
 use std::alloc::Global;
 use std::test::Fail;
@@ -15,16 +14,17 @@ atime 10 mtime 20 ctime 30
 dirs 2 files 1 links 0 others 0 bytes 7 size 7 7 mtime 20 22 uid 101 102 gid 100 200
 ";
 
+/// The row of a trace's last line.
+fn last_row(alloc: Global, trace: &[u8]) -> Result<Row, Fail> {
+    let mut lines = read_trace(alloc, b'|', trace)?.into_lines(alloc)?;
+    let Line { path, rec, .. } = lines.pop().ok_or("no line")?;
+    Ok(Row { path, rec })
+}
+
 #[test]
 fn a_directory_is_printed(rt: HostRuntime) -> Result<(), Fail> {
     let alloc = rt.alloc();
-    let (uid, gid, mode) = (101, 100, 0o755);
-    let meta = Meta {
-        nlink: 3,
-        size: 4096,
-        ..meta(Kind::Dir, Guard { uid, gid, mode })
-    };
-    let row = row_of(alloc, b"/", meta)?;
+    let row = last_row(alloc, b"/|d|1|493|3|101|100|4096|4096|8|10|20|30|\n")?;
     let sum = Summary {
         dirs: 2,
         files: 1,
@@ -57,19 +57,13 @@ const LISTED: &[u8] = b"drwx------ 2 ana ana 4096 1700000000 ana
 drwxrws--- 2 0 lab 4096 1700000000 proj
 ";
 
-fn listed(alloc: Global, path: &[u8], mode: u16, uid: u32, gid: u32) -> Result<Row, Fail> {
-    let at = 1_700_000_000;
-    let meta = Meta {
-        inode: 2,
-        nlink: 2,
-        size: 4096,
-        atime: at,
-        mtime: at,
-        ctime: at,
-        ..meta(Kind::Dir, Guard { uid, gid, mode })
-    };
-    row_of(alloc, path, meta)
-}
+const ANA: &[u8] = b"/|d|1|493|4|0|0|4096|4096|8|10|20|30|
+/ana|d|2|448|2|1001|1001|4096|4096|8|1700000000|1700000000|1700000000|
+";
+
+const PROJ: &[u8] = b"/|d|1|493|4|0|0|4096|4096|8|10|20|30|
+/proj|d|2|1528|2|0|500|4096|4096|8|1700000000|1700000000|1700000000|
+";
 
 fn example(alloc: Global) -> Result<Users, Fail> {
     let passwd = read_passwd(alloc, PASSWD)?;
@@ -79,8 +73,8 @@ fn example(alloc: Global) -> Result<Users, Fail> {
 
 fn two_rows(alloc: Global) -> Result<Vec<Row>, Fail> {
     let mut rows = Vec::new(alloc);
-    rows.push(listed(alloc, b"/ana", 0o700, 1001, 1001)?)?;
-    rows.push(listed(alloc, b"/proj", 0o2770, 0, 500)?)?;
+    rows.push(last_row(alloc, ANA)?)?;
+    rows.push(last_row(alloc, PROJ)?)?;
     Ok(rows)
 }
 

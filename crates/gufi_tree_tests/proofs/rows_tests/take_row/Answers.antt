@@ -1,5 +1,5 @@
 use Rattle.std.proofs.Common.{arith, [], ◌∷◌, ◌++◌, length-append}
-use Rattle.gufi_index_tests.proofs.rows_tests.take_row.Goals as goal
+use Rattle.gufi_tree_tests.proofs.rows_tests.take_row.Goals as goal
 
 pub returns-clause-count : goal.returns-clause-count
 returns-clause-count g c =

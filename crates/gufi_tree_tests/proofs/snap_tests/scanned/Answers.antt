@@ -3,7 +3,7 @@ use Rattle.gufi_tree.specs.Tree.{all_rows}
 use Rattle.gufi_tree.specs.Places.{path_at}
 use Rattle.gufi_snap.proofs.Growing.{total_nothing}
 use Rattle.gufi_snap.proofs.Pieces.{piece-few}
-use Rattle.gufi_index_tests.proofs.snap_tests.scanned.Goals as goal
+use Rattle.gufi_tree_tests.proofs.snap_tests.scanned.Goals as goal
 
 pub scan_piece-requires-clause-room : goal.scan_piece-requires-clause-room
 scan_piece-requires-clause-room g c =

@@ -1,6 +1,6 @@
 use Rattle.std.proofs.Common.{refl}
 use Rattle.gufi_base.specs.declared.record.Row.{Row}
-use Rattle.gufi_index_tests.proofs.rows_tests.row_of.Goals as goal
+use Rattle.gufi_tree_tests.proofs.rows_tests.row_of.Goals as goal
 
 pub returns : goal.returns
 returns c =
