@@ -4,11 +4,15 @@
 //! It stands on no crate of the index, and all others may stand on it.
 #![tactic(auto)]
 
+mod front;
 mod lines;
 mod list;
 mod name;
+mod named;
 mod number;
+mod number_list;
 mod order;
+mod ordinal;
 mod path;
 mod path_parts;
 mod path_reading;
@@ -23,11 +27,15 @@ mod steps;
 mod width;
 mod yields;
 
+pub use front::{behind, split_first};
 pub use lines::lines_of;
 pub use list::{Bytes, Items, Nums, Text};
 pub use name::{Name, NameFault, name_cmp};
+pub use named::put_named;
 pub use number::{put, put_i64, put_u64, put_u128, read_i64, read_octal, read_u32, read_u64};
+pub use number_list::read_numbers;
 pub use order::{common_front, path_cmp, same_bytes, text_cmp};
+pub use ordinal::{capped_u32, number_at};
 pub use path::{Path, PathFault, path_text};
 pub use path_ref::PathRef;
 pub use piece::{Pieces, pieces_of};

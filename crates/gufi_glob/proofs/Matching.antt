@@ -5,8 +5,8 @@ use Rattle.std.specs.List.{list_any}
 use Rattle.std.proofs.lemmas.Bool.{cases_Bool, false≢true}
 use Rattle.gufi_glob.specs.Parts.{Part, any_text, one_byte, byte_in}
 use Rattle.gufi_glob.specs.Patterns.{matches, suffixes, is_among}
-use Rattle.gufi_glob.specs.declared.piece.Piece.{Piece}
-use Rattle.gufi_glob.specs.Pieces.{takes, is_any_text, part_of, parts_of}
+use Rattle.gufi_glob.specs.declared.part.Part.{Part as Kept}
+use Rattle.gufi_glob.specs.KeptParts.{takes, is_any_text, part_of, parts_of}
 
 -- some end of the text matches
 abbrev pub matches_some_end : List Part → List ℕ → Bool
@@ -157,20 +157,20 @@ star_before any_text e t = trying_star t
 star_before one_byte e t = absurd (false≢true e)
 star_before (byte_in complement ranges) e t = absurd (false≢true e)
 
-pub star_kept : {parts from : List Part} {text begin left : List ℕ} {wanted others : List Piece} {first : Piece} → wanted ≡ first ∷ others → is_any_text (part_of first) ≡ true
+pub star_kept : {parts from : List Part} {text begin left : List ℕ} {wanted others : List Kept} {first : Kept} → wanted ≡ first ∷ others → is_any_text (part_of first) ≡ true
     → Trying parts text from begin (parts_of wanted) left → Trying parts text (parts_of others) left (parts_of others) left
 star_kept {first} cut e t = star_before (part_of first) e (rw cut at t)
 
-pub single_kept : {parts from : List Part} {text begin left behind : List ℕ} {wanted others : List Piece} {first : Piece} {b : ℕ} → wanted ≡ first ∷ others → left ≡ b ∷ behind → takes (part_of first) b ≡ true
+pub single_kept : {parts from : List Part} {text begin left behind : List ℕ} {wanted others : List Kept} {first : Kept} {b : ℕ} → wanted ≡ first ∷ others → left ≡ b ∷ behind → takes (part_of first) b ≡ true
     → Trying parts text from begin (parts_of wanted) left → Trying parts text from begin (parts_of others) behind
 single_kept cut bytes e t = trying_single e (rw (cut, bytes) at t)
 
 -- what is wanted doesn't match a text with a first byte
-pub fails_kept : (wanted others : List Piece) (first : Piece) (left behind : List ℕ) (b : ℕ) → wanted ≡ first ∷ others → left ≡ b ∷ behind → is_any_text (part_of first) ≡ false → takes (part_of first) b ≡ false
+pub fails_kept : (wanted others : List Kept) (first : Kept) (left behind : List ℕ) (b : ℕ) → wanted ≡ first ∷ others → left ≡ b ∷ behind → is_any_text (part_of first) ≡ false → takes (part_of first) b ≡ false
     → matches (parts_of wanted) left ≡ false
 fails_kept wanted others first left behind b cut bytes single e = rw (cut, bytes) (not_taken (part_of first) (parts_of others) b behind single e)
 
-pub fails_done : (wanted : List Piece) (left behind : List ℕ) (b : ℕ) → wanted ≡ [] → left ≡ b ∷ behind → matches (parts_of wanted) left ≡ false
+pub fails_done : (wanted : List Kept) (left behind : List ℕ) (b : ℕ) → wanted ≡ [] → left ≡ b ∷ behind → matches (parts_of wanted) left ≡ false
 fails_done wanted left behind b cut bytes = rw (cut, bytes) refl
 
 pub again_kept : {parts from wanted : List Part} {text begin left next : List ℕ} {c : ℕ} → matches wanted left ≡ false → begin ≡ c ∷ next → Trying parts text from begin wanted left → Trying parts text from next from next

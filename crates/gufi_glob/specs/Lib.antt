@@ -2,7 +2,7 @@ pub mod Parts
 pub mod Patterns
 pub mod Cuts
 pub mod ByteSets
-pub mod Pieces
+pub mod KeptParts
 pub mod Joined
 pub mod Plain
 pub mod Forms

@@ -2,11 +2,11 @@
 ghost use Rattle.std.specs.Prelude.{◌≡◌, ◌≢◌, ◌<◌, ◌==◌, ◌&&◌, not, length, IfOk, IfSome, MatchResult, Ok, Err, false};
 ghost use Rattle.gufi_glob.specs.Patterns.{close_at, closing, is_complemented, sign_length, unescaped_bytes, members as ranges_from, has_class, begins_class, ends_below, bracket};
 ghost use Rattle.std.specs.List.{list_any};
-ghost use Rattle.gufi_glob.specs.Pieces.{part_of};
+ghost use Rattle.gufi_glob.specs.KeptParts.{part_of};
 
 use crate::fault::GlobFault;
 use crate::members::Members;
-use crate::piece::Piece;
+use crate::part::Part;
 use std::alloc::{AllocError, Global};
 
 /// Whether a byte is that one, and no backslash stands before it.
@@ -125,9 +125,9 @@ fn any_falls(ranges: &[(u8, u8)]) -> bool
 }
 
 /// The part that a bracket makes of the bytes before its closing.
-pub(crate) fn bracket(alloc: Global, complement: bool, body: &[u8]) -> Result<Piece, GlobFault>
+pub(crate) fn bracket(alloc: Global, complement: bool, body: &[u8]) -> Result<Part, GlobFault>
     ensures { MatchResult result
-        (λ piece. bracket complement body.now ≡ Ok (part_of piece))
+        (λ part. bracket complement body.now ≡ Ok (part_of part))
         (λ e. e ≢ GlobFault.Memory → bracket complement body.now ≡ Err e) }
 {
     let members = unescaped_bytes(alloc, body)?;
@@ -135,5 +135,5 @@ pub(crate) fn bracket(alloc: Global, complement: bool, body: &[u8]) -> Result<Pi
     if has_class(body) || any_falls(ranges.as_slice()) {
         return Err(GlobFault::BadPattern);
     }
-    Ok(Piece::ByteIn(Members::of(complement, ranges)))
+    Ok(Part::ByteIn(Members::of(complement, ranges)))
 }

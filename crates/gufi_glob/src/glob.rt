@@ -7,8 +7,8 @@ ghost use Rattle.gufi_glob.specs.Plain.{ends_with};
 use crate::fault::GlobFault;
 use crate::joined::Joined;
 use crate::matcher::match_whole;
-use crate::piece::Piece;
-use crate::reader::{behind_star, is_plain, read_pieces};
+use crate::part::Part;
+use crate::reader::{behind_star, is_plain, read_parts};
 use std::alloc::Global;
 use std::marker::Model;
 
@@ -18,7 +18,7 @@ enum Form {
     Plain(Vec<u8>),
     /// A `*` before such bytes.
     Tail(Vec<u8>),
-    Pieces(Vec<Piece>),
+    Parts(Vec<Part>),
 }
 
 /// A pattern.
@@ -91,7 +91,7 @@ impl Glob {
                 Ok(Glob { form })
             }
             _ => {
-                let form = Form::Pieces(read_pieces(alloc, bytes)?);
+                let form = Form::Parts(read_parts(alloc, bytes)?);
                 Ok(Glob { form })
             }
         }
@@ -107,7 +107,7 @@ impl Glob {
         match &self.form {
             Form::Plain(bytes) => is_text(bytes.as_slice(), front, back),
             Form::Tail(tail) => ends_text(tail.as_slice(), front, back),
-            Form::Pieces(pieces) => match_whole(pieces.as_slice(), Joined { front, back }),
+            Form::Parts(parts) => match_whole(parts.as_slice(), Joined { front, back }),
         }
     }
 }

@@ -12,7 +12,7 @@ mod joined;
 mod laws;
 mod matcher;
 mod members;
-mod piece;
+mod part;
 mod reader;
 
 pub use fault::GlobFault;

@@ -1,7 +1,7 @@
 use Rattle.std.proofs.lemmas.List.{map-append}
 use Rattle.std.proofs.lemmas.Result.{err_from_is_err_and}
 use Rattle.gufi_glob.proofs.Reading.{reads_on, reads_stops, reads_done}
-use Rattle.gufi_glob.proofs.reader.read_pieces.Goals as goal
+use Rattle.gufi_glob.proofs.reader.read_parts.Goals as goal
 
 pub returns-in_err-front : goal.returns-in_err-front
 returns-in_err-front c =

@@ -1,7 +1,7 @@
 use Rattle.std.proofs.Common.{arith}
 use Rattle.std.proofs.lemmas.Bool.{ne_eqb}
 use Rattle.gufi_glob.proofs.Unclosed.{unclosed_behind}
-use Rattle.gufi_glob.proofs.reader.front_piece.Goals as goal
+use Rattle.gufi_glob.proofs.reader.front_part.Goals as goal
 
 pub returns-in_default-clause-unclosed : goal.returns-in_default-clause-unclosed
 returns-in_default-clause-unclosed c =
