@@ -2,13 +2,13 @@
 ghost use Rattle.std.specs.Prelude.{◌≡◌};
 ghost use Rattle.gufi_access.specs.Access.{rights, class_for, class_bits, is_granted, can_list, principal};
 
-use crate::groups::{Groups, Members};
+use crate::groups::{GroupList, Members};
 
 /// Who asks: a user ID and any groups.
 #[derive(Drop)]
 pub struct Principal {
     pub uid: u32,
-    pub groups: Groups,
+    pub groups: GroupList,
 }
 
 /// What guards a file: its owner, its group and its mode of 12 bits.

@@ -22,12 +22,12 @@ pub(crate) trait Members {
 ///
 /// The list stays as it was given. Many groups can keep an ascending copy beside it, by which a look-up takes O(log n) steps.
 #[derive(Drop)]
-pub struct Groups {
+pub struct GroupList {
     items: Vec<u32>,
     index: Option<Vec<u32>>,
 }
 
-impl Model for Groups {
+impl Model for GroupList {
     ghost use Rattle.std.specs.Prelude.{List, ℕ, IfSome};
 
     ghost Value = { List ℕ };
@@ -39,25 +39,25 @@ impl Model for Groups {
     ghost invariant = { λ g. IfSome g.index (λ index. IsIndexOf g.items.items index.items) };
 }
 
-impl Groups {
+impl GroupList {
     ghost use Rattle.gufi_access.specs.Access.{is_member};
 
     /// These groups, which are searched in order. Takes no memory.
-    pub fn of(items: Vec<u32>) -> Groups
+    pub fn of(items: Vec<u32>) -> GroupList
         ensures { result ≡ items.items }
     {
-        Groups { items, index: None }
+        GroupList { items, index: None }
     }
 
     /// These groups, with an index where they are more than 16.
-    pub fn indexed(alloc: Global, items: Vec<u32>) -> Result<Groups, AllocError>
+    pub fn indexed(alloc: Global, items: Vec<u32>) -> Result<GroupList, AllocError>
         ensures { IfOk result (λ groups. groups ≡ items.items) }
     {
         if items.len() <= FEW {
-            return Ok(Groups::of(items));
+            return Ok(GroupList::of(items));
         }
         let index = index_of(alloc, &items)?;
-        Ok(Groups {
+        Ok(GroupList {
             items,
             index: Some(index),
         })
@@ -86,10 +86,10 @@ impl Groups {
     }
 }
 
-impl Members for Groups {
+impl Members for GroupList {
     ghost members = { λ groups. groups };
 
     fn has(&self, gid: u32) -> bool {
-        Groups::has(self, gid)
+        GroupList::has(self, gid)
     }
 }

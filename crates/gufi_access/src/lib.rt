@@ -11,4 +11,4 @@ mod index;
 
 pub use class::{Class, Guard, Principal, class_of, granted, lists};
 pub use cover::covers;
-pub use groups::Groups;
+pub use groups::GroupList;

@@ -1,5 +1,5 @@
 //! Tables of classes and of covers, worked by hand.
-use gufi_access::{Class, Groups, Guard, Principal, class_of, covers, granted, lists};
+use gufi_access::{Class, GroupList, Guard, Principal, class_of, covers, granted, lists};
 use std::test::Fail;
 
 fn guard(uid: u32, gid: u32, mode: u16) -> Guard {
@@ -31,7 +31,7 @@ fn one_class_decides(rt: HostRuntime) -> Result<(), Fail> {
     ] {
         let who = Principal {
             uid,
-            groups: Groups::of(vec![in rt.alloc(); group]?),
+            groups: GroupList::of(vec![in rt.alloc(); group]?),
         };
         assert!(rt; class_of(&who, &of) == class);
         assert_eq!(rt; granted(&who, &of, want), answer);
@@ -50,7 +50,7 @@ fn many_groups_have_their_members_and_keep_their_order(rt: HostRuntime) -> Resul
     items.push(4000)?;
     items.push(100)?;
     let given = items.as_slice().to_vec(alloc)?;
-    let groups = Groups::indexed(alloc, items)?;
+    let groups = GroupList::indexed(alloc, items)?;
     assert_eq!(rt; groups.as_slice(), given.as_slice());
     let who = Principal { uid: 102, groups };
     for (gid, answer) in [
@@ -78,7 +78,7 @@ fn few_groups_have_their_members(rt: HostRuntime) -> Result<(), Fail> {
         for gid in 0..count {
             items.push(gid)?;
         }
-        let groups = Groups::indexed(alloc, items)?;
+        let groups = GroupList::indexed(alloc, items)?;
         for (gid, answer) in [(0, true), (count - 1, true), (count, false)] {
             assert_eq!(rt; groups.has(gid), answer);
         }

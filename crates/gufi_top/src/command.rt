@@ -11,7 +11,7 @@ use crate::query::ask;
 use crate::question::Question;
 use crate::rollup::{rollup, trace2index};
 use crate::walk::walk;
-use gufi_access::{Groups, Principal};
+use gufi_access::{GroupList, Principal};
 use gufi_base::Nums;
 use gufi_io::{Gate, Shelf};
 use gufi_walk::Walkers;
@@ -26,7 +26,7 @@ fn principal_of(alloc: Global, uid: u32, gids: &Nums) -> Result<Principal, Alloc
     let groups = Vec::from_slice(alloc, gids.as_slice())?;
     Ok(Principal {
         uid,
-        groups: Groups::indexed(alloc, groups)?,
+        groups: GroupList::indexed(alloc, groups)?,
     })
 }
 

@@ -14,7 +14,7 @@ use crate::reading::read_trace_bytes;
 use crate::rollup::report_of;
 use crate::start::written;
 use crate::walk::snapshot_of;
-use gufi_access::{Groups, Principal};
+use gufi_access::{GroupList, Principal};
 use gufi_base::{Memory, Path};
 use gufi_gen::gen_trace;
 use gufi_io::Gate;
@@ -34,7 +34,7 @@ fn principal_of(alloc: Global, uid: u32, gids: &[u32]) -> Result<Principal, Memo
     let groups = Vec::from_slice(alloc, gids)?;
     Ok(Principal {
         uid,
-        groups: Groups::of(groups),
+        groups: GroupList::of(groups),
     })
 }
 

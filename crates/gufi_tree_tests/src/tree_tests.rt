@@ -1,5 +1,5 @@
 use crate::lines::line;
-use gufi_access::{Class, Groups, Principal};
+use gufi_access::{Class, GroupList, Principal};
 use gufi_base::{Kind, Path};
 use gufi_tree::{DirId, Resolved, TreeFault, build};
 use std::alloc::Global;
@@ -17,7 +17,7 @@ fn paths_lead_where_search_is_granted(rt: HostRuntime) -> Result<(), Fail> {
     let tree = build(alloc, lines)?;
     let who = Principal {
         uid: 102,
-        groups: Groups::of(Vec::new(alloc)),
+        groups: GroupList::of(Vec::new(alloc)),
     };
     let class = Class::Other;
     let rows = [

@@ -1,5 +1,5 @@
 use crate::lines::line;
-use gufi_access::{Class, Groups, Principal};
+use gufi_access::{Class, GroupList, Principal};
 use gufi_base::{Always, Kind, Path};
 use gufi_io::NoGate;
 use gufi_snap::Snapshot;
@@ -31,7 +31,7 @@ fn rows_come_from_listed_directories(rt: HostRuntime) -> Result<(), Fail> {
     ];
     let walkers = Walkers::of(&rt, &NoGate, 1);
     for (uid, start, dirs, files, count, text) in rows {
-        let groups = Groups::of(Vec::new(alloc));
+        let groups = GroupList::of(Vec::new(alloc));
         let who = Principal { uid, groups };
         let start = Path::read(alloc, start)?;
         let sum = answer_sum(&walkers, alloc, &snap, &who, &start, &Always)?;
@@ -56,7 +56,7 @@ fn a_start_is_refused_as_it_resolves(rt: HostRuntime) -> Result<(), Fail> {
     ]?;
     let tree = build(alloc, lines)?;
     let snap = Snapshot::build_uncounted(alloc, tree, 0)?;
-    let groups = Groups::of(Vec::new(alloc));
+    let groups = GroupList::of(Vec::new(alloc));
     let who = Principal { uid: 102, groups };
     let class = Class::Other;
     let rows = [

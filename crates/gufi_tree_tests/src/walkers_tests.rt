@@ -3,7 +3,7 @@
 ghost use Rattle.std.specs.Prelude.{◌≡◌, ◌<◌};
 
 use crate::lines::line;
-use gufi_access::{Groups, Principal};
+use gufi_access::{GroupList, Principal};
 use gufi_base::{Always, Kind, Line, Path, Steps};
 use gufi_io::{Gate, GateKind, NoGate};
 use gufi_rows::PathList;
@@ -48,7 +48,7 @@ fn a_gate_is_told_of_each_directory_of_the_front(rt: HostRuntime) -> Result<(), 
     ]?;
     let tree = build(alloc, lines)?;
     let plain = Snapshot::build_uncounted(alloc, tree, 0)?;
-    let groups = Groups::of(Vec::new(alloc));
+    let groups = GroupList::of(Vec::new(alloc));
     let who = Principal { uid: 102, groups };
     let start = Path::root(alloc)?;
     for (limit, told) in [(100u64, 1u64), (2, 2), (0, 3)] {
@@ -134,7 +134,7 @@ fn many_walkers_give_the_rows_of_one_thread(rt: HostRuntime) -> Result<(), Fail>
     assert!(rt; count == 1876);
     let tree = build(alloc, lines)?;
     let snap = Snapshot::build_uncounted(alloc, tree, 0)?;
-    let groups = Groups::of(Vec::new(alloc));
+    let groups = GroupList::of(Vec::new(alloc));
     let who = Principal { uid: 102, groups };
     let start = Path::root(alloc)?;
     let alone = lines_alone::<Brand>(alloc, &snap, &who, &start, Blank::new(1))?;

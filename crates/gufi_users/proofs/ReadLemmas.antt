@@ -1,15 +1,14 @@
 -- Reading line by line.
-use Rattle.std.proofs.Common.{◌≡◌, ℕ, ◌+◌, List, [], ◌∷◌, ◌++◌, refl, ap}
-use Rattle.std.specs.Prelude.{Result, Ok, Err, Vec, bytes_eq, ◌||◌}
+use Rattle.std.proofs.Common.{◌≡◌, ℕ, ◌+◌, false, true, List, [], ◌∷◌, ◌++◌, refl, sym, ap, ◌∙◌}
+use Rattle.std.specs.Prelude.{Result, Ok, Err, Vec, map, bytes_eq, ◌||◌}
 use Rattle.std.specs.List.{list_any}
 use Rattle.std.specs.declared.alloc.Global.{Global}
 use Rattle.std.proofs.lemmas.List.{map-append}
+use Rattle.gufi_base.specs.Words.{result_map_err, ◌>>=◌}
 use Rattle.gufi_users.specs.declared.fault.UserKind.{UserKind}
+use Rattle.gufi_users.specs.declared.fault.UserKind.TheVariants.{DoubleName}
 use Rattle.gufi_users.specs.declared.fault.UserError.{UserError}
-use Rattle.gufi_users.specs.declared.passwd.Account.{Account}
-use Rattle.gufi_users.specs.declared.group.Membership.{Membership}
-use Rattle.gufi_users.specs.Users.{has_name, user_name, group_name, with_line, read_rows}
-use Rattle.gufi_users.specs.Rows.{passwd_entry, passwd_rows, group_entry, group_rows}
+use Rattle.gufi_users.specs.Users.{has_name, new_row, with_line, read_rows}
 
 pub read_rows_done : {A : Type 0} (name_of : A → List ℕ) (read : List ℕ → Result A UserKind) (n : ℕ) (rows : List A) → read_rows name_of read n rows [] ≡ Ok rows
 unfolding read_rows
@@ -25,16 +24,23 @@ pub read_rows_stops : {A : Type 0} (name_of : A → List ℕ) (read : List ℕ �
 unfolding read_rows
 read_rows_stops name_of read n earlier text rest e one = rw one refl
 
-pub has_user : (name : List ℕ) (rows : List (Vec ℕ Global × Account)) → has_name user_name name (passwd_rows rows) ≡ list_any (λ other. bytes_eq name other.0.items) rows
-has_user name [] = refl
-has_user name (row ∷ rows) = ap (λ b. bytes_eq name row.0.items || b) (has_user name rows)
+-- a line that adds nothing stops what would follow
+pub line_refused : {A B : Type 0} (line : Result A UserKind) (next : A → Result B UserKind) (fault : UserKind → UserError) (e : UserError)
+    → result_map_err fault line ≡ Err e → result_map_err fault (line >>= next) ≡ Err e
+line_refused (Ok x) next fault e is = absurd (let n : Ok x ≡ Err e = is in cc)
+line_refused (Err kind) next fault e is = cc
 
-pub passwd_rows_more : (rows : List (Vec ℕ Global × Account)) (row : Vec ℕ Global × Account) → passwd_rows (rows ++ row ∷ []) ≡ passwd_rows rows ++ passwd_entry row ∷ []
-passwd_rows_more rows row = map-append passwd_entry rows (row ∷ [])
+module _ {T A : Type 0} (name_of : A → List ℕ) (entry : Vec ℕ Global × T → A) (named : (row : Vec ℕ Global × T) → name_of (entry row) ≡ row.0.items) where
+  -- a name stands among the rows of a file where it stands among those of the table
+  has_row : (name : List ℕ) (rows : List (Vec ℕ Global × T)) → has_name name_of name (map entry rows) ≡ list_any (λ other. bytes_eq name other.0.items) rows
+  has_row name [] = refl
+  has_row name (row ∷ rows) = rw (named row) (ap (λ b. bytes_eq name row.0.items || b) (has_row name rows))
 
-pub has_group : (name : List ℕ) (rows : List (Vec ℕ Global × Membership)) → has_name group_name name (group_rows rows) ≡ list_any (λ other. bytes_eq name other.0.items) rows
-has_group name [] = refl
-has_group name (row ∷ rows) = ap (λ b. bytes_eq name row.0.items || b) (has_group name rows)
+  has_own : (row : Vec ℕ Global × T) (rows : List (Vec ℕ Global × T)) → has_name name_of (name_of (entry row)) (map entry rows) ≡ list_any (λ other. bytes_eq row.0.items other.0.items) rows
+  has_own row rows = rw (named row) (has_row row.0.items rows)
 
-pub group_rows_more : (rows : List (Vec ℕ Global × Membership)) (row : Vec ℕ Global × Membership) → group_rows (rows ++ row ∷ []) ≡ group_rows rows ++ group_entry row ∷ []
-group_rows_more rows row = map-append group_entry rows (row ∷ [])
+  pub new_added : (row : Vec ℕ Global × T) (rows : List (Vec ℕ Global × T)) → list_any (λ other. bytes_eq row.0.items other.0.items) rows ≡ false → new_row name_of (map entry rows) (entry row) ≡ Ok (map entry (rows ++ row ∷ []))
+  new_added row rows new = rw (has_own row rows ∙ new) (ap Ok (sym (map-append entry rows (row ∷ []))))
+
+  pub old_refused : (row : Vec ℕ Global × T) (rows : List (Vec ℕ Global × T)) → list_any (λ other. bytes_eq row.0.items other.0.items) rows ≡ true → new_row name_of (map entry rows) (entry row) ≡ Err DoubleName
+  old_refused row rows there = rw (has_own row rows ∙ there) refl

@@ -1,17 +1,16 @@
 //! The group file.
-ghost use Rattle.std.specs.Prelude.{◌≡◌, ◌≢◌, ◌≤◌, Ok, Err, Some, None, OnOk, IfErr, MatchOption, MatchResult, bytes_eq, IfOk, filter, map, option_map};
+ghost use Rattle.std.specs.Prelude.{◌≡◌, Ok, Err, Some, None, MatchOption, MatchResult, bytes_eq, IfOk, filter, map, option_map};
 ghost use Rattle.std.specs.List.{list_any};
 ghost use Rattle.std.specs.Map.{lookup};
 ghost use Rattle.indexmap.specs.IndexMap.{values};
-ghost use Rattle.gufi_base.specs.Words.{GivesUnless, result_map_err, split};
+ghost use Rattle.gufi_base.specs.Words.{GivesUnless, split};
 ghost use Rattle.gufi_users.specs.declared.group.Membership.{Membership};
-ghost use Rattle.gufi_users.specs.Rows.{is_named, group_rows};
-ghost use Rattle.gufi_users.specs.Users.{group_texts, members_of, read_group_line, new_row, with_line, group_name, read_group};
+ghost use Rattle.gufi_users.specs.Rows.{is_named};
+ghost use Rattle.gufi_users.specs.Users.{group_texts, members_of, read_group_line, group_name, read_group};
 
 use crate::fault::{UserError, UserKind};
-use crate::line::{MAX_LINES, is_skipped};
-use crate::row::add_row;
-use gufi_base::{Bytes, Pieces, lines_of, pieces_of, read_u32};
+use crate::table::{FromLine, read_table};
+use gufi_base::{Bytes, Pieces, pieces_of, read_u32};
 use indexmap::IndexMap;
 use std::alloc::{AllocError, Global};
 use std::marker::Model;
@@ -21,6 +20,35 @@ use std::marker::Model;
 pub(crate) struct Membership {
     pub(crate) gid: u32,
     pub(crate) members: Bytes,
+}
+
+impl FromLine for Membership {
+    ghost use Rattle.std.specs.Prelude.{refl};
+    ghost use Rattle.gufi_users.specs.Entries.{GroupEntry};
+    ghost use Rattle.gufi_users.specs.Rows.{group_entry};
+    ghost use Rattle.gufi_users.specs.Users.{group_name, read_group_line};
+
+    ghost Entry = { GroupEntry };
+
+    ghost entry = { group_entry };
+
+    ghost name_of = { group_name };
+
+    ghost means = { read_group_line };
+
+    ghost named = { λ _. refl };
+
+    fn from_line(alloc: Global, number: u32, text: &[u8]) -> Result<(Vec<u8>, Self), UserError> {
+        match group_line(text) {
+            Ok(line) => {
+                let name = Vec::from_slice(alloc, line.name)?;
+                let gid = line.gid;
+                let members = Bytes::from_slice(alloc, line.members)?;
+                Ok((name, Membership { gid, members }))
+            }
+            Err(kind) => Err(UserError::Fault { line: number, kind }),
+        }
+    }
 }
 
 /// The groups of a group file, in file order and by name.
@@ -114,67 +142,12 @@ fn has_member(members: &[u8], name: &[u8]) -> bool
 }
 
 /// Reads a group file. Two allocations a line, and one for the table each time it doubles.
-#[tactic(auto, unfolding(crate::specs::Users::read_group), using(crate::proofs::ReadLemmas::read_rows_more, crate::proofs::ReadLemmas::read_rows_stops, crate::proofs::ReadLemmas::read_rows_done))]
+#[tactic(auto, unfolding(crate::specs::Users::read_group))]
 pub fn read_group(alloc: Global, bytes: &[u8]) -> Result<Groups, UserError>
     ensures { GivesUnless UserError.Memory result (read_group bytes.now) }
 {
-    let mut rows = IndexMap::new(alloc);
-    let mut number = 0;
-    'lines: for text in lines_of(bytes) {
-        number += 1;
-        add_line(&mut rows, alloc, number, text)?;
-    }
+    let rows = read_table(alloc, bytes)?;
     Ok(Groups { rows })
-}
-
-// One line behind the rows of those before it.
-fn add_line(
-    rows: &mut IndexMap<Vec<u8>, Membership>,
-    alloc: Global,
-    number: u32,
-    text: &[u8],
-) -> Result<(), UserError>
-    ensures ok { OnOk result (with_line group_name read_group_line number (group_rows rows.old.entries) text.now ≡ Ok (group_rows rows.new.entries)) }
-    ensures err { IfErr result (λ e. e ≢ UserError.Memory → with_line group_name read_group_line number (group_rows rows.old.entries) text.now ≡ Err e) }
-    ensures number { OnOk result (number ≤ 65536) }
-{
-    if number > MAX_LINES {
-        return Err(UserError::Fault {
-            line: number,
-            kind: UserKind::TooMany { limit: MAX_LINES },
-        });
-    }
-    if is_skipped(text) {
-        return Ok(());
-    }
-    match group_line(text) {
-        Ok(line) => add_group(rows, alloc, number, line.name, line.gid, line.members),
-        Err(kind) => Err(UserError::Fault { line: number, kind }),
-    }
-}
-
-// A group behind the others, if its name is new.
-#[tactic(auto, using(crate::proofs::ReadLemmas::has_group, crate::proofs::ReadLemmas::group_rows_more))]
-fn add_group(
-    rows: &mut IndexMap<Vec<u8>, Membership>,
-    alloc: Global,
-    number: u32,
-    name: &[u8],
-    gid: u32,
-    members: &[u8],
-) -> Result<(), UserError>
-    ensures ok { OnOk result (new_row group_name (group_rows rows.old.entries) (record { name = name.now; gid = gid; members = members_of members.now }) ≡ Ok (group_rows rows.new.entries)) }
-    ensures err { IfErr result (λ e. e ≢ UserError.Memory → result_map_err (UserError.Fault number) (new_row group_name (group_rows rows.old.entries) (record { name = name.now; gid = gid; members = members_of members.now })) ≡ Err e) }
-{
-    let name = Vec::from_slice(alloc, name)?;
-    let members = Bytes::from_slice(alloc, members)?;
-    if add_row(rows, name, Membership { gid, members })? {
-        return Ok(());
-    }
-    Err(UserError::Fault {
-        line: number,
-        kind: UserKind::DoubleName,
-    })
 }
 
 // The texts of a line that are read.

@@ -10,6 +10,7 @@ mod line;
 mod passwd;
 mod place;
 mod row;
+mod table;
 mod users;
 mod word;
 

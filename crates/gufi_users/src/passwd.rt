@@ -1,16 +1,15 @@
 //! The passwd file.
-ghost use Rattle.std.specs.Prelude.{◌≡◌, ◌≢◌, ◌≤◌, Ok, Err, Some, None, OnOk, IfErr, MatchOption, MatchResult, IfOk, map};
+ghost use Rattle.std.specs.Prelude.{◌≡◌, Ok, Err, Some, None, MatchOption, MatchResult, IfOk, map};
 ghost use Rattle.std.specs.Map.{lookup};
 ghost use Rattle.indexmap.specs.IndexMap.{values};
-ghost use Rattle.gufi_base.specs.Words.{GivesUnless, result_map_err, split};
+ghost use Rattle.gufi_base.specs.Words.{GivesUnless, split};
 ghost use Rattle.gufi_users.specs.declared.passwd.Account.{Account};
-ghost use Rattle.gufi_users.specs.Rows.{is_named, passwd_rows};
-ghost use Rattle.gufi_users.specs.Users.{passwd_texts, read_passwd_line, new_row, with_line, user_name, read_passwd};
+ghost use Rattle.gufi_users.specs.Rows.{is_named};
+ghost use Rattle.gufi_users.specs.Users.{passwd_texts, read_passwd_line, user_name, read_passwd};
 
 use crate::fault::{UserError, UserKind};
-use crate::line::{MAX_LINES, is_skipped};
-use crate::row::add_row;
-use gufi_base::{Pieces, lines_of, pieces_of, read_u32};
+use crate::table::{FromLine, read_table};
+use gufi_base::{Pieces, pieces_of, read_u32};
 use indexmap::IndexMap;
 use std::alloc::{AllocError, Global};
 use std::marker::Model;
@@ -20,6 +19,30 @@ use std::marker::Model;
 pub(crate) struct Account {
     pub(crate) uid: u32,
     pub(crate) gid: u32,
+}
+
+impl FromLine for Account {
+    ghost use Rattle.std.specs.Prelude.{refl};
+    ghost use Rattle.gufi_users.specs.Entries.{PasswdEntry};
+    ghost use Rattle.gufi_users.specs.Rows.{passwd_entry};
+    ghost use Rattle.gufi_users.specs.Users.{user_name, read_passwd_line};
+
+    ghost Entry = { PasswdEntry };
+
+    ghost entry = { passwd_entry };
+
+    ghost name_of = { user_name };
+
+    ghost means = { read_passwd_line };
+
+    ghost named = { λ _. refl };
+
+    fn from_line(alloc: Global, number: u32, text: &[u8]) -> Result<(Vec<u8>, Self), UserError> {
+        match user_line(text) {
+            Ok(line) => Ok((Vec::from_slice(alloc, line.name)?, line.account)),
+            Err(kind) => Err(UserError::Fault { line: number, kind }),
+        }
+    }
 }
 
 /// The users of a passwd file, in file order and by name.
@@ -84,65 +107,12 @@ fn account_in(rows: &IndexMap<Vec<u8>, Account>, name: &[u8]) -> Option<Account>
 }
 
 /// Reads a passwd file. One allocation a line, and one for the table each time it doubles.
-#[tactic(auto, unfolding(crate::specs::Users::read_passwd), using(crate::proofs::ReadLemmas::read_rows_more, crate::proofs::ReadLemmas::read_rows_stops, crate::proofs::ReadLemmas::read_rows_done))]
+#[tactic(auto, unfolding(crate::specs::Users::read_passwd))]
 pub fn read_passwd(alloc: Global, bytes: &[u8]) -> Result<Passwd, UserError>
     ensures { GivesUnless UserError.Memory result (read_passwd bytes.now) }
 {
-    let mut rows = IndexMap::new(alloc);
-    let mut number = 0;
-    'lines: for text in lines_of(bytes) {
-        number += 1;
-        add_line(&mut rows, alloc, number, text)?;
-    }
+    let rows = read_table(alloc, bytes)?;
     Ok(Passwd { rows })
-}
-
-// One line behind the rows of those before it.
-fn add_line(
-    rows: &mut IndexMap<Vec<u8>, Account>,
-    alloc: Global,
-    number: u32,
-    text: &[u8],
-) -> Result<(), UserError>
-    ensures ok { OnOk result (with_line user_name read_passwd_line number (passwd_rows rows.old.entries) text.now ≡ Ok (passwd_rows rows.new.entries)) }
-    ensures err { IfErr result (λ e. e ≢ UserError.Memory → with_line user_name read_passwd_line number (passwd_rows rows.old.entries) text.now ≡ Err e) }
-    ensures number { OnOk result (number ≤ 65536) }
-{
-    if number > MAX_LINES {
-        return Err(UserError::Fault {
-            line: number,
-            kind: UserKind::TooMany { limit: MAX_LINES },
-        });
-    }
-    if is_skipped(text) {
-        return Ok(());
-    }
-    match user_line(text) {
-        Ok(line) => add_user(rows, alloc, number, line.name, line.account),
-        Err(kind) => Err(UserError::Fault { line: number, kind }),
-    }
-}
-
-// A user behind the others, if his name is new.
-#[tactic(auto, using(crate::proofs::ReadLemmas::has_user, crate::proofs::ReadLemmas::passwd_rows_more))]
-fn add_user(
-    rows: &mut IndexMap<Vec<u8>, Account>,
-    alloc: Global,
-    number: u32,
-    name: &[u8],
-    account: Account,
-) -> Result<(), UserError>
-    ensures ok { OnOk result (new_row user_name (passwd_rows rows.old.entries) (record { name = name.now; uid = account.uid; gid = account.gid }) ≡ Ok (passwd_rows rows.new.entries)) }
-    ensures err { IfErr result (λ e. e ≢ UserError.Memory → result_map_err (UserError.Fault number) (new_row user_name (passwd_rows rows.old.entries) (record { name = name.now; uid = account.uid; gid = account.gid })) ≡ Err e) }
-{
-    let name = Vec::from_slice(alloc, name)?;
-    if add_row(rows, name, account)? {
-        return Ok(());
-    }
-    Err(UserError::Fault {
-        line: number,
-        kind: UserKind::DoubleName,
-    })
 }
 
 // The texts of a line that are read.

@@ -6,7 +6,7 @@ use crate::group::Groups;
 use crate::passwd::{Account, Passwd};
 use crate::place::{distinct_numbers, first_places, place_in};
 use crate::word::numbered;
-use gufi_access::Principal;
+use gufi_access::{GroupList, Principal};
 use gufi_base::Memory;
 use std::alloc::{AllocError, Global};
 use std::collections::HashMap;
@@ -119,7 +119,7 @@ impl Users {
                 let groups = self.gids_of(alloc, word, account)?;
                 Ok(Some(Principal {
                     uid: account.uid,
-                    groups: gufi_access::Groups::indexed(alloc, groups)?,
+                    groups: GroupList::indexed(alloc, groups)?,
                 }))
             }
             None => Ok(numbered(alloc, word)?),

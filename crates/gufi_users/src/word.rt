@@ -5,8 +5,8 @@ ghost use Rattle.gufi_base.specs.Numbers.{read_u32};
 ghost use Rattle.gufi_base.specs.Words.{split};
 ghost use Rattle.gufi_users.specs.Users.{group_numbers, numbered_principal, principal_from};
 
-use gufi_access::{Groups, Principal};
-use gufi_base::{Pieces, pieces_of, read_u32};
+use gufi_access::{GroupList, Principal};
+use gufi_base::{Pieces, pieces_of, read_numbers, read_u32};
 use std::alloc::{AllocError, Global};
 
 // The texts of `UID` or `UID:GROUPS`, where no groups are an empty text.
@@ -29,7 +29,7 @@ pub(crate) fn numbered(alloc: Global, word: &[u8]) -> Result<Option<Principal>, 
     match read_groups(alloc, texts.groups)? {
         Some(groups) => Ok(Some(Principal {
             uid,
-            groups: Groups::indexed(alloc, groups)?,
+            groups: GroupList::indexed(alloc, groups)?,
         })),
         None => Ok(None),
     }
@@ -63,15 +63,8 @@ fn take_number_texts<'a>(parts: &mut Pieces<'a, '_>) -> Option<NumberTexts<'a>>
 fn read_groups(alloc: Global, text: &[u8]) -> Result<Option<Vec<u32>>, AllocError>
     ensures { IfOk result (λ groups. option_map (λ (v : Vec ℕ Global). v.items) groups ≡ group_numbers text.now) }
 {
-    let mut groups = Vec::new(alloc);
     if text.is_empty() {
-        return Ok(Some(groups));
+        return Ok(Some(Vec::new(alloc)));
     }
-    'numbers: for part in pieces_of(text, b",") {
-        let Some(number) = read_u32(part) else {
-            return Ok(None);
-        };
-        groups.push(number)?;
-    }
-    Ok(Some(groups))
+    read_numbers(alloc, text)
 }
