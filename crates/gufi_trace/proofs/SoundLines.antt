@@ -24,7 +24,7 @@ use Rattle.gufi_trace.specs.declared.lines.Progress.{Progress}
 use Rattle.gufi_trace.specs.Fields.{Texts, fields_of}
 use Rattle.gufi_trace.specs.Lines.{dirs_of, entries_of, place_fault, path_with_link, below_root, unless_fault, meta_in, line_in}
 use Rattle.gufi_trace.specs.Progress.{root_behind}
-use Rattle.gufi_trace.specs.Taken.{Takes, TakesOwner, TakesSizes, TakesMeta, TakesContent, IsPlaced, IsNext, line_with, Adds, AddsNext}
+use Rattle.gufi_trace.specs.Taken.{Takes, TakesOwner, TakesSizes, TakesMeta, TakesContent, IsPlaced, IsSoundBehind, line_with, Adds, AddsNext}
 use Rattle.gufi_trace.proofs.Feeds.{progress_of}
 
 -- a directory below the root
@@ -123,7 +123,7 @@ sound_fields root earlier f content path link p l meta no_zero short placed is =
 
 -- the line of such parts, at its place
 pub sound_line : (delim : ℕ) (root : Components) (earlier : List Line) (text : List ℕ) (parts : List (List ℕ)) (content : Content) (path : Components) → parts ≡ split delim text → TakesContent parts content → IsPlaced root earlier content.meta.kind content.path.now path
-    → 0 < length earlier → IsNext delim root earlier text (line_with earlier content path)
+    → 0 < length earlier → IsSoundBehind delim root earlier text (line_with earlier content path)
 sound_line delim root earlier text parts content path e taken placed some =
     record {
       reads = ap (λ (ps : List (List ℕ)). ok_or (fields_of ps) Short >>= line_in root earlier) (sym e) ∙ step _ _ _ _ _ taken.fields (sound_fields root earlier taken.f content path content.link.now taken.path taken.link taken.meta taken.no_zero taken.short placed refl);

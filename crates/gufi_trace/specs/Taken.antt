@@ -88,11 +88,11 @@ Adds true root content old new = (path : Components) × IsPlaced root old conten
 Adds false root content old new = new ≡ old
 
 -- a line that is sound behind others
-pub record IsNext (delim : ℕ) (root : Components) (earlier : List Line) (text : List ℕ) (line : Line) : Type 0 where
+pub record IsSoundBehind (delim : ℕ) (root : Components) (earlier : List Line) (text : List ℕ) (line : Line) : Type 0 where
   pub reads : line_of delim root earlier text ≡ Ok line
   pub behind : 0 < length earlier
 
 -- the same of a text's line
 abbrev pub AddsNext : Bool → ℕ → Components → List ℕ → List Line → List Line → Type 0
-AddsNext true delim root text old new = (line : Line) × IsNext delim root old text line × (new ≡ line ∷ old)
+AddsNext true delim root text old new = (line : Line) × IsSoundBehind delim root old text line × (new ≡ line ∷ old)
 AddsNext false delim root text old new = new ≡ old

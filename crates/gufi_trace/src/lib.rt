@@ -19,5 +19,6 @@ mod writer;
 pub use fault::{TraceError, TraceFault, TraceKind};
 pub use laws::traces_mean_sound_trees;
 pub use reader::{TraceReader, read_pieces, read_trace};
+pub use row::put_record;
 pub use text::put_tree_fault;
 pub use writer::{WriteTraceFault, write_trace, written_traces_read_back};

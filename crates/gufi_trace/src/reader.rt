@@ -41,16 +41,6 @@ impl Model for TraceReader {
     ghost invariant = { λ r. IsTrue (is_open r.rest.items) };
 }
 
-fn append(rest: &mut Vec<u8>, part: &[u8]) -> Result<(), TraceError>
-    ensures ok { OnOk result (rest.new.items ≡ rest.old.items ++ part.now) }
-    ensures err { IfErr result (λ e. e ≡ TraceError.Memory) }
-{
-    match rest.extend_from_slice(part) {
-        Ok(()) => Ok(()),
-        Err(_) => Err(TraceError::Memory),
-    }
-}
-
 /// Takes the line that the rest begins and the part ends; most lines have no rest.
 fn end_line(
     alloc: Global,
@@ -67,7 +57,7 @@ fn end_line(
     if rest.is_empty() {
         return progress.add(alloc, delim, pairs, part);
     }
-    append(rest, part)?;
+    rest.extend_from_slice(part)?;
     progress.add(alloc, delim, pairs, rest.as_slice())?;
     rest.clear();
     Ok(())
@@ -103,7 +93,8 @@ fn take_piece(
         end_line(alloc, delim, pairs, progress, rest, last)?;
         last = part;
     }
-    append(rest, last)
+    rest.extend_from_slice(last)?;
+    Ok(())
 }
 
 impl TraceReader {

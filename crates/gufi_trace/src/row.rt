@@ -7,8 +7,7 @@ ghost use Rattle.gufi_base.specs.Paths.{path_text, slashed_text};
 ghost use Rattle.gufi_base.specs.TraceRows.{row_line};
 ghost use Rattle.gufi_trace.specs.Writing.{number_text, signed_text, owner_text, size_text, times_text, end_text, rec_text};
 
-use crate::text::put;
-use gufi_base::{Memory, Meta, PathRef, RecRef, put_i64, put_u64};
+use gufi_base::{Memory, Meta, PathRef, RecRef, put, put_i64, put_u64};
 
 fn put_number(out: &mut Vec<u8>, delim: u8, number: u64) -> Result<(), Memory>
     ensures { OnOk result (out.new.items ≡ out.old.items ++ number_text delim number) }
@@ -59,16 +58,15 @@ fn put_end(out: &mut Vec<u8>, delim: u8, link: &[u8]) -> Result<(), Memory>
     put(out, b"\n")
 }
 
-/// What follows the path.
+/// Appends what follows the path in the line of a record with this link.
 #[tactic(auto, unfolding(crate::specs::Writing::rec_text))]
-fn put_rec(out: &mut Vec<u8>, delim: u8, rec: &RecRef<'_>) -> Result<(), Memory>
-    ensures { OnOk result (out.new.items ≡ out.old.items ++ rec_text delim rec.now) }
+pub fn put_record(out: &mut Vec<u8>, delim: u8, meta: &Meta, link: &[u8]) -> Result<(), Memory>
+    ensures { OnOk result (out.new.items ≡ out.old.items ++ rec_text delim (record { meta = meta.now; link = link.now })) }
 {
-    let meta = rec.meta();
     put_owner(out, delim, meta)?;
     put_size(out, delim, meta)?;
     put_times(out, delim, meta)?;
-    put_end(out, delim, rec.link())
+    put_end(out, delim, link)
 }
 
 fn put_slashed(out: &mut Vec<u8>, path: &PathRef<'_>) -> Result<(), Memory>
@@ -115,7 +113,7 @@ pub(crate) fn put_directory(
     ensures { OnOk result (out.new.items ≡ out.old.items ++ row_line delim root.now (record { path = path.now; rec = rec.now })) }
 {
     put_path(out, root, path)?;
-    put_rec(out, delim, rec)
+    put_record(out, delim, rec.meta(), rec.link())
 }
 
 /// The line of an entry of a directory.
@@ -130,5 +128,5 @@ pub(crate) fn put_entry(
     ensures { OnOk result (out.new.items ≡ out.old.items ++ row_line delim root.now (record { path = path.now ++ name.now ∷ []; rec = rec.now })) }
 {
     put_entry_path(out, root, path, name)?;
-    put_rec(out, delim, rec)
+    put_record(out, delim, rec.meta(), rec.link())
 }

@@ -4,23 +4,8 @@ ghost use Rattle.std.specs.Prelude.{◌≡◌, ◌++◌, OnOk, codes, decimal};
 ghost use Rattle.gufi_trace.specs.TraceText.{trace_kind_text, fault_text, failure_text, of_tree};
 
 use crate::fault::{TraceFault, TraceKind};
-use gufi_base::{Memory, put_u64};
+use gufi_base::{Memory, put, put_named, put_u64};
 use gufi_tree::TreeFault;
-
-pub(crate) fn put(out: &mut Vec<u8>, text: &[u8]) -> Result<(), Memory>
-    ensures { OnOk result (out.new.items ≡ out.old.items ++ text.now) }
-{
-    out.extend_from_slice(text)?;
-    Ok(())
-}
-
-/// A word and the number that follows it.
-fn put_numbered(out: &mut Vec<u8>, word: &[u8], number: u32) -> Result<(), Memory>
-    ensures { OnOk result (out.new.items ≡ out.old.items ++ (word.now ++ decimal number)) }
-{
-    put(out, word)?;
-    put_u64(out, u64::from(number))
-}
 
 impl TraceKind {
     /// Appends the kind as it is printed: its name, and its number where it has one.
@@ -32,10 +17,10 @@ impl TraceKind {
             TraceKind::BadPath => put(out, b"BadPath"),
             TraceKind::LongName => put(out, b"LongName"),
             TraceKind::BadType => put(out, b"BadType"),
-            TraceKind::BadNumber { field } => put_numbered(out, b"BadNumber ", field),
+            TraceKind::BadNumber { field } => put_named(out, b"BadNumber ", u64::from(field)),
             TraceKind::NotUnderRoot => put(out, b"NotUnderRoot"),
             TraceKind::WrongStanza => put(out, b"WrongStanza"),
-            TraceKind::TooMany { limit } => put_numbered(out, b"TooMany ", limit),
+            TraceKind::TooMany { limit } => put_named(out, b"TooMany ", u64::from(limit)),
             TraceKind::CutLine => put(out, b"CutLine"),
         }
     }
