@@ -7,8 +7,8 @@ ghost use Rattle.gufi_list.specs.Columns.{links_column, owners_column, sizes_col
 ghost use Rattle.gufi_list.specs.Listings.{owner_text, group_text, target_text, long_text, ls_line, is_hidden, is_shown, ls_text, ls_asks};
 
 use crate::mode::mode_text;
-use crate::put::{put_named, put_signed, put_word};
-use gufi_base::{Kind, Memory, Meta, Pred, Row, RowRef, Tester, put_u64};
+use crate::put::put_signed;
+use gufi_base::{Kind, Memory, Meta, Pred, Row, RowRef, Tester, put, put_named, put_u64};
 use gufi_users::Users;
 use std::alloc::Global;
 
@@ -16,7 +16,7 @@ fn put_user(out: &mut Vec<u8>, users: &Users, uid: u32) -> Result<(), Memory>
     ensures { OnOk result (out.new.items ≡ out.old.items ++ owner_text users.now uid) }
 {
     match users.name_of_uid(uid) {
-        Some(name) => put_word(out, name),
+        Some(name) => put(out, name),
         None => put_u64(out, u64::from(uid)),
     }
 }
@@ -25,7 +25,7 @@ fn put_group(out: &mut Vec<u8>, users: &Users, gid: u32) -> Result<(), Memory>
     ensures { OnOk result (out.new.items ≡ out.old.items ++ group_text users.now gid) }
 {
     match users.name_of_gid(gid) {
-        Some(name) => put_word(out, name),
+        Some(name) => put(out, name),
         None => put_u64(out, u64::from(gid)),
     }
 }
@@ -33,16 +33,16 @@ fn put_group(out: &mut Vec<u8>, users: &Users, gid: u32) -> Result<(), Memory>
 fn put_links(out: &mut Vec<u8>, meta: &Meta) -> Result<(), Memory>
     ensures { OnOk result (out.new.items ≡ out.old.items ++ links_column meta.now) }
 {
-    put_word(out, &mode_text(meta))?;
+    put(out, &mode_text(meta))?;
     put_named(out, b" ", meta.nlink)
 }
 
 fn put_owners(out: &mut Vec<u8>, users: &Users, meta: &Meta) -> Result<(), Memory>
     ensures { OnOk result (out.new.items ≡ out.old.items ++ owners_column users.now meta.now) }
 {
-    put_word(out, b" ")?;
+    put(out, b" ")?;
     put_user(out, users, meta.uid)?;
-    put_word(out, b" ")?;
+    put(out, b" ")?;
     put_group(out, users, meta.gid)
 }
 
@@ -51,7 +51,7 @@ fn put_sizes(out: &mut Vec<u8>, meta: &Meta) -> Result<(), Memory>
 {
     put_named(out, b" ", meta.size)?;
     put_signed(out, b" ", meta.mtime)?;
-    put_word(out, b" ")
+    put(out, b" ")
 }
 
 /// What stands before the name, and a space.
@@ -75,15 +75,15 @@ fn put_target(out: &mut Vec<u8>, row: &Row) -> Result<(), Memory>
     if !is_link(row.rec.meta.kind) {
         return Ok(());
     }
-    put_word(out, b" -> ")?;
-    put_word(out, row.rec.link.as_slice())
+    put(out, b" -> ")?;
+    put(out, row.rec.link.as_slice())
 }
 
 fn put_long(out: &mut Vec<u8>, users: &Users, row: &Row) -> Result<(), Memory>
     ensures { OnOk result (out.new.items ≡ out.old.items ++ long_text users.now row.now) }
 {
     put_columns(out, users, &row.rec.meta)?;
-    put_word(out, row.path.base_name())?;
+    put(out, row.path.base_name())?;
     put_target(out, row)
 }
 
@@ -93,9 +93,9 @@ fn put_line(out: &mut Vec<u8>, users: &Users, long: bool, row: &Row) -> Result<(
     if long {
         put_long(out, users, row)?;
     } else {
-        put_word(out, row.path.base_name())?;
+        put(out, row.path.base_name())?;
     }
-    put_word(out, b"\n")
+    put(out, b"\n")
 }
 
 fn is_hidden(name: &[u8]) -> bool

@@ -6,9 +6,9 @@ ghost use Rattle.gufi_base.specs.Words.{line};
 ghost use Rattle.gufi_list.specs.Pieces.{type_text, links_and_owners_text, size_text, early_times_text, times_text};
 ghost use Rattle.gufi_list.specs.Texts.{octal_text, record_text, stat_text, total_text};
 
-use crate::put::{put_named, put_signed, put_word};
+use crate::put::put_signed;
 use crate::total::put_total;
-use gufi_base::{Memory, Meta, Path, Row};
+use gufi_base::{Memory, Meta, Path, Row, put, put_named};
 use gufi_sums::Summary;
 use std::alloc::Global;
 
@@ -20,15 +20,15 @@ fn put_octal(out: &mut Vec<u8>, mode: u16) -> Result<(), Memory>
     let second = b'0' + (mode / 64 % 8) as u8;
     let third = b'0' + (mode / 8 % 8) as u8;
     let last = b'0' + (mode % 8) as u8;
-    put_word(out, &[first, second, third, last])
+    put(out, &[first, second, third, last])
 }
 
 fn put_type(out: &mut Vec<u8>, meta: &Meta) -> Result<(), Memory>
     ensures { OnOk result (out.new.items ≡ out.old.items ++ type_text meta.now) }
 {
-    put_word(out, b"type ")?;
-    put_word(out, &[meta.kind.letter()])?;
-    put_word(out, b" mode ")?;
+    put(out, b"type ")?;
+    put(out, &[meta.kind.letter()])?;
+    put(out, b" mode ")?;
     put_octal(out, meta.mode)
 }
 
@@ -66,9 +66,9 @@ fn put_times(out: &mut Vec<u8>, meta: &Meta) -> Result<(), Memory>
 fn put_path_line(out: &mut Vec<u8>, path: &Path) -> Result<(), Memory>
     ensures { OnOk result (out.new.items ≡ out.old.items ++ line (codes "path " ++ path_text path.now)) }
 {
-    put_word(out, b"path ")?;
-    put_word(out, path.printed())?;
-    put_word(out, b"\n")
+    put(out, b"path ")?;
+    put(out, path.printed())?;
+    put(out, b"\n")
 }
 
 fn put_type_line(out: &mut Vec<u8>, meta: &Meta) -> Result<(), Memory>
@@ -76,21 +76,21 @@ fn put_type_line(out: &mut Vec<u8>, meta: &Meta) -> Result<(), Memory>
 {
     put_type(out, meta)?;
     put_owner(out, meta)?;
-    put_word(out, b"\n")
+    put(out, b"\n")
 }
 
 fn put_size_line(out: &mut Vec<u8>, meta: &Meta) -> Result<(), Memory>
     ensures { OnOk result (out.new.items ≡ out.old.items ++ line (size_text meta.now)) }
 {
     put_size(out, meta)?;
-    put_word(out, b"\n")
+    put(out, b"\n")
 }
 
 fn put_times_line(out: &mut Vec<u8>, meta: &Meta) -> Result<(), Memory>
     ensures { OnOk result (out.new.items ≡ out.old.items ++ line (times_text meta.now)) }
 {
     put_times(out, meta)?;
-    put_word(out, b"\n")
+    put(out, b"\n")
 }
 
 fn put_record(out: &mut Vec<u8>, row: &Row) -> Result<(), Memory>
@@ -106,7 +106,7 @@ fn put_total_line(out: &mut Vec<u8>, sum: &Summary) -> Result<(), Memory>
     ensures { OnOk result (out.new.items ≡ out.old.items ++ line (total_text sum.now)) }
 {
     put_total(out, sum)?;
-    put_word(out, b"\n")
+    put(out, b"\n")
 }
 
 /// The record of a directory and the sum of its rows as they are printed: five lines, the last of them the sum.

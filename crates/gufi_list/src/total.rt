@@ -5,8 +5,8 @@ ghost use Rattle.std.specs.Fmt.{signed_decimal};
 ghost use Rattle.gufi_list.specs.Pieces.{ranges_text};
 ghost use Rattle.gufi_list.specs.Texts.{pair_text, total_text};
 
-use crate::put::{put_named, put_signed, put_word};
-use gufi_base::Memory;
+use crate::put::put_signed;
+use gufi_base::{Memory, put, put_named};
 use gufi_sums::{Summary, put_counts};
 use std::alloc::Global;
 
@@ -14,8 +14,8 @@ use std::alloc::Global;
 fn put_none(out: &mut Vec<u8>, word: &[u8]) -> Result<(), Memory>
     ensures { OnOk result (out.new.items ≡ out.old.items ++ (word.now ++ codes "- -")) }
 {
-    put_word(out, word)?;
-    put_word(out, b"- -")
+    put(out, word)?;
+    put(out, b"- -")
 }
 
 fn put_sizes(out: &mut Vec<u8>, word: &[u8], pair: Option<(u64, u64)>) -> Result<(), Memory>
