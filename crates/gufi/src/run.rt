@@ -18,13 +18,13 @@ use std::thread::Threads;
 // Writes a page. Where that fails the note says so.
 fn show<K: Sink>(text: &str, out: &mut K, notes: &mut K) -> u8
     ensures status { (result ≡ 0) ⊎ (result ≡ 4) }
-    ensures whole { result ≡ 0 → IsShown (K.taken out.old) (K.taken out.new) (K.taken notes.old) (K.taken notes.new) text.now }
-    ensures cut { result ≡ 4 → CutShort (K.taken out.old) (K.taken out.new) (K.taken notes.old) (K.taken notes.new)
-        (K.faults out.old) (K.faults out.new) (K.faults notes.old) (K.faults notes.new) text.now }
+    ensures whole { result ≡ 0 → IsShown K.Sink out.old out.new notes.old notes.new text.now }
+    ensures cut { result ≡ 4 → CutShort K.Sink out.old out.new notes.old notes.new text.now }
 {
     if write_whole(out, text.as_bytes()).is_ok() {
         return 0;
     }
+    // Where that note fails too, only the status is left to tell.
     let _ = write_whole(notes, b"gufi: write fault\n");
     4
 }
@@ -32,8 +32,9 @@ fn show<K: Sink>(text: &str, out: &mut K, notes: &mut K) -> u8
 /// Says that there is no memory to collect the words in, and gives the status of that.
 pub(crate) fn without_words<K: Sink>(notes: &mut K) -> u8
     ensures status { result ≡ 7 }
-    ensures noted { TakesNote (K.taken notes.old) (K.taken notes.new) (K.faults notes.old) (K.faults notes.new) memory_note }
+    ensures noted { TakesNote K.Sink notes.old notes.new memory_note }
 {
+    // Where the note fails, only the status is left to tell.
     let _ = write_whole(notes, b"gufi: no memory\n");
     7
 }
@@ -52,25 +53,19 @@ pub(crate) fn run<R: Threads + Wait + Sync, F: Shelf, K: Sink, G: Gate + Sync>(
     // A page is shown whole, or a front of it where the output failed. No file is asked for.
     ensures page_status { IsSome (page_of pages.now (texts words.now)) → (result.status ≡ 0) ⊎ (result.status ≡ 4) }
     ensures page_whole { IfSome (page_of pages.now (texts words.now)) (λ text. result.status ≡ 0
-        → IsShown (K.taken out.old) (K.taken out.new) (K.taken notes.old) (K.taken notes.new) text) }
+        → IsShown K.Sink out.old out.new notes.old notes.new text) }
     ensures page_cut { IfSome (page_of pages.now (texts words.now)) (λ text. result.status ≡ 4
-        → CutShort (K.taken out.old) (K.taken out.new) (K.taken notes.old) (K.taken notes.new)
-        (K.faults out.old) (K.faults out.new) (K.faults notes.old) (K.faults notes.new) text) }
+        → CutShort K.Sink out.old out.new notes.old notes.new text) }
     ensures page_alone { IsSome (page_of pages.now (texts words.now)) → (result.numbers.items ≡ []) × (shelf.new ≡ shelf.old) }
 
     // All that `gufi_run` promises, where no page is asked for.
-    ensures ended { page_of pages.now (texts words.now) ≡ None → IsVerdictStatus result.status → Ended (F.files shelf.old) (texts words.now) result.status result.numbers.items
-        (K.taken out.old) (K.taken out.new) (K.taken notes.old) (K.taken notes.new) (K.faults notes.old) (K.faults notes.new) }
+    ensures ended { page_of pages.now (texts words.now) ≡ None → IsVerdictStatus result.status → Ended K.Sink (F.files shelf.old) (texts words.now) result out.old out.new notes.old notes.new }
     ensures words { page_of pages.now (texts words.now) ≡ None → result.status ≡ 2 → IsTrue (may_refuse_words (texts words.now)) }
     ensures absent { page_of pages.now (texts words.now) ≡ None → result.status ≡ 8 → Rose (F.absents shelf.old) (F.absents shelf.new) }
     ensures read_fault { page_of pages.now (texts words.now) ≡ None → result.status ≡ 3 → Rose (F.faults shelf.old) (F.faults shelf.new)
-        × BrokenOff (F.files shelf.old) (texts words.now) result.numbers.items
-        (K.taken out.old) (K.taken out.new) (K.taken notes.old) (K.taken notes.new) (K.faults notes.old) (K.faults notes.new) read_fault_note }
-    ensures write_fault { page_of pages.now (texts words.now) ≡ None → result.status ≡ 4 → WriteFaulted (F.files shelf.old) (texts words.now) result.numbers.items
-        (K.taken out.old) (K.taken out.new) (K.taken notes.old) (K.taken notes.new)
-        (K.faults out.old) (K.faults out.new) (K.faults notes.old) (K.faults notes.new) }
-    ensures memory { page_of pages.now (texts words.now) ≡ None → result.status ≡ 7 → BrokenOff (F.files shelf.old) (texts words.now) result.numbers.items
-        (K.taken out.old) (K.taken out.new) (K.taken notes.old) (K.taken notes.new) (K.faults notes.old) (K.faults notes.new) memory_note }
+        × BrokenOff K.Sink (F.files shelf.old) (texts words.now) result out.old out.new notes.old notes.new read_fault_note }
+    ensures write_fault { page_of pages.now (texts words.now) ≡ None → result.status ≡ 4 → WriteFaulted K.Sink (F.files shelf.old) (texts words.now) result out.old out.new notes.old notes.new }
+    ensures memory { page_of pages.now (texts words.now) ≡ None → result.status ≡ 7 → BrokenOff K.Sink (F.files shelf.old) (texts words.now) result out.old out.new notes.old notes.new memory_note }
 {
     match page(pages, words) {
         Some(text) => {

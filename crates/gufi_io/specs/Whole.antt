@@ -1,6 +1,7 @@
 -- What reading a file to its end comes to, and where it comes from that it isn't read.
 use Rattle.std.specs.Prelude.{◌≡◌, ℕ, ◌<◌, ◌≤◌, List, length, ⊤, Option}
 use Rattle.gufi_io.specs.Causes.{Rose}
+use Rattle.gufi_io.specs.declared.shelf.Shelf.{Ghosts as ShelfOf}
 use Rattle.gufi_io.specs.Files.{Files, Holds, Lacks, IsReadUpTo, HoldsFront}
 use Rattle.gufi_io.specs.declared.shelf.OpenFault.{OpenFault}
 use Rattle.gufi_io.specs.declared.shelf.OpenFault.TheVariants as open_fault
@@ -34,8 +35,8 @@ ReadErrorTells told name max (TooLong bytes) = (max < length bytes.items) × Hol
 ReadErrorTells told name max Memory = ⊤
 
 -- each refusal to read comes only where its count rose
-abbrev pub ReadErrorHasCause : ℕ → ℕ → ℕ → ℕ → ReadError → Type 0
-ReadErrorHasCause faults faults' absents absents' NoFile = Rose absents absents'
-ReadErrorHasCause faults faults' absents absents' ReadFault = Rose faults faults'
-ReadErrorHasCause faults faults' absents absents' (TooLong bytes) = ⊤
-ReadErrorHasCause faults faults' absents absents' Memory = ⊤
+abbrev pub ReadErrorHasCause : {F : Type 0} → ShelfOf F → F → F → ReadError → Type 0
+ReadErrorHasCause shelf old new NoFile = Rose (shelf.absents old) (shelf.absents new)
+ReadErrorHasCause shelf old new ReadFault = Rose (shelf.faults old) (shelf.faults new)
+ReadErrorHasCause shelf old new (TooLong bytes) = ⊤
+ReadErrorHasCause shelf old new Memory = ⊤

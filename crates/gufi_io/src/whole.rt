@@ -3,6 +3,7 @@ ghost use Rattle.std.specs.Prelude.{◌≡◌, ◌≤◌, ◌<◌, ◌++◌, ℕ
 ghost use Rattle.std.specs.Io.KnownBytes.{Appends};
 ghost use Rattle.gufi_io.specs.Causes.{Rose};
 ghost use Rattle.gufi_io.specs.Files.{Holds, TakesFront};
+ghost use Rattle.gufi_io.specs.Kept.{Keeps};
 ghost use Rattle.gufi_io.specs.Whole.{IsTakenUpTo, HasTakenFile, HasTakenTooMany, ReadErrorTells, ReadErrorHasCause, read_error_of};
 ghost use Rattle.gufi_io.specs.declared.whole.ReadError.TheVariants.{Memory};
 
@@ -127,10 +128,8 @@ pub fn read_all<F: Shelf>(
     ensures whole { IfOk result (λ bytes. Holds (F.files shelf.old) name.now bytes.items) }
     ensures short { IfOk result (λ bytes. length bytes.items ≤ max) }
     ensures told { IfErr result (ReadErrorTells (F.files shelf.old) name.now max) }
-    ensures cause { IfErr result (ReadErrorHasCause (F.faults shelf.old) (F.faults shelf.new) (F.absents shelf.old) (F.absents shelf.new)) }
-    ensures same { F.files shelf.new ≡ F.files shelf.old }
-    ensures faults { F.faults shelf.old ≤ F.faults shelf.new }
-    ensures absents { F.absents shelf.old ≤ F.absents shelf.new }
+    ensures cause { IfErr result (ReadErrorHasCause F.Shelf shelf.old shelf.new) }
+    ensures kept { Keeps F.Shelf shelf.old shelf.new }
 {
     shelf.open_file(name)?;
     let mut buffer = piece_buffer(alloc)?;

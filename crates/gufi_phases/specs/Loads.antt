@@ -4,6 +4,8 @@ use Rattle.std.specs.declared.alloc.Global.{Global}
 use Rattle.std.specs.Io.KnownBytes.{Appends}
 use Rattle.gufi_io.specs.Causes.{Rose}
 use Rattle.gufi_io.specs.Files.{Files, TakesFront}
+use Rattle.gufi_io.specs.declared.shelf.Shelf.{Ghosts as ShelfOf}
+use Rattle.gufi_io.specs.declared.sink.Sink.{Ghosts as SinkOf}
 use Rattle.gufi_phases.specs.declared.act.Act.{Act}
 use Rattle.gufi_phases.specs.Sessions.{Answered}
 use Rattle.gufi_phases.specs.declared.load.Stop.{Stop}
@@ -46,21 +48,22 @@ total_size size (p ∷ plan) = size p + total_size size plan
 
 -- ---- causes: each end comes only where its count rose
 
-abbrev pub StopHasCause : ℕ → ℕ → Stop → Type 0
-StopHasCause absents absents' (stops.NoFile file) = Rose absents absents'
-StopHasCause absents absents' (stops.TooLong file) = ⊤
+module _ {F : Type 0} (shelf : ShelfOf F) (old new : F) where
+  abbrev pub StopHasCause : Stop → Type 0
+  StopHasCause (stops.NoFile file) = Rose (shelf.absents old) (shelf.absents new)
+  StopHasCause (stops.TooLong file) = ⊤
 
-abbrev pub LoadFaultHasCause : ℕ → ℕ → ℕ → ℕ → LoadFault → Type 0
-LoadFaultHasCause faults faults' absents absents' (load.Stopped stop) = StopHasCause absents absents' stop
-LoadFaultHasCause faults faults' absents absents' load.ReadFault = Rose faults faults'
-LoadFaultHasCause faults faults' absents absents' load.Memory = ⊤
+  abbrev pub LoadFaultHasCause : LoadFault → Type 0
+  LoadFaultHasCause (load.Stopped stop) = StopHasCause stop
+  LoadFaultHasCause load.ReadFault = Rose (shelf.faults old) (shelf.faults new)
+  LoadFaultHasCause load.Memory = ⊤
 
-abbrev pub EndHasCause : ℕ → ℕ → ℕ → ℕ → ℕ → ℕ → End → Type 0
-EndHasCause faults faults' absents absents' out_faults out_faults' ends.Done = ⊤
-EndHasCause faults faults' absents absents' out_faults out_faults' (ends.Stopped stop) = StopHasCause absents absents' stop
-EndHasCause faults faults' absents absents' out_faults out_faults' ends.ReadFault = Rose faults faults'
-EndHasCause faults faults' absents absents' out_faults out_faults' ends.WriteFault = Rose out_faults out_faults'
-EndHasCause faults faults' absents absents' out_faults out_faults' ends.Memory = ⊤
+  abbrev pub EndHasCause : {K : Type 0} → SinkOf K → K → K → End → Type 0
+  EndHasCause sink out out' ends.Done = ⊤
+  EndHasCause sink out out' (ends.Stopped stop) = StopHasCause stop
+  EndHasCause sink out out' ends.ReadFault = Rose (shelf.faults old) (shelf.faults new)
+  EndHasCause sink out out' ends.WriteFault = Rose (sink.faults out) (sink.faults out')
+  EndHasCause sink out out' ends.Memory = ⊤
 
 -- how a phase that isn't loaded ends a session
 abbrev pub end_of : LoadFault → End

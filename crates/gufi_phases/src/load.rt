@@ -1,6 +1,7 @@
 //! Phases that are loaded from a shelf.
-ghost use Rattle.std.specs.Prelude.{◌≡◌, ◌≤◌, ℕ, List, Option, Some, Result, length, IfOk, IfErr};
+ghost use Rattle.std.specs.Prelude.{◌≡◌, ℕ, List, Option, Some, Result, length, IfOk, IfErr};
 ghost use Rattle.gufi_io.specs.Files.{Files};
+ghost use Rattle.gufi_io.specs.Kept.{Keeps};
 ghost use Rattle.gufi_phases.specs.declared.act.Act.{Act};
 ghost use Rattle.gufi_phases.specs.Loads.{LoadsAs, LoadFaultHasCause};
 
@@ -50,8 +51,6 @@ pub trait Load<C: Drop, Q: Drop, F: Shelf> {
     fn load(&self, alloc: Global, shelf: &mut F) -> Result<Vec<Act<C, Q>>, LoadFault>
         ensures told { (files : Files) → F.files shelf.old ≡ Some files → LoadsAs (loaded self.now files) result }
         ensures size { IfOk result (λ acts. length acts.items ≡ size self.now) }
-        ensures cause { IfErr result (LoadFaultHasCause (F.faults shelf.old) (F.faults shelf.new) (F.absents shelf.old) (F.absents shelf.new)) }
-        ensures same { F.files shelf.new ≡ F.files shelf.old }
-        ensures faults { F.faults shelf.old ≤ F.faults shelf.new }
-        ensures absents { F.absents shelf.old ≤ F.absents shelf.new };
+        ensures cause { IfErr result (LoadFaultHasCause F.Shelf shelf.old shelf.new) }
+        ensures kept { Keeps F.Shelf shelf.old shelf.new };
 }

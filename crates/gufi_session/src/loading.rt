@@ -2,6 +2,7 @@
 ghost use Rattle.std.specs.Prelude.{◌≡◌, ◌≤◌, ◌+◌, Some, length, IfOk, IfErr};
 ghost use Rattle.gufi_base.specs.Limits.{max_trace};
 ghost use Rattle.gufi_io.specs.Files.{Files};
+ghost use Rattle.gufi_io.specs.Kept.{Keeps};
 ghost use Rattle.gufi_phases.specs.Loads.{LoadsAs, LoadFaultHasCause};
 ghost use Rattle.gufi_session.specs.Loaded.{load_phase};
 ghost use Rattle.gufi_session.specs.Loading.{ReadsAs, ActLoadsAs};
@@ -34,10 +35,8 @@ fn read_file<F: Shelf>(
     requires { before ≤ max_trace }
     ensures told { (files : Files) → F.files shelf.old ≡ Some files → ReadsAs before file.now (files file.now) result }
     ensures within { IfOk result (λ bytes. before + length bytes.items ≤ max_trace) }
-    ensures cause { IfErr result (LoadFaultHasCause (F.faults shelf.old) (F.faults shelf.new) (F.absents shelf.old) (F.absents shelf.new)) }
-    ensures same { F.files shelf.new ≡ F.files shelf.old }
-    ensures faults { F.faults shelf.old ≤ F.faults shelf.new }
-    ensures absents { F.absents shelf.old ≤ F.absents shelf.new }
+    ensures cause { IfErr result (LoadFaultHasCause F.Shelf shelf.old shelf.new) }
+    ensures kept { Keeps F.Shelf shelf.old shelf.new }
 {
     match read_all(alloc, shelf, file.as_str(), MAX_TRACE - before) {
         Ok(bytes) => Ok(bytes),
@@ -68,10 +67,8 @@ fn load_act<F: Shelf>(
     requires { before ≤ max_trace }
     ensures told { (files : Files) → F.files shelf.old ≡ Some files → ActLoadsAs files before act.now result }
     ensures within { IfOk result (λ step. step.1 ≤ max_trace) }
-    ensures cause { IfErr result (LoadFaultHasCause (F.faults shelf.old) (F.faults shelf.new) (F.absents shelf.old) (F.absents shelf.new)) }
-    ensures same { F.files shelf.new ≡ F.files shelf.old }
-    ensures faults { F.faults shelf.old ≤ F.faults shelf.new }
-    ensures absents { F.absents shelf.old ≤ F.absents shelf.new }
+    ensures cause { IfErr result (LoadFaultHasCause F.Shelf shelf.old shelf.new) }
+    ensures kept { Keeps F.Shelf shelf.old shelf.new }
 {
     match act {
         PlannedAct::Publish { delim, limit, file } => {
@@ -112,10 +109,8 @@ fn load_acts<F: Shelf>(
 ) -> Result<Vec<Act<Publishing, Asking>>, LoadFault>
     ensures told { (files : Files) → F.files shelf.old ≡ Some files → LoadsAs (load_phase phase.now files) result }
     ensures size { IfOk result (λ acts. length acts.items ≡ length phase.now) }
-    ensures cause { IfErr result (LoadFaultHasCause (F.faults shelf.old) (F.faults shelf.new) (F.absents shelf.old) (F.absents shelf.new)) }
-    ensures same { F.files shelf.new ≡ F.files shelf.old }
-    ensures faults { F.faults shelf.old ≤ F.faults shelf.new }
-    ensures absents { F.absents shelf.old ≤ F.absents shelf.new }
+    ensures cause { IfErr result (LoadFaultHasCause F.Shelf shelf.old shelf.new) }
+    ensures kept { Keeps F.Shelf shelf.old shelf.new }
 {
     let Ok(mut acts) = Vec::with_capacity(alloc, phase.len()) else {
         return Err(LoadFault::Memory);

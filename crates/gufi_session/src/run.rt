@@ -32,7 +32,7 @@ pub fn run_session<R: Threads + Wait + Sync, F: Shelf, K: Sink, G: Gate + Sync>(
     gate: &G,
 ) -> Ended
     ensures ended { SessionEnded (F.files shelf.old) plan.now result.end result.numbers.items (K.taken out.old) (K.taken out.new) }
-    ensures cause { EndHasCause (F.faults shelf.old) (F.faults shelf.new) (F.absents shelf.old) (F.absents shelf.new) (K.faults out.old) (K.faults out.new) result.end }
+    ensures cause { EndHasCause F.Shelf shelf.old shelf.new K.Sink out.old out.new result.end }
     ensures same { F.files shelf.new ≡ F.files shelf.old }
 {
     let walkers = Walkers::of(rt, gate, workers);

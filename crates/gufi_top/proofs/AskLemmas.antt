@@ -29,7 +29,7 @@ use Rattle.gufi_walk.specs.Answer.{answer, listed_rows, refusal_of, rows_or}
 use Rattle.gufi_walk.proofs.Isolation.{alike_replies}
 use Rattle.gufi_walk.proofs.StartRow.{start_row}
 use Rattle.gufi_walk.specs.declared.refusal.Refusal.TheVariants as refusals
-use Rattle.gufi_top.specs.declared.halt.Text.{Text}
+use Rattle.gufi_top.specs.declared.halt.Output.{Output}
 use Rattle.gufi_top.specs.declared.halt.Halt.{Halt}
 use Rattle.gufi_top.specs.declared.halt.Halt.TheVariants as halts
 use Rattle.gufi_top.specs.Views.{text_view}
@@ -100,15 +100,15 @@ row_found tree who start id row shape found is =
 
 -- ---- what is written of it
 
-pub written_text : (text : Text) (out : Vec ℕ Global) (given : Result (List ℕ) Refusal) → Replies (Ok out) given
+pub written_text : (text : Output) (out : Vec ℕ Global) (given : Result (List ℕ) Refusal) → Replies (Ok out) given
     → (text.out.items ≡ out.items) × (text.notes.items ≡ []) → Gives text_view (Ok text) (replied given)
 written_text text out given is (same, none) = rw (is, same, none) refl
 
-refused_as : (refusal : Refusal) (r : Result Text Halt) (given : Result (List ℕ) Refusal) → given ≡ Err refusal
+refused_as : (refusal : Refusal) (r : Result Output Halt) (given : Result (List ℕ) Refusal) → given ≡ Err refusal
     → Gives (λ x. x) r (Err (start_reason refusal)) → Gives text_view r (replied given)
 refused_as refusal r given is reason = given_as text_view r (start_reason refusal) _ reason (rw is refl)
 
-pub written_refusal : (refusal : Refusal) (r : Result Text Halt) (given : Result (List ℕ) Refusal) → Replies (Err refusal) given
+pub written_refusal : (refusal : Refusal) (r : Result Output Halt) (given : Result (List ℕ) Refusal) → Replies (Err refusal) given
     → (refusal ≢ refusals.Memory → Gives (λ x. x) r (Err (start_reason refusal))) → (refusal ≡ refusals.Memory → r ≡ Err halts.Memory)
     → Gives text_view r (replied given)
 written_refusal (refusals.Denied depth class) r given is reason memory = refused_as _ r given (is (λ e. cc)) (reason (λ e. cc))
@@ -119,7 +119,7 @@ written_refusal refusals.Memory r given is reason memory = rw (memory refl) tt
 pub ruleset writing = (written_text, written_refusal)
 
 -- the reply to an ask over a tree, written
-pub asked_written : (tree seen : List Directory) (who : Principal) (start : Components) (ask : Ask) (reply : Result (Vec ℕ Global) Refusal) (r : Result Text Halt) → seen ≡ tree
+pub asked_written : (tree seen : List Directory) (who : Principal) (start : Components) (ask : Ask) (reply : Result (Vec ℕ Global) Refusal) (r : Result Output Halt) → seen ≡ tree
     → Replies reply (ask_reply seen who start ask)
     → ((given : Result (List ℕ) Refusal) → Replies reply given → Gives text_view r (replied given))
     → Gives text_view r (asked tree who start ask)

@@ -22,7 +22,7 @@ use Rattle.gufi_top.specs.Asks.{ask_reply}
 use Rattle.gufi_top.specs.Verdict.{total_for, summary_of, replied, summary_over, gen_verdict, command_over}
 use Rattle.gufi_top.specs.Laws.{GenIsNeverRefused}
 
-none_refused : (r : Resolved) → is_found r ≡ true → refusal_of r ≡ None
+pub none_refused : (r : Resolved) → is_found r ≡ true → refusal_of r ≡ None
 none_refused (Found id) h = refl
 none_refused (Denied depth class) h = absurd (false≢true h)
 none_refused (NoSuch depth) h = absurd (false≢true h)

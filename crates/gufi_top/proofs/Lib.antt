@@ -4,8 +4,9 @@ pub mod RunLemmas
 pub mod EndLemmas
 pub mod SessionLemmas
 pub mod StepLemmas
-pub mod QueryLemmas
+pub mod SearchLemmas
 pub mod AskLemmas
 pub mod SummaryLemmas
 pub mod GenLemmas
 pub mod TraceImages
+pub mod ListedTexts

@@ -3,6 +3,8 @@ use Rattle.std.proofs.Common.{◌≡◌, ℕ, true, List, [], refl}
 use Rattle.std.specs.Prelude.{Option, Some, None, option_map, Result, Ok, Err, Vec}
 use Rattle.std.specs.declared.alloc.Global.{Global}
 use Rattle.gufi_io.specs.Files.{Files}
+use Rattle.gufi_io.specs.declared.shelf.Shelf.{Ghosts as ShelfOf}
+use Rattle.gufi_io.specs.declared.sink.Sink.{Ghosts as SinkOf}
 use Rattle.gufi_base.specs.Words.{result_map_err}
 use Rattle.gufi_access.specs.declared.class.Principal.{Principal}
 use Rattle.gufi_words.specs.declared.command.Command.{Command}
@@ -18,14 +20,14 @@ use Rattle.gufi_top.specs.Calls.{Gives, GivesOver, OfWordsOnlyIf}
 use Rattle.gufi_top.specs.Views.{text_view}
 use Rattle.gufi_top.specs.Ends.{told_verdict}
 use Rattle.gufi_top.specs.Endings.{HasRun}
-use Rattle.gufi_top.specs.declared.halt.Text.{Text}
+use Rattle.gufi_top.specs.declared.halt.Output.{Output}
 use Rattle.gufi_top.specs.declared.halt.Halt.{Halt}
 use Rattle.gufi_top.specs.declared.halt.Halt.TheVariants as halts
 use Rattle.gufi_top.proofs.StepLemmas.{over_ok, over_err, given_over}
 
 -- ---- one step after another
 
-pub walk_ok : (told : Option Files) (trace : List ℕ) (who : Principal) (delim : ℕ) (tree : List Directory) (r : Result Text Halt)
+pub walk_ok : (told : Option Files) (trace : List ℕ) (who : Principal) (delim : ℕ) (tree : List Directory) (r : Result Output Halt)
     → GivesOver {A = List Directory} told (λ t. t) (Ok tree) (trace_in delim trace) → Gives text_view r (asked tree who [] walk_ask) → GivesOver told text_view r (walk_over trace who delim)
 unfolding walk_over
 walk_ok told trace who delim tree r read given = over_ok told (λ t. t) text_view tree r (trace_in delim trace) (λ t files. asked t who [] walk_ask) read (given_over told text_view r _ given)
@@ -35,7 +37,7 @@ pub walk_err : (told : Option Files) (trace : List ℕ) (who : Principal) (delim
 unfolding walk_over
 walk_err told trace who delim e read = over_err told (λ t. t) text_view e (trace_in delim trace) (λ t files. asked t who [] walk_ask) read
 
-pub trace2index_ok : (told : Option Files) (trace : List ℕ) (delim : ℕ) (tree : List Directory) (r : Result Text Halt)
+pub trace2index_ok : (told : Option Files) (trace : List ℕ) (delim : ℕ) (tree : List Directory) (r : Result Output Halt)
     → GivesOver {A = List Directory} told (λ t. t) (Ok tree) (trace_in delim trace) → Gives text_view r (writes_only (image_text tree 0)) → GivesOver told text_view r (trace2index_over trace delim)
 unfolding trace2index_over
 trace2index_ok told trace delim tree r read given = over_ok told (λ t. t) text_view tree r (trace_in delim trace) (λ t files. writes_only (image_text t 0)) read (given_over told text_view r _ given)
@@ -45,7 +47,7 @@ pub trace2index_err : (told : Option Files) (trace : List ℕ) (delim : ℕ) (e 
 unfolding trace2index_over
 trace2index_err told trace delim e read = over_err told (λ t. t) text_view e (trace_in delim trace) (λ t files. writes_only (image_text t 0)) read
 
-pub rollup_ok : (told : Option Files) (index : List ℕ) (delim limit : ℕ) (snap : Snap) (r : Result Text Halt)
+pub rollup_ok : (told : Option Files) (index : List ℕ) (delim limit : ℕ) (snap : Snap) (r : Result Output Halt)
     → GivesOver {A = Snap} told (λ s. s) (Ok snap) (index_in delim limit index) → Gives text_view r (rolled_up limit snap.tree) → GivesOver told text_view r (rollup_over index delim limit)
 unfolding rollup_over
 rollup_ok told index delim limit snap r read given = over_ok told (λ s. s) text_view snap r (index_in delim limit index) (λ s files. rolled_up limit s.tree) read (given_over told text_view r _ given)
@@ -87,10 +89,10 @@ unfolding verdict
 command_told None words command read = refl
 command_told (Some files) words command read = rw read refl
 
-pub words_run : (told : Option Files) (words : List (List ℕ)) (command : Command) {status : ℕ} {numbers : List ℕ} {out out' notes notes' : Option (List ℕ)} {out_faults out_faults' faults faults' shelf shelf' absents absents' : ℕ}
-    → Gives {A = Command} (λ c. c) (Ok command) (command_in words) → HasRun (option_map (command_over command) told) status numbers out out' notes notes' out_faults out_faults' faults faults' shelf shelf' absents absents'
-    → HasRun (told_verdict told words) status numbers out out' notes notes' out_faults out_faults' faults faults' shelf shelf' absents absents'
-words_run told words command read run = rw (command_told told words command read) run
+pub words_run : {F K : Type 0} (shelf : ShelfOf F) (sink : SinkOf K) (told : Option Files) (words : List (List ℕ)) (command : Command) {status : ℕ} {numbers : List ℕ} {before after : F} {out out' notes notes' : K}
+    → Gives {A = Command} (λ c. c) (Ok command) (command_in words) → HasRun shelf sink (option_map (command_over command) told) status numbers before after out out' notes notes'
+    → HasRun shelf sink (told_verdict told words) status numbers before after out out' notes notes'
+words_run shelf sink told words command read run = rw (command_told told words command read) run
 
 pub words_ok : (words : List (List ℕ)) (command : Command) → Gives {A = Command} (λ c. c) (Ok command) (command_in words) → may_refuse_words words ≡ may_refuse command
 words_ok words command read = rw read refl

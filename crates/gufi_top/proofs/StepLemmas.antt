@@ -1,8 +1,10 @@
 -- Lemmas on steps over the files, one behind another.
-use Rattle.std.proofs.Common.{◌≤◌, ℕ, List, refl, arith}
+use Rattle.std.proofs.Common.{ℕ, List, refl, arith}
 use Rattle.std.specs.Prelude.{Option, Some, None, Result, Ok, Err, Vec}
 use Rattle.std.specs.declared.alloc.Global.{Global}
 use Rattle.gufi_io.specs.Files.{Files}
+use Rattle.gufi_io.specs.Kept.{Keeps}
+use Rattle.gufi_io.specs.declared.shelf.Shelf.{Ghosts as ShelfOf}
 use Rattle.gufi_base.specs.Words.{◌>>=◌}
 use Rattle.gufi_users.specs.Entries.{PasswdEntry, GroupEntry, UserTables}
 use Rattle.gufi_top.specs.Reasons.{Reason, optional_file, passwd_within, group_within, passwd_in, group_in, tables_with, tables_beside, tables_in}
@@ -48,15 +50,16 @@ given_over (Some files) view r step given = given
 
 -- ---- causes
 
-pub cause_later : (f f' f'' a a' a'' : ℕ) (e : Halt) → f ≤ f' → a ≤ a' → HaltHasCause f' f'' a' a'' e → HaltHasCause f f'' a a'' e
-cause_later f f' f'' a a' a'' (halts.Refused status note) g b (good, absent) = (good, λ is. let h = absent is in omega arith)
-cause_later f f' f'' a a' a'' halts.ReadFault g b h = omega arith
-cause_later f f' f'' a a' a'' halts.Memory g b h = tt
+module _ {F : Type 0} (shelf : ShelfOf F) where
+  pub cause_later : (before mid after : F) (e : Halt) → Keeps shelf before mid → HaltHasCause shelf mid after e → HaltHasCause shelf before after e
+  cause_later before mid after (halts.Refused status note) kept (good, absent) = (good, λ is. let h = absent is in let more = kept.absents in omega arith)
+  cause_later before mid after halts.ReadFault kept h = let more = kept.faults in omega arith
+  cause_later before mid after halts.Memory kept h = tt
 
-pub cause_of_bytes : (f f' a a' : ℕ) (e : Halt) → IsOfBytes e → HaltHasCause f f' a a' e
-cause_of_bytes f f' a a' (halts.Refused status note) (good, other) = (good, λ is. absurd (other is))
-cause_of_bytes f f' a a' halts.ReadFault h = absurd h
-cause_of_bytes f f' a a' halts.Memory h = tt
+  pub cause_of_bytes : (old new : F) (e : Halt) → IsOfBytes e → HaltHasCause shelf old new e
+  cause_of_bytes old new (halts.Refused status note) (good, other) = (good, λ is. absurd (other is))
+  cause_of_bytes old new halts.ReadFault h = absurd h
+  cause_of_bytes old new halts.Memory h = tt
 
 -- ---- the files of users
 

@@ -9,13 +9,13 @@ use Rattle.gufi_walk.specs.declared.refusal.Refusal.{Refusal}
 use Rattle.gufi_top.specs.Calls.{Gives, Replies, AppendsReply}
 use Rattle.gufi_top.specs.Verdict.{generated_tree, total_for, summary_of, summary_over, replied}
 use Rattle.gufi_top.specs.Views.{text_view}
-use Rattle.gufi_top.specs.declared.halt.Text.{Text}
+use Rattle.gufi_top.specs.declared.halt.Output.{Output}
 use Rattle.gufi_top.specs.declared.halt.Halt.{Halt}
 use Rattle.gufi_top.specs.declared.halt.Halt.TheVariants as halts
 
 -- ---- the tree, and then its summary
 
-pub summary_ok : (n delim : ℕ) (tree : List Directory) (r : Result Text Halt)
+pub summary_ok : (n delim : ℕ) (tree : List Directory) (r : Result Output Halt)
     → Gives {A = List Directory} (λ t. t) (Ok tree) (generated_tree n delim) → Gives text_view r (replied (summary_of tree)) → Gives text_view r (summary_over n delim)
 unfolding summary_over
 summary_ok n delim tree r read given = rw read given

@@ -2,6 +2,7 @@
 use Rattle.std.specs.Prelude.{◌≡◌, ◌≢◌, ℕ, List, ◌++◌, Vec, ⊤, Option, Some, None, Result, Ok, Err}
 use Rattle.std.specs.declared.alloc.Global.{Global}
 use Rattle.gufi_io.specs.Files.{Files}
+use Rattle.gufi_io.specs.declared.shelf.Shelf.{Ghosts as ShelfOf}
 use Rattle.gufi_io.specs.Causes.{Rose}
 use Rattle.gufi_walk.specs.declared.refusal.Refusal.{Refusal}
 use Rattle.gufi_walk.specs.declared.refusal.Refusal.TheVariants as refusals
@@ -36,10 +37,10 @@ AppendsReply (Ok done) old new given = (text : List ℕ) × (given ≡ Ok text) 
 AppendsReply (Err refusal) old new given = refusal ≢ refusals.Memory → given ≡ Err refusal
 
 -- each reason comes only where its count rose
-abbrev pub HaltHasCause : ℕ → ℕ → ℕ → ℕ → Halt → Type 0
-HaltHasCause faults faults' absents absents' (halts.Refused status note) = IsVerdictStatus status × (status ≡ 8 → Rose absents absents')
-HaltHasCause faults faults' absents absents' halts.ReadFault = Rose faults faults'
-HaltHasCause faults faults' absents absents' halts.Memory = ⊤
+abbrev pub HaltHasCause : {F : Type 0} → ShelfOf F → F → F → Halt → Type 0
+HaltHasCause shelf old new (halts.Refused status note) = IsVerdictStatus status × (status ≡ 8 → Rose (shelf.absents old) (shelf.absents new))
+HaltHasCause shelf old new halts.ReadFault = Rose (shelf.faults old) (shelf.faults new)
+HaltHasCause shelf old new halts.Memory = ⊤
 
 -- a reason that no shelf causes
 abbrev pub IsOfBytes : Halt → Type 0

@@ -3,11 +3,13 @@ use Rattle.std.specs.Prelude.{◌≡◌, ◌≢◌, ◌⊎◌, ℕ, List, [], co
 use Rattle.std.specs.Io.KnownBytes.{Appends}
 use Rattle.gufi_io.specs.Causes.{Rose}
 use Rattle.gufi_io.specs.Files.{Files, TakesFront}
+use Rattle.gufi_io.specs.declared.sink.Sink.{Ghosts as SinkOf}
 use Rattle.gufi_base.specs.Words.{line}
 use Rattle.gufi_phases.specs.declared.load.Stop.{Stop}
 use Rattle.gufi_session.specs.Ends.{AnsweredWhole, AnsweredInPart}
 use Rattle.gufi_top.specs.Reasons.{Reason, stop_reason}
 use Rattle.gufi_top.specs.Verdict.{Verdict, writes, runs, verdict}
+use Rattle.gufi_top.specs.declared.ending.Outcome.{Outcome}
 
 abbrev pub read_fault_note : List ℕ
 read_fault_note = line (codes "gufi: read fault")
@@ -64,59 +66,60 @@ abbrev pub MayBeCut : Option (Result Verdict Reason) → List ℕ → List ℕ �
 MayBeCut None numbers text note = ⊤
 MayBeCut (Some given) numbers text note = IsCut given numbers text note
 
--- ---- what the two sinks took
+-- ---- what the two sinks took; out and notes are as the run begins, out' and notes' as it ends
 
--- a note was taken, or a front of it where the sink's faults rose
-abbrev pub TakesNote : Option (List ℕ) → Option (List ℕ) → ℕ → ℕ → List ℕ → Type 0
-TakesNote old new faults faults' note = Appends old new note ⊎ (Rose faults faults' × TakesFront old new note)
+module _ {K : Type 0} (sink : SinkOf K) where
+  -- a note was taken, or a front of it where the sink's faults rose
+  abbrev pub TakesNote : K → K → List ℕ → Type 0
+  TakesNote old new note = Appends (sink.taken old) (sink.taken new) note ⊎ (Rose (sink.faults old) (sink.faults new) × TakesFront (sink.taken old) (sink.taken new) note)
 
--- by the verdict: the note of a text was taken whole, and any other as a note is
-abbrev pub IsNoted : Result Verdict Reason → Option (List ℕ) → Option (List ℕ) → ℕ → ℕ → List ℕ → Type 0
-IsNoted (Err why) old new faults faults' note = TakesNote old new faults faults' note
-IsNoted (Ok (writes whole)) old new faults faults' note = Appends old new note
-IsNoted (Ok (runs files run)) old new faults faults' note = TakesNote old new faults faults' note
+  -- by the verdict: the note of a text was taken whole, and any other as a note is
+  abbrev pub IsNoted : Result Verdict Reason → K → K → List ℕ → Type 0
+  IsNoted (Err why) old new note = TakesNote old new note
+  IsNoted (Ok (writes whole)) old new note = Appends (sink.taken old) (sink.taken new) note
+  IsNoted (Ok (runs files run)) old new note = TakesNote old new note
 
-abbrev pub MayBeNoted : Option (Result Verdict Reason) → Option (List ℕ) → Option (List ℕ) → ℕ → ℕ → List ℕ → Type 0
-MayBeNoted None old new faults faults' note = TakesNote old new faults faults' note
-MayBeNoted (Some given) old new faults faults' note = IsNoted given old new faults faults' note
+  abbrev pub MayBeNoted : Option (Result Verdict Reason) → K → K → List ℕ → Type 0
+  MayBeNoted None old new note = TakesNote old new note
+  MayBeNoted (Some given) old new note = IsNoted given old new note
 
--- ---- ends by a verdict that may be given
+  -- ---- ends by a verdict that may be given
 
--- the whole text was taken, and its note
-pub record EndedBy (given : Option (Result Verdict Reason)) (status : ℕ) (numbers : List ℕ) (out out' notes notes' : Option (List ℕ)) (faults faults' : ℕ) : Type 0 where
-  pub text : List ℕ
-  pub note : List ℕ
-  pub answer : MayEnd given status numbers text note
-  pub taken : Appends out out' text
-  pub noted : MayBeNoted given notes notes' faults faults' note
+  -- the whole text was taken, and its note
+  pub record EndedBy (given : Option (Result Verdict Reason)) (status : ℕ) (numbers : List ℕ) (out out' notes notes' : K) : Type 0 where
+    pub text : List ℕ
+    pub note : List ℕ
+    pub answer : MayEnd given status numbers text note
+    pub taken : Appends (sink.taken out) (sink.taken out') text
+    pub noted : MayBeNoted given notes notes' note
 
--- the run broke off, and this note was taken
-pub record BrokenOffBy (given : Option (Result Verdict Reason)) (numbers : List ℕ) (out out' notes notes' : Option (List ℕ)) (faults faults' : ℕ) (note : List ℕ) : Type 0 where
-  pub text : List ℕ
-  pub answer : MayBreakOff given numbers text
-  pub taken : Appends out out' text
-  pub noted : TakesNote notes notes' faults faults' note
+  -- the run broke off, and this note was taken
+  pub record BrokenOffBy (given : Option (Result Verdict Reason)) (numbers : List ℕ) (out out' notes notes' : K) (note : List ℕ) : Type 0 where
+    pub text : List ℕ
+    pub answer : MayBreakOff given numbers text
+    pub taken : Appends (sink.taken out) (sink.taken out') text
+    pub noted : TakesNote notes notes' note
 
--- A write failed: a front of the text was taken, and the note of the fault. Where the failed write was that of status 0's note, only a front of that.
-pub record TextEnds (out out' notes notes' : Option (List ℕ)) (out_faults out_faults' faults faults' : ℕ) (text report : List ℕ) : Type 0 where
-  pub cause : Rose out_faults out_faults' ⊎ Rose faults faults'
-  pub taken : TakesFront out out' text
-  pub noted : TakesNote notes notes' faults faults' write_fault_note ⊎ (Rose faults faults' × TakesFront notes notes' report)
+  -- A write failed: a front of the text was taken, and the note of the fault. Where the failed write was that of status 0's note, only a front of that.
+  pub record TextEnds (out out' notes notes' : K) (text report : List ℕ) : Type 0 where
+    pub cause : Rose (sink.faults out) (sink.faults out') ⊎ Rose (sink.faults notes) (sink.faults notes')
+    pub taken : TakesFront (sink.taken out) (sink.taken out') text
+    pub noted : TakesNote notes notes' write_fault_note ⊎ (Rose (sink.faults notes) (sink.faults notes') × TakesFront (sink.taken notes) (sink.taken notes') report)
 
--- the same of the text that is asked for
-pub record WriteFaultedBy (given : Option (Result Verdict Reason)) (numbers : List ℕ) (out out' notes notes' : Option (List ℕ)) (out_faults out_faults' faults faults' : ℕ) : Type 0 where
-  pub text : List ℕ
-  pub report : List ℕ
-  pub answer : MayBeCut given numbers text report
-  pub ends : TextEnds out out' notes notes' out_faults out_faults' faults faults' text report
+  -- the same of the text that is asked for
+  pub record WriteFaultedBy (given : Option (Result Verdict Reason)) (numbers : List ℕ) (out out' notes notes' : K) : Type 0 where
+    pub text : List ℕ
+    pub report : List ℕ
+    pub answer : MayBeCut given numbers text report
+    pub ends : TextEnds out out' notes notes' text report
 
--- ---- the same of what the words ask of the files
+  -- ---- the same of what the words ask of the files
 
-abbrev pub Ended : Option Files → List (List ℕ) → ℕ → List ℕ → Option (List ℕ) → Option (List ℕ) → Option (List ℕ) → Option (List ℕ) → ℕ → ℕ → Type 0
-Ended told words = EndedBy (told_verdict told words)
+  abbrev pub Ended : Option Files → List (List ℕ) → Outcome → K → K → K → K → Type 0
+  Ended told words outcome = EndedBy (told_verdict told words) outcome.status outcome.numbers.items
 
-abbrev pub BrokenOff : Option Files → List (List ℕ) → List ℕ → Option (List ℕ) → Option (List ℕ) → Option (List ℕ) → Option (List ℕ) → ℕ → ℕ → List ℕ → Type 0
-BrokenOff told words = BrokenOffBy (told_verdict told words)
+  abbrev pub BrokenOff : Option Files → List (List ℕ) → Outcome → K → K → K → K → List ℕ → Type 0
+  BrokenOff told words outcome = BrokenOffBy (told_verdict told words) outcome.numbers.items
 
-abbrev pub WriteFaulted : Option Files → List (List ℕ) → List ℕ → Option (List ℕ) → Option (List ℕ) → Option (List ℕ) → Option (List ℕ) → ℕ → ℕ → ℕ → ℕ → Type 0
-WriteFaulted told words = WriteFaultedBy (told_verdict told words)
+  abbrev pub WriteFaulted : Option Files → List (List ℕ) → Outcome → K → K → K → K → Type 0
+  WriteFaulted told words outcome = WriteFaultedBy (told_verdict told words) outcome.numbers.items

@@ -6,10 +6,10 @@ ghost use Rattle.gufi_top.specs.Verdict.{walk_over, command_over, is_one_shot, m
 ghost use Rattle.gufi_top.specs.Calls.{GivesOver, OfWordsOnlyIf, IsPastWords, HaltHasCause};
 
 use crate::generate::generate;
-use crate::halt::{Halt, Text};
-use crate::query::ask;
+use crate::halt::{Halt, Output};
 use crate::question::Question;
 use crate::rollup::{rollup, trace2index};
+use crate::search::ask;
 use crate::walk::walk;
 use gufi_access::{GroupList, Principal};
 use gufi_base::Nums;
@@ -39,10 +39,10 @@ fn walk_as<R: Threads + Wait + Sync, F: Shelf, G: Gate + Sync>(
     uid: u32,
     gids: &Nums,
     delim: u8,
-) -> Result<Text, Halt>
+) -> Result<Output, Halt>
     ensures text { GivesOver (F.files shelf.old) text_view result (walk_over trace.now (principal uid gids.now) delim) }
     ensures past_words { IfErr result IsPastWords }
-    ensures cause { IfErr result (HaltHasCause (F.faults shelf.old) (F.faults shelf.new) (F.absents shelf.old) (F.absents shelf.new)) }
+    ensures cause { IfErr result (HaltHasCause F.Shelf shelf.old shelf.new) }
 {
     match principal_of(alloc, uid, gids) {
         Ok(who) => walk(walkers, alloc, shelf, trace, &who, delim),
@@ -70,11 +70,11 @@ pub(crate) fn answer_command<R: Threads + Wait + Sync, F: Shelf, G: Gate + Sync>
     alloc: Global,
     command: &Command,
     shelf: &mut F,
-) -> Result<Text, Halt>
+) -> Result<Output, Halt>
     requires { IsTrue (is_one_shot command.now) }
     ensures text { GivesOver (F.files shelf.old) text_view result (command_over command.now) }
     ensures words { IfErr result (OfWordsOnlyIf (IsTrue (may_refuse command.now))) }
-    ensures cause { IfErr result (HaltHasCause (F.faults shelf.old) (F.faults shelf.new) (F.absents shelf.old) (F.absents shelf.new)) }
+    ensures cause { IfErr result (HaltHasCause F.Shelf shelf.old shelf.new) }
 {
     match command {
         Command::Walk {

@@ -15,16 +15,17 @@ pub struct Outcome {
     pub numbers: Vec<u64>,
 }
 
-/// Writes a note. A fault of that changes nothing.
+/// Writes a note.
 pub(crate) fn tell<K: Sink>(notes: &mut K, note: &[u8])
-    ensures { TakesNote (K.taken notes.old) (K.taken notes.new) (K.faults notes.old) (K.faults notes.new) note.now }
+    ensures { TakesNote K.Sink notes.old notes.new note.now }
 {
+    // Where the note fails, only the status is left to tell.
     let _ = write_whole(notes, note);
 }
 
 // Writes the note of a halt, and gives its status.
 fn tell_halt<K: Sink>(halt: Halt, notes: &mut K) -> u8
-    ensures { HaltTells halt result (K.taken notes.old) (K.taken notes.new) (K.faults notes.old) (K.faults notes.new) }
+    ensures { HaltTells K.Sink halt result notes.old notes.new }
 {
     match halt {
         Halt::Refused { status, note } => {
@@ -44,7 +45,7 @@ fn tell_halt<K: Sink>(halt: Halt, notes: &mut K) -> u8
 
 /// The outcome of a run that writes nothing but the note of its halt.
 pub(crate) fn halted<K: Sink>(alloc: Global, halt: Halt, notes: &mut K) -> Outcome
-    ensures told { HaltTells halt result.status (K.taken notes.old) (K.taken notes.new) (K.faults notes.old) (K.faults notes.new) }
+    ensures told { HaltTells K.Sink halt result.status notes.old notes.new }
     ensures numbers { result.numbers.items ≡ [] }
 {
     let status = tell_halt(halt, notes);

@@ -8,7 +8,7 @@ ghost use Rattle.gufi_top.specs.Verdict.{writes_only, generated_tree, total_for,
 ghost use Rattle.gufi_top.specs.Calls.{Gives, Replies, AppendsReply, IsOfBytes, IsPastWords};
 
 use crate::ask::total_for;
-use crate::halt::{Halt, Text};
+use crate::halt::{Halt, Output};
 use crate::note;
 use crate::reading::read_trace_bytes;
 use crate::rollup::report_of;
@@ -115,7 +115,7 @@ fn summary_of<R: Threads + Wait + Sync, G: Gate + Sync>(
     walkers: &Walkers<'_, R, G>,
     alloc: Global,
     tree: Tree,
-) -> Result<Text, Halt>
+) -> Result<Output, Halt>
     ensures text { Gives text_view result (replied (summary_of tree)) }
     ensures of_bytes { IfErr result IsOfBytes }
     ensures past_words { IfErr result IsPastWords }
@@ -143,7 +143,7 @@ fn summary<R: Threads + Wait + Sync, G: Gate + Sync>(
     alloc: Global,
     n: u32,
     delim: u8,
-) -> Result<Text, Halt>
+) -> Result<Output, Halt>
     ensures text { Gives text_view result (summary_over n delim) }
     ensures of_bytes { IfErr result IsOfBytes }
     ensures past_words { IfErr result IsPastWords }
@@ -155,13 +155,13 @@ fn summary<R: Threads + Wait + Sync, G: Gate + Sync>(
 }
 
 /// A generated trace.
-fn trace(alloc: Global, n: u32, delim: u8) -> Result<Text, Halt>
+fn trace(alloc: Global, n: u32, delim: u8) -> Result<Output, Halt>
     ensures text { Gives text_view result (writes_only (gen_text n delim)) }
     ensures of_bytes { IfErr result IsOfBytes }
     ensures past_words { IfErr result IsPastWords }
 {
     let out = gen_trace(alloc, n, delim)?;
-    Ok(Text {
+    Ok(Output {
         out,
         notes: Vec::new(alloc),
     })
@@ -174,7 +174,7 @@ pub(crate) fn generate<R: Threads + Wait + Sync, G: Gate + Sync>(
     n: u32,
     delim: u8,
     whole: bool,
-) -> Result<Text, Halt>
+) -> Result<Output, Halt>
     ensures text { Gives text_view result (gen_verdict n delim whole) }
     ensures of_bytes { IfErr result IsOfBytes }
     ensures past_words { IfErr result IsPastWords }

@@ -7,7 +7,7 @@ use std::alloc::{AllocError, AllocFailed};
 
 /// The whole text, and the note of status 0.
 #[derive(Drop)]
-pub(crate) struct Text {
+pub(crate) struct Output {
     pub(crate) out: Vec<u8>,
     pub(crate) notes: Vec<u8>,
 }

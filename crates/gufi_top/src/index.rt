@@ -2,6 +2,7 @@
 ghost use Rattle.std.specs.Prelude.{◌≡◌, ◌≤◌, ◌<◌, true, length, IfErr, IfOk, OnOk, IsTrue, Err};
 ghost use Rattle.gufi_base.specs.Limits.{max_image};
 ghost use Rattle.gufi_io.specs.Files.{IsReadUpTo};
+ghost use Rattle.gufi_io.specs.Kept.{Keeps};
 ghost use Rattle.gufi_snap.specs.Snap.{Snap};
 ghost use Rattle.gufi_top.specs.Views.{bytes_view};
 ghost use Rattle.gufi_top.specs.Reasons.{held, file_in, image_reason, image_within, image_in, rolled_under, traced_in, is_image, index_in};
@@ -45,10 +46,8 @@ fn read_front<F: Shelf>(
     ensures begins { IfOk result (λ front. BeginsAs (F.files shelf.old) name.now (is_image front.items)) }
     ensures refused { IfErr result (λ e. GivesOver (F.files shelf.old) bytes_view (Err e) (λ files. held files name.now)) }
     ensures past_words { IfErr result IsPastWords }
-    ensures cause { IfErr result (HaltHasCause (F.faults shelf.old) (F.faults shelf.new) (F.absents shelf.old) (F.absents shelf.new)) }
-    ensures same { F.files shelf.new ≡ F.files shelf.old }
-    ensures faults { F.faults shelf.old ≤ F.faults shelf.new }
-    ensures absents { F.absents shelf.old ≤ F.absents shelf.new }
+    ensures cause { IfErr result (HaltHasCause F.Shelf shelf.old shelf.new) }
+    ensures kept { Keeps F.Shelf shelf.old shelf.new }
 {
     open_named(alloc, shelf, name)?;
     let mut front = Vec::new(alloc);
@@ -80,7 +79,7 @@ fn gather_rest<F: Shelf>(
     ensures bytes { GivesOver (F.files shelf.old) bytes_view result (file_in max_image name.now) }
     ensures few { IfOk result (λ bytes. length bytes.items ≤ max_image) }
     ensures past_words { IfErr result IsPastWords }
-    ensures cause { IfErr result (HaltHasCause (F.faults shelf.old) (F.faults shelf.new) (F.absents shelf.old) (F.absents shelf.new)) }
+    ensures cause { IfErr result (HaltHasCause F.Shelf shelf.old shelf.new) }
 {
     let size = bytes.len();
     match read_rest(alloc, shelf, name, room, MAX_IMAGE, size, &mut bytes) {
@@ -133,7 +132,7 @@ fn rest_of_image<F: Shelf>(
     requires upto { IsReadUpTo (F.files shelf.old) name.now front.items (F.left shelf.old) }
     ensures snap { GivesOver (F.files shelf.old) (λ (snap : Snap). snap) result (image_in name.now) }
     ensures past_words { IfErr result IsPastWords }
-    ensures cause { IfErr result (HaltHasCause (F.faults shelf.old) (F.faults shelf.new) (F.absents shelf.old) (F.absents shelf.new)) }
+    ensures cause { IfErr result (HaltHasCause F.Shelf shelf.old shelf.new) }
 {
     match gather_rest(alloc, shelf, name, room, front) {
         Ok(bytes) => snapshot_in(alloc, name, &bytes),
@@ -166,7 +165,7 @@ fn rest_of_traced<F: Shelf>(
     requires upto { IsReadUpTo (F.files shelf.old) name.now front.now (F.left shelf.old) }
     ensures snap { GivesOver (F.files shelf.old) (λ (snap : Snap). snap) result (traced_in delim limit name.now) }
     ensures past_words { IfErr result IsPastWords }
-    ensures cause { IfErr result (HaltHasCause (F.faults shelf.old) (F.faults shelf.new) (F.absents shelf.old) (F.absents shelf.new)) }
+    ensures cause { IfErr result (HaltHasCause F.Shelf shelf.old shelf.new) }
 {
     match rest_of_trace(alloc, shelf, name, delim, room, front) {
         Ok(tree) => roll_under(alloc, tree, limit),
@@ -191,7 +190,7 @@ fn rest_of_index<F: Shelf>(
     requires begins { BeginsAs (F.files shelf.old) name.now (is_image front.items) }
     ensures snap { GivesOver (F.files shelf.old) (λ (snap : Snap). snap) result (index_in delim limit name.now) }
     ensures past_words { IfErr result IsPastWords }
-    ensures cause { IfErr result (HaltHasCause (F.faults shelf.old) (F.faults shelf.new) (F.absents shelf.old) (F.absents shelf.new)) }
+    ensures cause { IfErr result (HaltHasCause F.Shelf shelf.old shelf.new) }
 {
     if is_image(&front) {
         rest_of_image(alloc, shelf, name, room, front)
@@ -213,7 +212,7 @@ pub(crate) fn read_index<F: Shelf>(
 ) -> Result<Snapshot, Halt>
     ensures snap { GivesOver (F.files shelf.old) (λ (snap : Snap). snap) result (index_in delim limit name.now) }
     ensures past_words { IfErr result IsPastWords }
-    ensures cause { IfErr result (HaltHasCause (F.faults shelf.old) (F.faults shelf.new) (F.absents shelf.old) (F.absents shelf.new)) }
+    ensures cause { IfErr result (HaltHasCause F.Shelf shelf.old shelf.new) }
 {
     let mut buffer = piece_buffer(alloc)?;
     let room = buffer.as_mut_slice();

@@ -1,10 +1,21 @@
 //! Laws of what is written.
 ghost use Rattle.gufi_top.specs.Asks.{AsksArePrivate};
-ghost use Rattle.gufi_top.specs.Laws.{GenIsNeverRefused, TracesComeBackFromImages};
+ghost use Rattle.gufi_top.specs.Laws.{WalkWritesTheListedRows, FindWritesTheListedRows, GenIsNeverRefused, TracesComeBackFromImages};
 
 use gufi_gen::generated_traces_are_read;
 use gufi_image::written_images_read_back;
 use gufi_trace::traces_mean_sound_trees;
+
+/// `walk` writes exactly the rows that its user lists by walking from the root, each once, in path order.
+pub fn walk_writes_the_listed_rows()
+    ensures { WalkWritesTheListedRows }
+{}
+
+/// `find` writes exactly those rows that its user lists by walking from the start, each once, in path order, for which the
+/// expression is true.
+pub fn find_writes_the_listed_rows()
+    ensures { FindWritesTheListedRows }
+{}
 
 /// To one who can't tell two trees apart by what may be listed, each ask has one reply in both.
 pub fn asks_are_private()

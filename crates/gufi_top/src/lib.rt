@@ -13,11 +13,11 @@ mod halt;
 mod index;
 mod laws;
 mod note;
-mod query;
 mod question;
 mod reading;
 mod rollup;
 mod run;
+mod search;
 mod session;
 mod start;
 mod users;
@@ -25,5 +25,8 @@ mod walk;
 mod words;
 
 pub use ending::Outcome;
-pub use laws::{asks_are_private, gen_is_never_refused, traces_come_back_from_images};
+pub use laws::{
+    asks_are_private, find_writes_the_listed_rows, gen_is_never_refused,
+    traces_come_back_from_images, walk_writes_the_listed_rows,
+};
 pub use run::gufi_run;

@@ -12,7 +12,7 @@ ghost use Rattle.gufi_top.specs.Verdict.{asked_if, expression_in, find_asking, s
 ghost use Rattle.gufi_top.specs.Calls.{Gives, IsOfBytes};
 
 use crate::ask::{find_text, listing_text, query_text, record_text, report_text};
-use crate::halt::{Halt, Text as Written, refused};
+use crate::halt::{Halt, Output, refused};
 use crate::note;
 use crate::start::written;
 use gufi_access::Principal;
@@ -173,7 +173,7 @@ impl<'a> Question<'a> {
     }
 
     /// What it writes of a snapshot. The query words are judged before the start.
-    #[tactic(auto, using(crate::proofs::AskLemmas::asking, crate::proofs::QueryLemmas::expressions, crate::proofs::QueryLemmas::selects))]
+    #[tactic(auto, using(crate::proofs::AskLemmas::asking, crate::proofs::SearchLemmas::expressions, crate::proofs::SearchLemmas::selects))]
     pub(crate) fn answer<R: Threads + Wait + Sync, G: Gate + Sync>(
         &self,
         walkers: &Walkers<'_, R, G>,
@@ -182,7 +182,7 @@ impl<'a> Question<'a> {
         snap: Snapshot,
         who: &Principal,
         start: &Path,
-    ) -> Result<Written, Halt>
+    ) -> Result<Output, Halt>
         ensures text { Gives text_view result (asked_if snap.tree who.now start.now (asks self.now users.now)) }
         ensures of_bytes { IfErr result IsOfBytes }
     {

@@ -5,6 +5,7 @@ ghost use Rattle.gufi_base.specs.Limits.{max_dirs, max_entries, max_trace};
 ghost use Rattle.gufi_tree.specs.Build.{tree_of};
 ghost use Rattle.gufi_io.specs.Causes.{Rose};
 ghost use Rattle.gufi_io.specs.Files.{Holds, IsReadUpTo};
+ghost use Rattle.gufi_io.specs.Kept.{Keeps};
 ghost use Rattle.gufi_trace.specs.Reader.{HasRead};
 ghost use Rattle.gufi_trace.specs.TraceText.{of_line, of_tree};
 ghost use Rattle.gufi_top.specs.Views.{bytes_view};
@@ -35,10 +36,8 @@ pub(crate) fn read_file<F: Shelf>(
 ) -> Result<Vec<u8>, Halt>
     ensures bytes { GivesOver (F.files shelf.old) bytes_view result (file_in max name.now) }
     ensures past_words { IfErr result IsPastWords }
-    ensures cause { IfErr result (HaltHasCause (F.faults shelf.old) (F.faults shelf.new) (F.absents shelf.old) (F.absents shelf.new)) }
-    ensures same { F.files shelf.new ≡ F.files shelf.old }
-    ensures faults { F.faults shelf.old ≤ F.faults shelf.new }
-    ensures absents { F.absents shelf.old ≤ F.absents shelf.new }
+    ensures cause { IfErr result (HaltHasCause F.Shelf shelf.old shelf.new) }
+    ensures kept { Keeps F.Shelf shelf.old shelf.new }
 {
     match read_all(alloc, shelf, name, max) {
         Ok(bytes) => Ok(bytes),
@@ -69,10 +68,8 @@ pub(crate) fn open_named<F: Shelf>(alloc: Global, shelf: &mut F, name: &str) -> 
     ensures opened { OnOk result (IsReadUpTo (F.files shelf.old) name.now [] (F.left shelf.new)) }
     ensures refused { IfErr result (λ e. GivesOver (F.files shelf.old) bytes_view (Err e) (λ files. held files name.now)) }
     ensures past_words { IfErr result IsPastWords }
-    ensures cause { IfErr result (HaltHasCause (F.faults shelf.old) (F.faults shelf.new) (F.absents shelf.old) (F.absents shelf.new)) }
-    ensures same { F.files shelf.new ≡ F.files shelf.old }
-    ensures faults { F.faults shelf.old ≤ F.faults shelf.new }
-    ensures absents { F.absents shelf.old ≤ F.absents shelf.new }
+    ensures cause { IfErr result (HaltHasCause F.Shelf shelf.old shelf.new) }
+    ensures kept { Keeps F.Shelf shelf.old shelf.new }
 {
     match shelf.open_file(name) {
         Ok(()) => Ok(()),
@@ -124,7 +121,7 @@ fn feed_rest<F: Shelf>(
     ensures delim { IfOk result (λ fed. fed.delim ≡ reader.delim) }
     ensures refused { IfErr result (λ e. GivesOver (F.files shelf.old) bytes_view (Err e) (file_in max_trace name.now)) }
     ensures past_words { IfErr result IsPastWords }
-    ensures cause { IfErr result (HaltHasCause (F.faults shelf.old) (F.faults shelf.new) (F.absents shelf.old) (F.absents shelf.new)) }
+    ensures cause { IfErr result (HaltHasCause F.Shelf shelf.old shelf.new) }
 {
     let mut feed = Feed { reader };
     match read_rest(alloc, shelf, name, room, MAX_TRACE, size, &mut feed) {
@@ -150,7 +147,7 @@ fn rest_of_lines<F: Shelf>(
     requires upto { IsReadUpTo (F.files shelf.old) name.now front.now (F.left shelf.old) }
     ensures lines { GivesOver (F.files shelf.old) (λ lines. lines) result (lines_in delim name.now) }
     ensures past_words { IfErr result IsPastWords }
-    ensures cause { IfErr result (HaltHasCause (F.faults shelf.old) (F.faults shelf.new) (F.absents shelf.old) (F.absents shelf.new)) }
+    ensures cause { IfErr result (HaltHasCause F.Shelf shelf.old shelf.new) }
     ensures few { IfOk result (λ lines. length lines ≤ max_dirs + max_entries) }
 {
     let reader = reader_of(alloc, delim, front)?;
@@ -192,7 +189,7 @@ pub(crate) fn rest_of_trace<F: Shelf>(
     requires upto { IsReadUpTo (F.files shelf.old) name.now front.now (F.left shelf.old) }
     ensures tree { GivesOver (F.files shelf.old) (λ tree. tree) result (trace_in delim name.now) }
     ensures past_words { IfErr result IsPastWords }
-    ensures cause { IfErr result (HaltHasCause (F.faults shelf.old) (F.faults shelf.new) (F.absents shelf.old) (F.absents shelf.new)) }
+    ensures cause { IfErr result (HaltHasCause F.Shelf shelf.old shelf.new) }
 {
     match rest_of_lines(alloc, shelf, name, delim, room, front) {
         Ok(lines) => build_tree(alloc, name, lines),
@@ -210,7 +207,7 @@ pub(crate) fn read_trace_file<F: Shelf>(
 ) -> Result<Tree, Halt>
     ensures tree { GivesOver (F.files shelf.old) (λ tree. tree) result (trace_in delim name.now) }
     ensures past_words { IfErr result IsPastWords }
-    ensures cause { IfErr result (HaltHasCause (F.faults shelf.old) (F.faults shelf.new) (F.absents shelf.old) (F.absents shelf.new)) }
+    ensures cause { IfErr result (HaltHasCause F.Shelf shelf.old shelf.new) }
 {
     open_named(alloc, shelf, name)?;
     let mut buffer = piece_buffer(alloc)?;

@@ -6,7 +6,7 @@ ghost use Rattle.gufi_top.specs.Views.{text_view};
 ghost use Rattle.gufi_top.specs.Verdict.{writes_only, trace2index_over, rolled_up, rollup_over};
 ghost use Rattle.gufi_top.specs.Calls.{Gives, GivesOver, IsOfBytes, IsPastWords, HaltHasCause};
 
-use crate::halt::{Halt, Text};
+use crate::halt::{Halt, Output};
 use crate::index::read_index;
 use crate::note;
 use crate::reading::read_trace_file;
@@ -51,7 +51,7 @@ pub(crate) fn report_of(alloc: Global, tree: &Tree, limit: u64) -> Result<RollRe
 }
 
 // What `rollup` writes of a snapshot: the image of its tree under the limit, and a report as a note.
-fn roll_snapshot(alloc: Global, snap: Snapshot, limit: u64) -> Result<Text, Halt>
+fn roll_snapshot(alloc: Global, snap: Snapshot, limit: u64) -> Result<Output, Halt>
     ensures text { Gives text_view result (rolled_up limit snap.tree) }
     ensures of_bytes { IfErr result IsOfBytes }
     ensures past_words { IfErr result IsPastWords }
@@ -59,7 +59,7 @@ fn roll_snapshot(alloc: Global, snap: Snapshot, limit: u64) -> Result<Text, Halt
     let report = report_of(alloc, snap.tree(), limit)?;
     let notes = note::report(alloc, report)?;
     let out = image_under(alloc, snap, limit)?;
-    Ok(Text { out, notes })
+    Ok(Output { out, notes })
 }
 
 /// What `rollup` writes of an index.
@@ -70,10 +70,10 @@ pub(crate) fn rollup<F: Shelf>(
     index: &str,
     delim: u8,
     limit: u64,
-) -> Result<Text, Halt>
+) -> Result<Output, Halt>
     ensures text { GivesOver (F.files shelf.old) text_view result (rollup_over index.now delim limit) }
     ensures past_words { IfErr result IsPastWords }
-    ensures cause { IfErr result (HaltHasCause (F.faults shelf.old) (F.faults shelf.new) (F.absents shelf.old) (F.absents shelf.new)) }
+    ensures cause { IfErr result (HaltHasCause F.Shelf shelf.old shelf.new) }
 {
     match read_index(alloc, shelf, index, delim, limit) {
         Ok(snap) => roll_snapshot(alloc, snap, limit),
@@ -82,13 +82,13 @@ pub(crate) fn rollup<F: Shelf>(
 }
 
 // What `trace2index` writes of a tree.
-fn image_text_of(alloc: Global, tree: Tree) -> Result<Text, Halt>
+fn image_text_of(alloc: Global, tree: Tree) -> Result<Output, Halt>
     ensures text { Gives text_view result (writes_only (image_text tree 0)) }
     ensures of_bytes { IfErr result IsOfBytes }
     ensures past_words { IfErr result IsPastWords }
 {
     let out = image_of(alloc, snapshot_of(alloc, tree, 0)?)?;
-    Ok(Text {
+    Ok(Output {
         out,
         notes: Vec::new(alloc),
     })
@@ -101,10 +101,10 @@ pub(crate) fn trace2index<F: Shelf>(
     shelf: &mut F,
     trace: &str,
     delim: u8,
-) -> Result<Text, Halt>
+) -> Result<Output, Halt>
     ensures text { GivesOver (F.files shelf.old) text_view result (trace2index_over trace.now delim) }
     ensures past_words { IfErr result IsPastWords }
-    ensures cause { IfErr result (HaltHasCause (F.faults shelf.old) (F.faults shelf.new) (F.absents shelf.old) (F.absents shelf.new)) }
+    ensures cause { IfErr result (HaltHasCause F.Shelf shelf.old shelf.new) }
 {
     match read_trace_file(alloc, shelf, trace, delim) {
         Ok(tree) => image_text_of(alloc, tree),

@@ -9,7 +9,7 @@ ghost use Rattle.gufi_top.specs.Endings.{HasRun};
 
 use crate::command::{answer_command, workers_of};
 use crate::ending::{Outcome, halted, tell};
-use crate::halt::Text;
+use crate::halt::Output;
 use crate::note;
 use crate::session::{self, Session};
 use crate::words::read_command;
@@ -21,16 +21,16 @@ use std::sync::Wait;
 use std::thread::Threads;
 
 // Writes the text, and then its note.
-fn write_text<K: Sink>(text: &Text, out: &mut K, notes: &mut K) -> u8
+fn write_output<K: Sink>(output: &Output, out: &mut K, notes: &mut K) -> u8
     ensures status { (result ≡ 0) ⊎ (result ≡ 4) }
-    ensures written { result ≡ 0 → Appends (K.taken out.old) (K.taken out.new) text.now.out.items × Appends (K.taken notes.old) (K.taken notes.new) text.now.notes.items }
-    ensures fault { result ≡ 4 → TextEnds (K.taken out.old) (K.taken out.new) (K.taken notes.old) (K.taken notes.new) (K.faults out.old) (K.faults out.new) (K.faults notes.old) (K.faults notes.new) text.now.out.items text.now.notes.items }
+    ensures written { result ≡ 0 → Appends (K.taken out.old) (K.taken out.new) output.now.out.items × Appends (K.taken notes.old) (K.taken notes.new) output.now.notes.items }
+    ensures fault { result ≡ 4 → TextEnds K.Sink out.old out.new notes.old notes.new output.now.out.items output.now.notes.items }
 {
-    if write_whole(out, &text.out).is_err() {
+    if write_whole(out, &output.out).is_err() {
         tell(notes, note::write_fault());
         return 4;
     }
-    if write_whole(notes, &text.notes).is_err() {
+    if write_whole(notes, &output.notes).is_err() {
         return 4;
     }
     0
@@ -47,16 +47,13 @@ fn run_one_shot<R: Threads + Wait + Sync, F: Shelf, K: Sink, G: Gate + Sync>(
     gate: &G,
 ) -> Outcome
     requires { IsTrue (is_one_shot command.now) }
-    ensures run { HasRun (option_map (command_over command.now) (F.files shelf.old)) result.status result.numbers.items
-        (K.taken out.old) (K.taken out.new) (K.taken notes.old) (K.taken notes.new)
-        (K.faults out.old) (K.faults out.new) (K.faults notes.old) (K.faults notes.new)
-        (F.faults shelf.old) (F.faults shelf.new) (F.absents shelf.old) (F.absents shelf.new) }
+    ensures run { HasRun F.Shelf K.Sink (option_map (command_over command.now) (F.files shelf.old)) result.status result.numbers.items shelf.old shelf.new out.old out.new notes.old notes.new }
     ensures words { result.status ≡ 2 → IsTrue (may_refuse command.now) }
 {
     let walkers = Walkers::of(rt, gate, workers_of(command));
     match answer_command(&walkers, alloc, command, shelf) {
-        Ok(text) => {
-            let status = write_text(&text, out, notes);
+        Ok(output) => {
+            let status = write_output(&output, out, notes);
             let numbers = Vec::new(alloc);
             Outcome { status, numbers }
         }
@@ -74,10 +71,7 @@ fn run_command<R: Threads + Wait + Sync, F: Shelf, K: Sink, G: Gate + Sync>(
     notes: &mut K,
     gate: &G,
 ) -> Outcome
-    ensures run { HasRun (option_map (command_over command.now) (F.files shelf.old)) result.status result.numbers.items
-        (K.taken out.old) (K.taken out.new) (K.taken notes.old) (K.taken notes.new)
-        (K.faults out.old) (K.faults out.new) (K.faults notes.old) (K.faults notes.new)
-        (F.faults shelf.old) (F.faults shelf.new) (F.absents shelf.old) (F.absents shelf.new) }
+    ensures run { HasRun F.Shelf K.Sink (option_map (command_over command.now) (F.files shelf.old)) result.status result.numbers.items shelf.old shelf.new out.old out.new notes.old notes.new }
     ensures words { result.status ≡ 2 → IsTrue (may_refuse command.now) }
 {
     match command {
@@ -122,8 +116,7 @@ pub fn gufi_run<R: Threads + Wait + Sync, F: Shelf, K: Sink, G: Gate + Sync>(
     gate: &G,
 ) -> Outcome
     // Without a fault or want of memory, the status, the text and the note are those of the words over the files.
-    ensures ended { IsVerdictStatus result.status → Ended (F.files shelf.old) (texts words.now) result.status result.numbers.items
-        (K.taken out.old) (K.taken out.new) (K.taken notes.old) (K.taken notes.new) (K.faults notes.old) (K.faults notes.new) }
+    ensures ended { IsVerdictStatus result.status → Ended K.Sink (F.files shelf.old) (texts words.now) result out.old out.new notes.old notes.new }
 
     // A refusal of the words comes only where they are no command, or one with a USER, whatever the shelf.
     ensures words { result.status ≡ 2 → IsTrue (may_refuse_words (texts words.now)) }
@@ -133,17 +126,13 @@ pub fn gufi_run<R: Threads + Wait + Sync, F: Shelf, K: Sink, G: Gate + Sync>(
 
     // A fault of reading is answered only where the shelf failed.
     ensures read_fault { result.status ≡ 3 → Rose (F.faults shelf.old) (F.faults shelf.new)
-        × BrokenOff (F.files shelf.old) (texts words.now) result.numbers.items
-        (K.taken out.old) (K.taken out.new) (K.taken notes.old) (K.taken notes.new) (K.faults notes.old) (K.faults notes.new) read_fault_note }
+        × BrokenOff K.Sink (F.files shelf.old) (texts words.now) result out.old out.new notes.old notes.new read_fault_note }
 
     // A fault of writing is answered only where a sink failed.
-    ensures write_fault { result.status ≡ 4 → WriteFaulted (F.files shelf.old) (texts words.now) result.numbers.items
-        (K.taken out.old) (K.taken out.new) (K.taken notes.old) (K.taken notes.new)
-        (K.faults out.old) (K.faults out.new) (K.faults notes.old) (K.faults notes.new) }
+    ensures write_fault { result.status ≡ 4 → WriteFaulted K.Sink (F.files shelf.old) (texts words.now) result out.old out.new notes.old notes.new }
 
     // Want of memory is the one free answer.
-    ensures memory { result.status ≡ 7 → BrokenOff (F.files shelf.old) (texts words.now) result.numbers.items
-        (K.taken out.old) (K.taken out.new) (K.taken notes.old) (K.taken notes.new) (K.faults notes.old) (K.faults notes.new) memory_note }
+    ensures memory { result.status ≡ 7 → BrokenOff K.Sink (F.files shelf.old) (texts words.now) result out.old out.new notes.old notes.new memory_note }
 {
     match read_command(alloc, words) {
         Ok(command) => run_command(rt, alloc, &command, shelf, out, notes, gate),

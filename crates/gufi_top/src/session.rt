@@ -1,5 +1,6 @@
 //! `session`: the phases of a script, over files that are read as they come.
-ghost use Rattle.std.specs.Prelude.{◌≡◌, ◌≢◌, ◌≤◌, List, Err, IfErr, IfOk, IsTrue, option_map};
+ghost use Rattle.std.specs.Prelude.{◌≡◌, ◌≢◌, List, Err, IfErr, IfOk, IsTrue, option_map};
+ghost use Rattle.gufi_io.specs.Kept.{Keeps};
 ghost use Rattle.gufi_script.specs.ScriptText.{PlacedAct, is_script};
 ghost use Rattle.gufi_plan.specs.Plan.{Plan};
 ghost use Rattle.gufi_top.specs.Reasons.{script_reason, stop_reason, acts_within, acts_in};
@@ -72,10 +73,8 @@ fn read_acts<F: Shelf>(alloc: Global, shelf: &mut F, name: &str) -> Result<Scrip
     ensures acts { GivesOver (F.files shelf.old) (λ (acts : List PlacedAct). acts) result (acts_in name.now) }
     ensures sound { IfOk result (λ script. IsTrue (is_script script)) }
     ensures past_words { IfErr result IsPastWords }
-    ensures cause { IfErr result (HaltHasCause (F.faults shelf.old) (F.faults shelf.new) (F.absents shelf.old) (F.absents shelf.new)) }
-    ensures same { F.files shelf.new ≡ F.files shelf.old }
-    ensures faults { F.faults shelf.old ≤ F.faults shelf.new }
-    ensures absents { F.absents shelf.old ≤ F.absents shelf.new }
+    ensures cause { IfErr result (HaltHasCause F.Shelf shelf.old shelf.new) }
+    ensures kept { Keeps F.Shelf shelf.old shelf.new }
 {
     match read_file(alloc, shelf, name, MAX_SCRIPT) {
         Ok(bytes) => acts_of(alloc, name, &bytes),
@@ -112,10 +111,8 @@ fn read_script_plan<F: Shelf>(
 ) -> Result<SessionPlan, Halt>
     ensures plan { GivesOver (F.files shelf.old) (λ (plan : Plan). plan) result (script_plan (record { tables = setup.entry.now.users.now; now = setup.entry.now.now; delim = setup.entry.now.delim }) name.now) }
     ensures past_words { IfErr result IsPastWords }
-    ensures cause { IfErr result (HaltHasCause (F.faults shelf.old) (F.faults shelf.new) (F.absents shelf.old) (F.absents shelf.new)) }
-    ensures same { F.files shelf.new ≡ F.files shelf.old }
-    ensures faults { F.faults shelf.old ≤ F.faults shelf.new }
-    ensures absents { F.absents shelf.old ≤ F.absents shelf.new }
+    ensures cause { IfErr result (HaltHasCause F.Shelf shelf.old shelf.new) }
+    ensures kept { Keeps F.Shelf shelf.old shelf.new }
 {
     match read_acts(alloc, shelf, name) {
         Ok(script) => plan_of(alloc, name, script, setup),
@@ -133,10 +130,8 @@ fn read_plan<F: Shelf>(
     ensures plan { GivesOver (F.files shelf.old) (λ (plan : Plan). plan) result
         (session_plan session.entry.now.passwd.now session.entry.now.group.now session.entry.now.delim session.entry.now.moment session.entry.now.script.now) }
     ensures past_words { IfErr result IsPastWords }
-    ensures cause { IfErr result (HaltHasCause (F.faults shelf.old) (F.faults shelf.new) (F.absents shelf.old) (F.absents shelf.new)) }
-    ensures same { F.files shelf.new ≡ F.files shelf.old }
-    ensures faults { F.faults shelf.old ≤ F.faults shelf.new }
-    ensures absents { F.absents shelf.old ≤ F.absents shelf.new }
+    ensures cause { IfErr result (HaltHasCause F.Shelf shelf.old shelf.new) }
+    ensures kept { Keeps F.Shelf shelf.old shelf.new }
 {
     match read_users(alloc, shelf, session.passwd, session.group) {
         Ok(users) => {
@@ -171,7 +166,7 @@ fn stop_note(alloc: Global, stop: &Stop) -> Result<Vec<u8>, AllocError>
 
 // Writes the note of the file at which a session ends, and gives its status.
 fn tell_stop<K: Sink>(alloc: Global, stop: &Stop, notes: &mut K) -> u8
-    ensures { StopTells stop.now result (K.taken notes.old) (K.taken notes.new) (K.faults notes.old) (K.faults notes.new) }
+    ensures { StopTells K.Sink stop.now result notes.old notes.new }
 {
     match stop_note(alloc, stop) {
         Ok(note) => {
@@ -187,7 +182,7 @@ fn tell_stop<K: Sink>(alloc: Global, stop: &Stop, notes: &mut K) -> u8
 
 // Writes the note of a session's end, and gives its status.
 fn tell_end<K: Sink>(alloc: Global, end: End, notes: &mut K) -> u8
-    ensures { EndTells end result (K.taken notes.old) (K.taken notes.new) (K.faults notes.old) (K.faults notes.new) }
+    ensures { EndTells K.Sink end result notes.old notes.new }
 {
     match end {
         End::Done => 0,
@@ -218,10 +213,7 @@ fn run_plan<R: Threads + Wait + Sync, F: Shelf, K: Sink, G: Gate + Sync>(
     notes: &mut K,
     gate: &G,
 ) -> Outcome
-    ensures run { HasRun (option_map (run_over plan.now) (F.files shelf.old)) result.status result.numbers.items
-        (K.taken out.old) (K.taken out.new) (K.taken notes.old) (K.taken notes.new)
-        (K.faults out.old) (K.faults out.new) (K.faults notes.old) (K.faults notes.new)
-        (F.faults shelf.old) (F.faults shelf.new) (F.absents shelf.old) (F.absents shelf.new) }
+    ensures run { HasRun F.Shelf K.Sink (option_map (run_over plan.now) (F.files shelf.old)) result.status result.numbers.items shelf.old shelf.new out.old out.new notes.old notes.new }
     ensures past_words { result.status ≢ 2 }
 {
     let Ended { end, numbers } = run_session(rt, alloc, plan, workers, shelf, out, gate);
@@ -239,11 +231,9 @@ pub(crate) fn run<R: Threads + Wait + Sync, F: Shelf, K: Sink, G: Gate + Sync>(
     notes: &mut K,
     gate: &G,
 ) -> Outcome
-    ensures run { HasRun (option_map (session_over session.entry.now.passwd.now session.entry.now.group.now session.entry.now.delim session.entry.now.moment session.entry.now.script.now) (F.files shelf.old))
-        result.status result.numbers.items
-        (K.taken out.old) (K.taken out.new) (K.taken notes.old) (K.taken notes.new)
-        (K.faults out.old) (K.faults out.new) (K.faults notes.old) (K.faults notes.new)
-        (F.faults shelf.old) (F.faults shelf.new) (F.absents shelf.old) (F.absents shelf.new) }
+    ensures run { HasRun F.Shelf K.Sink
+        (option_map (session_over session.entry.now.passwd.now session.entry.now.group.now session.entry.now.delim session.entry.now.moment session.entry.now.script.now) (F.files shelf.old))
+        result.status result.numbers.items shelf.old shelf.new out.old out.new notes.old notes.new }
     ensures past_words { result.status ≢ 2 }
 {
     match read_plan(alloc, shelf, session) {

@@ -6,7 +6,7 @@ ghost use Rattle.gufi_top.specs.Verdict.{replied};
 ghost use Rattle.gufi_top.specs.Views.{text_view};
 ghost use Rattle.gufi_top.specs.Calls.{Gives, IsOfBytes, IsPastWords, Replies};
 
-use crate::halt::{Halt, Text, refused};
+use crate::halt::{Halt, Output, refused};
 use crate::note;
 use gufi_snap::Snapshot;
 use gufi_walk::Refusal;
@@ -27,10 +27,10 @@ fn refuse_start<T>(alloc: Global, refusal: Refusal) -> Result<T, Halt>
 }
 
 /// A text alone, without a note.
-fn text_of(alloc: Global, out: Vec<u8>) -> Text
+fn text_of(alloc: Global, out: Vec<u8>) -> Output
     ensures { (result.out.items ≡ out.items) × (result.notes.items ≡ []) }
 {
-    Text {
+    Output {
         out,
         notes: Vec::new(alloc),
     }
@@ -44,7 +44,7 @@ pub(crate) fn written(
     alloc: Global,
     snap: Snapshot,
     reply: Result<Vec<u8>, Refusal>,
-) -> Result<Text, Halt>
+) -> Result<Output, Halt>
     ensures text { (given : Result (List ℕ) SeenRefusal) → Replies reply given → Gives text_view result (replied given) }
     ensures of_bytes { IfErr result IsOfBytes }
     ensures past_words { IfErr result IsPastWords }

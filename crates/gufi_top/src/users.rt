@@ -1,6 +1,7 @@
 //! The passwd and group files that the words name.
-ghost use Rattle.std.specs.Prelude.{◌≡◌, ◌≢◌, ◌≤◌, [], unwrap_or, IfErr, Err};
+ghost use Rattle.std.specs.Prelude.{◌≡◌, ◌≢◌, [], unwrap_or, IfErr, Err};
 ghost use Rattle.gufi_base.specs.Limits.{max_users};
+ghost use Rattle.gufi_io.specs.Kept.{Keeps};
 ghost use Rattle.gufi_users.specs.Entries.{PasswdEntry, GroupEntry, UserTables};
 ghost use Rattle.gufi_top.specs.Views.{bytes_view};
 ghost use Rattle.gufi_top.specs.Reasons.{optional_file, user_reason, passwd_within, group_within, passwd_in, group_in, tables_beside, tables_in};
@@ -36,10 +37,8 @@ fn read_optional<F: Shelf>(
 ) -> Result<Vec<u8>, Halt>
     ensures bytes { GivesOver (F.files shelf.old) bytes_view result (optional_file name.now) }
     ensures past_words { IfErr result IsPastWords }
-    ensures cause { IfErr result (HaltHasCause (F.faults shelf.old) (F.faults shelf.new) (F.absents shelf.old) (F.absents shelf.new)) }
-    ensures same { F.files shelf.new ≡ F.files shelf.old }
-    ensures faults { F.faults shelf.old ≤ F.faults shelf.new }
-    ensures absents { F.absents shelf.old ≤ F.absents shelf.new }
+    ensures cause { IfErr result (HaltHasCause F.Shelf shelf.old shelf.new) }
+    ensures kept { Keeps F.Shelf shelf.old shelf.new }
 {
     match name {
         Some(name) => read_file(alloc, shelf, name.as_str(), MAX_USERS),
@@ -93,10 +92,8 @@ fn read_passwd_file<F: Shelf>(
 ) -> Result<Passwd, Halt>
     ensures users { GivesOver (F.files shelf.old) (λ users. users) result (passwd_in name.now) }
     ensures past_words { IfErr result IsPastWords }
-    ensures cause { IfErr result (HaltHasCause (F.faults shelf.old) (F.faults shelf.new) (F.absents shelf.old) (F.absents shelf.new)) }
-    ensures same { F.files shelf.new ≡ F.files shelf.old }
-    ensures faults { F.faults shelf.old ≤ F.faults shelf.new }
-    ensures absents { F.absents shelf.old ≤ F.absents shelf.new }
+    ensures cause { IfErr result (HaltHasCause F.Shelf shelf.old shelf.new) }
+    ensures kept { Keeps F.Shelf shelf.old shelf.new }
 {
     match read_optional(alloc, shelf, name) {
         Ok(bytes) => passwd_of(alloc, name, &bytes),
@@ -111,10 +108,8 @@ fn read_group_file<F: Shelf>(
 ) -> Result<Groups, Halt>
     ensures groups { GivesOver (F.files shelf.old) (λ groups. groups) result (group_in name.now) }
     ensures past_words { IfErr result IsPastWords }
-    ensures cause { IfErr result (HaltHasCause (F.faults shelf.old) (F.faults shelf.new) (F.absents shelf.old) (F.absents shelf.new)) }
-    ensures same { F.files shelf.new ≡ F.files shelf.old }
-    ensures faults { F.faults shelf.old ≤ F.faults shelf.new }
-    ensures absents { F.absents shelf.old ≤ F.absents shelf.new }
+    ensures cause { IfErr result (HaltHasCause F.Shelf shelf.old shelf.new) }
+    ensures kept { Keeps F.Shelf shelf.old shelf.new }
 {
     match read_optional(alloc, shelf, name) {
         Ok(bytes) => groups_of(alloc, name, &bytes),
@@ -144,10 +139,8 @@ fn read_groups_beside<F: Shelf>(
 ) -> Result<Users, Halt>
     ensures tables { GivesOver (F.files shelf.old) (λ users. users) result (tables_beside users group.now) }
     ensures past_words { IfErr result IsPastWords }
-    ensures cause { IfErr result (HaltHasCause (F.faults shelf.old) (F.faults shelf.new) (F.absents shelf.old) (F.absents shelf.new)) }
-    ensures same { F.files shelf.new ≡ F.files shelf.old }
-    ensures faults { F.faults shelf.old ≤ F.faults shelf.new }
-    ensures absents { F.absents shelf.old ≤ F.absents shelf.new }
+    ensures cause { IfErr result (HaltHasCause F.Shelf shelf.old shelf.new) }
+    ensures kept { Keeps F.Shelf shelf.old shelf.new }
 {
     match read_group_file(alloc, shelf, group) {
         Ok(groups) => tables_of(alloc, users, groups),
@@ -165,10 +158,8 @@ pub(crate) fn read_users<F: Shelf>(
 ) -> Result<Users, Halt>
     ensures tables { GivesOver (F.files shelf.old) (λ users. users) result (tables_in passwd.now group.now) }
     ensures past_words { IfErr result IsPastWords }
-    ensures cause { IfErr result (HaltHasCause (F.faults shelf.old) (F.faults shelf.new) (F.absents shelf.old) (F.absents shelf.new)) }
-    ensures same { F.files shelf.new ≡ F.files shelf.old }
-    ensures faults { F.faults shelf.old ≤ F.faults shelf.new }
-    ensures absents { F.absents shelf.old ≤ F.absents shelf.new }
+    ensures cause { IfErr result (HaltHasCause F.Shelf shelf.old shelf.new) }
+    ensures kept { Keeps F.Shelf shelf.old shelf.new }
 {
     match read_passwd_file(alloc, shelf, passwd) {
         Ok(users) => read_groups_beside(alloc, shelf, users, group),

@@ -6,7 +6,7 @@ ghost use Rattle.gufi_top.specs.Verdict.{asked, walk_over};
 ghost use Rattle.gufi_top.specs.Calls.{Gives, GivesOver, IsOfBytes, IsPastWords, HaltHasCause};
 
 use crate::ask::walk_text;
-use crate::halt::{Halt, Text};
+use crate::halt::{Halt, Output};
 use crate::reading::read_trace_file;
 use crate::start::written;
 use gufi_access::Principal;
@@ -33,7 +33,7 @@ fn walk_tree<R: Threads + Wait + Sync, G: Gate + Sync>(
     alloc: Global,
     tree: Tree,
     who: &Principal,
-) -> Result<Text, Halt>
+) -> Result<Output, Halt>
     ensures text { Gives text_view result (asked tree who.now [] walk_ask) }
     ensures of_bytes { IfErr result IsOfBytes }
     ensures past_words { IfErr result IsPastWords }
@@ -53,10 +53,10 @@ pub(crate) fn walk<R: Threads + Wait + Sync, F: Shelf, G: Gate + Sync>(
     trace: &str,
     who: &Principal,
     delim: u8,
-) -> Result<Text, Halt>
+) -> Result<Output, Halt>
     ensures text { GivesOver (F.files shelf.old) text_view result (walk_over trace.now who.now delim) }
     ensures past_words { IfErr result IsPastWords }
-    ensures cause { IfErr result (HaltHasCause (F.faults shelf.old) (F.faults shelf.new) (F.absents shelf.old) (F.absents shelf.new)) }
+    ensures cause { IfErr result (HaltHasCause F.Shelf shelf.old shelf.new) }
 {
     match read_trace_file(alloc, shelf, trace, delim) {
         Ok(tree) => walk_tree(walkers, alloc, tree, who),

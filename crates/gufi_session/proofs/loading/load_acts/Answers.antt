@@ -16,9 +16,9 @@ loop-act-preserved g c =
     let l = c.loop-act in let h = l.invariant in let e = c.in-Ok-load_act.ensures in record {
       within = e.within;
       many = omega (arith, ap (λ l. length l) c.in-Ok-push.ensures.items, length-append l.acts.items (c.in-Ok-load_act.loaded ∷ []));
-      same = e.same ∙ h.same;
-      faults = let a = h.faults in let b = e.faults in omega arith;
-      absents = let a = h.absents in let b = e.absents in omega arith;
+      same = e.kept.files ∙ h.same;
+      faults = let a = h.faults in let b = e.kept.faults in omega arith;
+      absents = let a = h.absents in let b = e.kept.absents in omega arith;
       told = λ files is. let t = e.told files (h.same ∙ is) in
           one_loaded files c.args.phase.now l.act-index l.before c.in-Ok-load_act.after c.act-item.result l.acts.items c.push.new.self.items c.in-Ok-load_act.loaded c.loop-act-test.true c.act-item.is (h.told files is) t.0 t.1 c.in-Ok-push.ensures.items;
     }

@@ -7,7 +7,7 @@ use Rattle.gufi_top.proofs.run.gufi_run.Goals as goal
 
 pub returns-in-Ok : goal.returns-in-Ok
 returns-in-Ok g c =
-    let run = words_run _ _ c.in-Ok.command c.in-Ok.ensures.command c.run_command.ensures.run in
+    let run = words_run g.F.Shelf g.K.Sink _ _ c.in-Ok.command c.in-Ok.ensures.command c.run_command.ensures.run in
     record {
       ended = run.ended;
       words = rw (words_ok _ _ c.in-Ok.ensures.command) c.run_command.ensures.words;
@@ -20,10 +20,10 @@ returns-in-Ok g c =
 pub returns-in-Err : goal.returns-in-Err
 returns-in-Err g c =
     let words = texts c.args.words.now in
-    let run = halted_run (verdict words) _ c.in-Err.halt (answer_err _ words c.in-Err.halt c.in-Err.ensures.command) (cause_of_bytes _ _ _ _ c.in-Err.halt c.in-Err.ensures.halt) c.halted.ensures.told c.halted.ensures.numbers in
+    let run = halted_run g.F.Shelf g.K.Sink (verdict words) _ c.in-Err.halt (answer_err _ words c.in-Err.halt c.in-Err.ensures.command) (cause_of_bytes g.F.Shelf _ _ c.in-Err.halt c.in-Err.ensures.halt) c.halted.ensures.told c.halted.ensures.numbers in
     record {
       ended = run.ended;
-      words = halt_words _ c.in-Err.halt _ _ _ _ _ (words_err words c.in-Err.halt c.in-Err.ensures.command) c.halted.ensures.told;
+      words = halt_words g.K.Sink _ c.in-Err.halt _ _ _ (words_err words c.in-Err.halt c.in-Err.ensures.command) c.halted.ensures.told;
       absent = run.absent;
       read_fault = run.read_fault;
       write_fault = run.write_fault;

@@ -7,7 +7,7 @@ ghost use Rattle.gufi_top.specs.Views.{text_view};
 ghost use Rattle.gufi_top.specs.Verdict.{user_in, asked_by, index_over, ask_over};
 ghost use Rattle.gufi_top.specs.Calls.{Gives, GivesOver, IsOfBytes, HaltHasCause};
 
-use crate::halt::{Halt, Text, refused};
+use crate::halt::{Halt, Output, refused};
 use crate::index::read_index;
 use crate::note;
 use crate::question::Question;
@@ -36,7 +36,7 @@ fn principal_of(alloc: Global, common: &Common, users: &Users) -> Result<Princip
 }
 
 // What is written of a snapshot for the word USER.
-#[tactic(auto, using(crate::proofs::QueryLemmas::users))]
+#[tactic(auto, using(crate::proofs::SearchLemmas::users))]
 fn ask_by<R: Threads + Wait + Sync, G: Gate + Sync>(
     walkers: &Walkers<'_, R, G>,
     alloc: Global,
@@ -44,7 +44,7 @@ fn ask_by<R: Threads + Wait + Sync, G: Gate + Sync>(
     question: &Question<'_>,
     users: &Users,
     snap: Snapshot,
-) -> Result<Text, Halt>
+) -> Result<Output, Halt>
     ensures text { Gives text_view result (asked_by common.now (asks question.now) users.now snap) }
     ensures of_bytes { IfErr result IsOfBytes }
 {
@@ -55,7 +55,7 @@ fn ask_by<R: Threads + Wait + Sync, G: Gate + Sync>(
 }
 
 // The same over the index's file.
-#[tactic(auto, using(crate::proofs::QueryLemmas::indexes, crate::proofs::StepLemmas::cause_of_bytes))]
+#[tactic(auto, using(crate::proofs::SearchLemmas::indexes, crate::proofs::StepLemmas::cause_of_bytes))]
 fn ask_index<R: Threads + Wait + Sync, F: Shelf, G: Gate + Sync>(
     walkers: &Walkers<'_, R, G>,
     alloc: Global,
@@ -63,9 +63,9 @@ fn ask_index<R: Threads + Wait + Sync, F: Shelf, G: Gate + Sync>(
     common: &Common,
     question: &Question<'_>,
     users: &Users,
-) -> Result<Text, Halt>
+) -> Result<Output, Halt>
     ensures text { GivesOver (F.files shelf.old) text_view result (index_over common.now (asks question.now) users.now) }
-    ensures cause { IfErr result (HaltHasCause (F.faults shelf.old) (F.faults shelf.new) (F.absents shelf.old) (F.absents shelf.new)) }
+    ensures cause { IfErr result (HaltHasCause F.Shelf shelf.old shelf.new) }
 {
     let index = common.index.as_str();
     match read_index(alloc, shelf, index, common.delim, common.limit) {
@@ -76,16 +76,16 @@ fn ask_index<R: Threads + Wait + Sync, F: Shelf, G: Gate + Sync>(
 
 /// What a command with a USER and a START writes: the files are read in the order passwd, group and index; then USER is
 /// judged, then the query words, then the start.
-#[tactic(auto, using(crate::proofs::QueryLemmas::asks, crate::proofs::StepLemmas::cause_later))]
+#[tactic(auto, using(crate::proofs::SearchLemmas::asks, crate::proofs::StepLemmas::cause_later))]
 pub(crate) fn ask<R: Threads + Wait + Sync, F: Shelf, G: Gate + Sync>(
     walkers: &Walkers<'_, R, G>,
     alloc: Global,
     shelf: &mut F,
     common: &Common,
     question: &Question<'_>,
-) -> Result<Text, Halt>
+) -> Result<Output, Halt>
     ensures text { GivesOver (F.files shelf.old) text_view result (ask_over common.now (asks question.now)) }
-    ensures cause { IfErr result (HaltHasCause (F.faults shelf.old) (F.faults shelf.new) (F.absents shelf.old) (F.absents shelf.new)) }
+    ensures cause { IfErr result (HaltHasCause F.Shelf shelf.old shelf.new) }
 {
     match read_users(alloc, shelf, &common.passwd, &common.group) {
         Ok(users) => ask_index(walkers, alloc, shelf, common, question, &users),

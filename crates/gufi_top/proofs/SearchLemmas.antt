@@ -16,14 +16,14 @@ use Rattle.gufi_base.specs.Paths.{Components}
 use Rattle.gufi_top.specs.Asks.{find_ask, query_ask}
 use Rattle.gufi_top.specs.Calls.{Gives, GivesOver}
 use Rattle.gufi_top.specs.Views.{text_view}
-use Rattle.gufi_top.specs.declared.halt.Text.{Text}
+use Rattle.gufi_top.specs.declared.halt.Output.{Output}
 use Rattle.gufi_top.specs.declared.halt.Halt.{Halt}
 use Rattle.gufi_top.specs.declared.halt.Halt.TheVariants as halts
 use Rattle.gufi_top.proofs.StepLemmas.{over_ok, over_err, given_over}
 
 -- ---- the principal, and then the snapshot
 
-pub by_ok : (common : Common) (asking : Asking) (tables : UserTables) (snap : Snap) (who : Principal) (r : Result Text Halt)
+pub by_ok : (common : Common) (asking : Asking) (tables : UserTables) (snap : Snap) (who : Principal) (r : Result Output Halt)
     → Gives {A = Principal} (λ w. w) (Ok who) (user_in common tables) → Gives text_view r (asked_if snap.tree who common.start (asking tables)) → Gives text_view r (asked_by common asking tables snap)
 by_ok common asking tables snap who r read given = rw read given
 
@@ -37,7 +37,7 @@ pub ruleset users = (by_ok, by_err)
 
 -- ---- the words of an expression, and then its rows
 
-pub expression_ok : (tree : List Directory) (who : Principal) (start : Components) (read : Result Find Reason) (expression : Find) (r : Result Text Halt)
+pub expression_ok : (tree : List Directory) (who : Principal) (start : Components) (read : Result Find Reason) (expression : Find) (r : Result Output Halt)
     → Gives {A = Find} (λ f. f) (Ok expression) read → Gives text_view r (asked tree who start (find_ask expression))
     → Gives text_view r (asked_if tree who start (read >>= λ f. Ok (find_ask f)))
 expression_ok tree who start read expression r is given = rw is given
@@ -52,7 +52,7 @@ pub ruleset expressions = (expression_ok, expression_err)
 
 -- ---- the text of a query, and then its rows
 
-pub select_ok : (tree : List Directory) (who : Principal) (start : Components) (read : Result Select Reason) (select : Select) (r : Result Text Halt)
+pub select_ok : (tree : List Directory) (who : Principal) (start : Components) (read : Result Select Reason) (select : Select) (r : Result Output Halt)
     → Gives {A = Select} (λ s. s) (Ok select) read → Gives text_view r (asked tree who start (query_ask select))
     → Gives text_view r (asked_if tree who start (read >>= λ s. Ok (query_ask s)))
 select_ok tree who start read select r is given = rw is given
@@ -67,7 +67,7 @@ pub ruleset selects = (select_ok, select_err)
 
 -- ---- the index's file, and then the principal
 
-pub index_ok : (told : Option Files) (common : Common) (asking : Asking) (tables : UserTables) (snap : Snap) (r : Result Text Halt)
+pub index_ok : (told : Option Files) (common : Common) (asking : Asking) (tables : UserTables) (snap : Snap) (r : Result Output Halt)
     → GivesOver {A = Snap} told (λ s. s) (Ok snap) (index_in common.delim common.limit common.index) → Gives text_view r (asked_by common asking tables snap) → GivesOver told text_view r (index_over common asking tables)
 unfolding index_over
 index_ok told common asking tables snap r read given =
@@ -82,7 +82,7 @@ pub ruleset indexes = (index_ok, index_err)
 
 -- ---- the files of users, and then the index
 
-pub ask_ok : (told : Option Files) (common : Common) (asking : Asking) (tables : UserTables) (r : Result Text Halt)
+pub ask_ok : (told : Option Files) (common : Common) (asking : Asking) (tables : UserTables) (r : Result Output Halt)
     → GivesOver {A = UserTables} told (λ t. t) (Ok tables) (tables_in common.passwd common.group) → GivesOver told text_view r (index_over common asking tables) → GivesOver told text_view r (ask_over common asking)
 unfolding ask_over
 ask_ok told common asking tables r read given = over_ok told (λ t. t) text_view tables r (tables_in common.passwd common.group) (λ t files. index_over common asking t files) read given
