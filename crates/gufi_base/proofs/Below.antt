@@ -7,7 +7,7 @@ use Rattle.std.proofs.lemmas.Bool.Decides.{same_from_decides}
 use Rattle.std.proofs.lemmas.List.{length-append, length-drop}
 use Rattle.std.proofs.lemmas.Slice.Eq.{bytes_eq-Decides, slice_eq-Decides}
 use Rattle.std.proofs.Math.Seq.{drop-append_seam}
-use Rattle.gufi_base.specs.Words.{is_empty}
+use Rattle.gufi_base.specs.Basics.{is_empty}
 use Rattle.gufi_base.specs.Names.{is_name}
 use Rattle.gufi_base.specs.Paths.{Components, slashed_text, parent_path, is_prefix, path_eq, is_child_of}
 use Rattle.gufi_base.specs.PathTexts.{closed_names, kept_text, names, IsText}

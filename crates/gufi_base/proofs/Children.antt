@@ -8,7 +8,7 @@ use Rattle.std.proofs.lemmas.List.Folds.{list_all-append}
 use Rattle.std.proofs.lemmas.Grind.{flat_map-append}
 use Rattle.std.proofs.lemmas.Slice.Eq.{bytes_eq-Decides, slice_eq-Decides}
 use Rattle.std.proofs.Math.Seq.{take-append_seam}
-use Rattle.gufi_base.specs.Words.{split, is_empty}
+use Rattle.gufi_base.specs.Basics.{split, is_empty}
 use Rattle.gufi_base.specs.Names.{is_name}
 use Rattle.gufi_base.specs.Paths.{Components, slashed_text, read_path, parent_path, path_eq, is_child_of}
 use Rattle.gufi_base.specs.PathTexts.{closed_names, kept_text, names, IsText}

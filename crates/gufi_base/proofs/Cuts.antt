@@ -2,7 +2,7 @@
 use Rattle.std.proofs.Common.{◌≡◌, ℕ, Bool, true, false, cond, eqb, List, [], ◌∷◌, ◌++◌, refl, sym, ap, ◌∙◌}
 use Rattle.std.specs.List.{onto_first}
 use Rattle.std.proofs.lemmas.Bool.{cond-false, and_parts, and_from, not-true, not_from_false, eqb-true}
-use Rattle.gufi_base.specs.Words.{split, all_but_last, last_of}
+use Rattle.gufi_base.specs.Basics.{split, all_but_last, last_of}
 use Rattle.gufi_base.proofs.Parts.{closed_by, has_no}
 
 pub split_behind : (s : ℕ) (rest bytes p : List ℕ) (ps : List (List ℕ)) → has_no s rest ≡ true → split s bytes ≡ p ∷ ps → split s (rest ++ bytes) ≡ (rest ++ p) ∷ ps

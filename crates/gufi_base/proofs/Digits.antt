@@ -9,7 +9,7 @@ use Rattle.std.proofs.lemmas.Bool.{lt-ltb, le-ltb, and_right, and_from, and_part
 use Rattle.std.proofs.lemmas.List.{take-append-drop, drop_more, length-take}
 use Rattle.std.proofs.lemmas.List.Folds.{list_all_more}
 use Rattle.std.proofs.lemmas.Int.Digits.{digits_value_more}
-use Rattle.gufi_base.specs.Words.{is_empty, split}
+use Rattle.gufi_base.specs.Basics.{is_empty, split}
 use Rattle.gufi_base.specs.Numbers.{read_below, NumberBefore}
 use Rattle.gufi_base.proofs.Parts.{has_no, split_first}
 

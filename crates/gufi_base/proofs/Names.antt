@@ -5,7 +5,7 @@ use Rattle.std.specs.List.{onto_first, list_all, list_any}
 use Rattle.std.proofs.lemmas.Bool.{cond-false, and_parts, and_from, not_from_false, not-true, or_parts, cases_Bool, false≢true, ltb-false, le-leb}
 use Rattle.std.proofs.lemmas.List.{append-nil}
 use Rattle.std.proofs.lemmas.Slice.Eq.{bytes_eq-Decides}
-use Rattle.gufi_base.specs.Words.{split, all_but_last}
+use Rattle.gufi_base.specs.Basics.{split, all_but_last}
 use Rattle.gufi_base.specs.Limits.{max_name, max_path, max_components}
 use Rattle.gufi_base.specs.Names.{dot_dot, is_path_byte, is_name_byte, is_name}
 use Rattle.gufi_base.specs.Paths.{Components, is_dropped, kept_parts, read_path}

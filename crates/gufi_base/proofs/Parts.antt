@@ -2,7 +2,7 @@
 use Rattle.std.proofs.Common.{◌≡◌, ℕ, Bool, true, not, eqb, List, [], ◌∷◌, ◌++◌, refl, ap, ◌∙◌, append_assoc}
 use Rattle.std.specs.List.{onto_first, list_all, flat_map}
 use Rattle.std.proofs.lemmas.Bool.{eq-eqb, cond-true, cond-false, and_parts, not-true}
-use Rattle.gufi_base.specs.Words.{split, all_but_last, last_of}
+use Rattle.gufi_base.specs.Basics.{split, all_but_last, last_of}
 
 -- each part with the byte behind it; at 47 these are closed names, at 10 lines
 abbrev pub closed_by : ℕ → List (List ℕ) → List ℕ

@@ -5,7 +5,7 @@ use Rattle.std.specs.List.{list_all, list_any, onto_first}
 use Rattle.std.proofs.lemmas.Bool.{cond-true, cond-false, and_parts, and_from, not_from_false, not-true, or_parts, or_left, or_right, cases_Bool, false≢true, le-leb, le-ltb, leb-true, eqb-true, eq-eqb}
 use Rattle.std.proofs.lemmas.List.{append-nil, length-append}
 use Rattle.std.proofs.lemmas.Slice.Eq.{bytes_eq-Decides}
-use Rattle.gufi_base.specs.Words.{split, all_but_last, last_of, is_empty}
+use Rattle.gufi_base.specs.Basics.{split, all_but_last, last_of, is_empty}
 use Rattle.gufi_base.specs.Names.{dot, dot_dot, is_path_byte, is_name_byte, is_name}
 use Rattle.gufi_base.proofs.Cuts.{split_some, close_split, all_but_last_and_last}
 use Rattle.gufi_base.specs.declared.plain.Reached.{Reached}

@@ -7,7 +7,7 @@ use Rattle.memchr.specs.Find.{occurs_at, match_len, matches_from, matches}
 use Rattle.memchr.proofs.lemmas.MatchLemmas.{OccursAt-true, occurs_at-true}
 use Rattle.memchr.proofs.lemmas.FindLemmas.{OccursAt-byte, byte-OccursAt}
 use Rattle.bstr.specs.Text.{split_at, part}
-use Rattle.gufi_base.specs.Words.{split}
+use Rattle.gufi_base.specs.Basics.{split}
 
 -- the parts with bytes before the first
 abbrev behind : List ℕ → List (List ℕ) → List (List ℕ)

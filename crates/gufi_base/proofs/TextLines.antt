@@ -2,7 +2,7 @@
 use Rattle.std.proofs.Common.{◌≡◌, ◌≢◌, ◌⊎◌, inl, inr, ℕ, true, List, [], ◌∷◌, ◌++◌, length, refl, sym, ap, ◌∙◌, append_assoc, append-nil}
 use Rattle.std.specs.Prelude.{if◌then◌else◌}
 use Rattle.std.proofs.lemmas.Bool.{cases_Bool}
-use Rattle.gufi_base.specs.Words.{is_empty, split, text_lines, all_but_last, last_of}
+use Rattle.gufi_base.specs.Basics.{is_empty, split, text_lines, all_but_last, last_of}
 use Rattle.gufi_base.proofs.Parts.{closed_by, split_first, last_of_push, all_but_last_push}
 use Rattle.gufi_base.proofs.Cuts.{split_append, split_some, last_has_no, close_split, all_but_last_and_last}
 

@@ -5,7 +5,7 @@ use Rattle.std.proofs.lemmas.Bool.{and_parts, and_from, not-true, eq-eqb, cases_
 use Rattle.std.proofs.lemmas.List.{append-nil, length-append, length-drop, get_or-append-add, get_or_append_left}
 use Rattle.std.proofs.lemmas.Grind.{flat_map-append}
 use Rattle.std.proofs.Math.Seq.{take-append_seam, drop-append_seam, get_or-append_seam}
-use Rattle.gufi_base.specs.Words.{last_of}
+use Rattle.gufi_base.specs.Basics.{last_of}
 use Rattle.gufi_base.specs.Names.{is_name}
 use Rattle.gufi_base.specs.Paths.{Components, slashed_text, path_text, parent_path, base_name, stem}
 use Rattle.gufi_base.specs.PathTexts.{closed_names, kept_text, names, IsText}

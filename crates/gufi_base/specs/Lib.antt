@@ -1,5 +1,5 @@
 pub mod Limits
-pub mod Words
+pub mod Basics
 pub mod Names
 pub mod PathTexts
 pub mod TextOrder

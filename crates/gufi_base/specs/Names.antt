@@ -4,7 +4,7 @@ use Rattle.std.specs.List.{list_all}
 use Rattle.gufi_base.specs.declared.name.NameFault.{NameFault}
 use Rattle.gufi_base.specs.declared.name.NameFault.TheVariants.{Bad, Long}
 use Rattle.gufi_base.specs.Limits.{max_name}
-use Rattle.gufi_base.specs.Words.{is_empty}
+use Rattle.gufi_base.specs.Basics.{is_empty}
 
 abbrev pub dot : List ℕ
 dot = 46 ∷ []

@@ -1,7 +1,7 @@
 -- How a path is kept: a slash, and then each name with a slash behind it.
 use Rattle.std.specs.Prelude.{◌≡◌, ℕ, List, [], ◌∷◌, ◌++◌, drop, IsTrue}
 use Rattle.std.specs.List.{flat_map, list_all}
-use Rattle.gufi_base.specs.Words.{split, all_but_last}
+use Rattle.gufi_base.specs.Basics.{split, all_but_last}
 use Rattle.gufi_base.specs.Names.{is_name}
 
 -- each name with a slash behind it

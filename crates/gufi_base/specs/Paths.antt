@@ -7,7 +7,7 @@ use Rattle.std.specs.Cmp.Lexicographic.{slice_cmp, pointwise}
 use Rattle.gufi_base.specs.declared.path.PathFault.{PathFault}
 use Rattle.gufi_base.specs.declared.path.PathFault.TheVariants.{DotDot, BadByte, LongName}
 use Rattle.gufi_base.specs.Limits.{max_path, max_name, max_components}
-use Rattle.gufi_base.specs.Words.{is_empty, split, all_but_last, last_of}
+use Rattle.gufi_base.specs.Basics.{is_empty, split, all_but_last, last_of}
 use Rattle.gufi_base.specs.Names.{dot, dot_dot, is_path_byte}
 
 -- a path of the index, from the root on; the root is the empty list

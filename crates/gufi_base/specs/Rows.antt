@@ -7,7 +7,7 @@ use Rattle.gufi_base.specs.declared.record.Row.{Row}
 use Rattle.gufi_base.specs.declared.record.RowRef.{RowRef}
 use Rattle.gufi_base.specs.Limits.{max_link}
 pub use Rattle.gufi_base.specs.Kinds.{kind_letter, kind_of_letter, read_kind, is_dir, is_file, is_link}
-use Rattle.gufi_base.specs.Words.{sort_by}
+use Rattle.gufi_base.specs.Basics.{sort_by}
 use Rattle.gufi_base.specs.Names.{is_name, is_path_byte}
 use Rattle.gufi_base.specs.Paths.{Components, path_cmp, parent_path, base_name, stem}
 

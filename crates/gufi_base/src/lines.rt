@@ -1,7 +1,7 @@
 //! Texts cut into lines.
 
 ghost use Rattle.std.specs.Prelude.{◌≡◌, ◌≢◌, ℕ, List, [], ◌∷◌, ◌++◌, MatchOption};
-ghost use Rattle.gufi_base.specs.Words.{text_lines};
+ghost use Rattle.gufi_base.specs.Basics.{text_lines};
 
 use crate::piece::{Pieces, pieces_of};
 

@@ -4,7 +4,7 @@ ghost use Rattle.std.specs.Prelude.{◌≡◌, ◌&&◌, ◌||◌, not, nat_le, 
 ghost use Rattle.std.specs.List.{list_all};
 ghost use Rattle.std.specs.Ordering.{nat_cmp};
 ghost use Rattle.std.specs.Cmp.Lexicographic.{slice_cmp};
-ghost use Rattle.gufi_base.specs.Words.{GivesUnless, is_empty as has_no_element};
+ghost use Rattle.gufi_base.specs.Basics.{GivesUnless, is_empty as has_no_element};
 ghost use Rattle.gufi_base.specs.Names.{name_of, is_name, is_name_byte, dot, dot_dot};
 
 use smallvec::SmallVec;

@@ -3,7 +3,7 @@
 ghost use Rattle.std.specs.Prelude.{◌≡◌, ℕ, IfOk, Vec, option_map};
 ghost use Rattle.std.specs.declared.alloc.Global.{Global};
 ghost use Rattle.gufi_base.specs.Numbers.{all_numbers};
-ghost use Rattle.gufi_base.specs.Words.{split};
+ghost use Rattle.gufi_base.specs.Basics.{split};
 
 use crate::number::read_u32;
 use crate::piece::pieces_of;

@@ -1,7 +1,7 @@
 //! Numbers of places, as far as 32 bits can name them.
 
 ghost use Rattle.std.specs.Prelude.{◌≡◌, ◌+◌};
-ghost use Rattle.gufi_base.specs.Words.{capped_number};
+ghost use Rattle.gufi_base.specs.Basics.{capped_number};
 
 /// A number, or the greatest of 32 bits where it is greater.
 pub fn capped_u32(number: usize) -> u32

@@ -2,7 +2,7 @@
 
 ghost use Rattle.std.specs.Prelude.{◌≡◌, ◌≢◌, ◌↔◌, [], ◌∷◌, ◌++◌, length, drop, IsTrue, IfOk, IfSome, Ok, MatchOption, true, false};
 ghost use Rattle.std.specs.List.{list_all};
-ghost use Rattle.gufi_base.specs.Words.{GivesUnless, split, is_empty as has_no_element};
+ghost use Rattle.gufi_base.specs.Basics.{GivesUnless, split, is_empty as has_no_element};
 ghost use Rattle.gufi_base.specs.Names.{is_name};
 ghost use Rattle.gufi_base.specs.Paths.{Components, read_path, path_text, is_prefix, parent_path, base_name, stem, is_child_of};
 ghost use Rattle.gufi_base.specs.PathTexts.{kept_text, names, IsText};

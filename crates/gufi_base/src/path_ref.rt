@@ -2,7 +2,7 @@
 
 ghost use Rattle.std.specs.Prelude.{◌≡◌, ◌≢◌, ◌↔◌, [], length, IsTrue, IfOk, MatchOption};
 ghost use Rattle.std.specs.List.{list_all};
-ghost use Rattle.gufi_base.specs.Words.{is_empty as has_no_element};
+ghost use Rattle.gufi_base.specs.Basics.{is_empty as has_no_element};
 ghost use Rattle.gufi_base.specs.Names.{is_name};
 ghost use Rattle.gufi_base.specs.Paths.{path_text, parent_path, base_name, stem, is_child_of};
 ghost use Rattle.gufi_base.specs.PathTexts.{kept_text, names, IsText};

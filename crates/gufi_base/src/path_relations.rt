@@ -2,7 +2,7 @@
 
 ghost use Rattle.std.specs.Prelude.{◌≡◌, ◌≢◌, ℕ, List, [], ◌∷◌, ◌++◌, IsTrue, IfSome, Ok, MatchOption};
 ghost use Rattle.std.specs.List.{list_all};
-ghost use Rattle.gufi_base.specs.Words.{split};
+ghost use Rattle.gufi_base.specs.Basics.{split};
 ghost use Rattle.gufi_base.specs.Names.{is_name};
 ghost use Rattle.gufi_base.specs.Paths.{read_path, is_prefix};
 ghost use Rattle.gufi_base.specs.PathTexts.{names, IsText};

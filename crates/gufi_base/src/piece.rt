@@ -1,7 +1,7 @@
 //! Texts cut at a byte.
 
 ghost use Rattle.std.specs.Prelude.{◌≡◌, length, slice_index, ◌+◌, ◌≤◌};
-ghost use Rattle.gufi_base.specs.Words.{split};
+ghost use Rattle.gufi_base.specs.Basics.{split};
 
 use bstr::{ByteSlice, Split};
 

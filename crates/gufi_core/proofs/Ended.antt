@@ -4,7 +4,7 @@ use Rattle.std.specs.Prelude.{◌&&◌, ◌||◌, ◌==◌, not}
 use Rattle.std.specs.List.{list_all, list_any, flat_map}
 use Rattle.std.proofs.lemmas.Bool.Decides.{eqb_tells}
 use Rattle.std.proofs.lemmas.List.Sums.{sum_by-cons, sum_by-append}
-use Rattle.gufi_base.specs.Words.{is_empty}
+use Rattle.gufi_base.specs.Basics.{is_empty}
 use Rattle.gufi_core.specs.declared.state.WorkerState.{WorkerState}
 use Rattle.gufi_core.specs.Steps.{kids_of, count_of, owed, all_taken, all_held, has_ended_empty}
 use Rattle.gufi_core.specs.Interleavings.{EndedJobsTookOwed}

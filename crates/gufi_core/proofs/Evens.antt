@@ -4,7 +4,7 @@ use Rattle.std.specs.Prelude.{Option, Some, None, slice_get, ◌&&◌, ◌||◌,
 use Rattle.std.specs.List.{list_all, flat_map}
 use Rattle.std.proofs.lemmas.List.Sums.{sum_by-cons, sum_by-append}
 use Rattle.std.proofs.lemmas.List.Concat.{flat_map-append}
-use Rattle.gufi_base.specs.Words.{is_empty}
+use Rattle.gufi_base.specs.Basics.{is_empty}
 use Rattle.gufi_core.specs.declared.state.Shape.{Shape}
 use Rattle.gufi_core.specs.declared.state.WorkerState.{WorkerState}
 use Rattle.gufi_core.specs.Steps.{kids_of, change_at, is_free, with_taken, with_deque, take_own, take_from, push_own, push_from, end_own, has_ended_empty}

@@ -2,7 +2,7 @@
 use Rattle.std.proofs.Common.{◌≡◌, ℕ, ◌+◌, Bool, true, false, cond, List, [], ◌∷◌, set, drop, sum_by, refl, sym, ap, subst, arith}
 use Rattle.std.specs.Prelude.{Option, Some, None, slice_get, ◌&&◌, ◌||◌, ◌==◌, not}
 use Rattle.std.proofs.lemmas.List.Sums.{sum_by-cons}
-use Rattle.gufi_base.specs.Words.{is_empty}
+use Rattle.gufi_base.specs.Basics.{is_empty}
 use Rattle.gufi_core.specs.declared.state.Shape.{Shape}
 use Rattle.gufi_core.specs.declared.state.WorkerState.{WorkerState}
 use Rattle.gufi_core.specs.Steps.{guarded, is_free, with_taken, with_deque, give_to, steal, steal_from, has_ended_empty}

@@ -1,7 +1,7 @@
 -- The pure core: publications, pins and jobs whose tasks move between workers.
 use Rattle.std.specs.Prelude.{◌≡◌, ℕ, zero, suc, ◌+◌, ◌-◌, ◌%◌, Bool, true, false, not, ◌==◌, ◌&&◌, ◌||◌, nat_lt, nat_le, List, [], ◌∷◌, ◌++◌, length, drop, map, count_by, Option, Some, None, option_and_then, Result, Ok, Err, if◌then◌else◌, slice_get, slice_set, slice_index_or, replicate, IsTrue}
 use Rattle.std.specs.List.{list_all, flat_map, range_with_len}
-use Rattle.gufi_base.specs.Words.{is_empty}
+use Rattle.gufi_base.specs.Basics.{is_empty}
 use Rattle.gufi_core.specs.declared.state.Shape.{Shape}
 use Rattle.gufi_core.specs.declared.event.Event.{Event}
 use Rattle.gufi_core.specs.declared.event.Event.TheVariants.{Publish, Pin, Begin, Take, Steal, Push, End}

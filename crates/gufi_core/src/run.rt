@@ -1,7 +1,7 @@
 //! Runs over a list of events.
 
 ghost use Rattle.std.specs.Prelude.{◌≡◌, ◌<◌, ◌^◌, length, IfOk, IsTrue};
-ghost use Rattle.gufi_base.specs.Words.{GivesUnless};
+ghost use Rattle.gufi_base.specs.Basics.{GivesUnless};
 ghost use Rattle.gufi_core.specs.Steps.{run_events as state_after};
 ghost use Rattle.gufi_core.specs.Interleavings.{are_shapes, HoldsAfter};
 

@@ -5,7 +5,7 @@ use Rattle.std.proofs.lemmas.Bool.{cases_Bool}
 use Rattle.std.proofs.lemmas.Bool.Decides.{nat_tests}
 use Rattle.std.proofs.lemmas.Slice.Eq.{bytes_eq-Decides}
 use Rattle.gufi_base.specs.Limits.{max_nesting}
-use Rattle.gufi_base.specs.Words.{◌>>=◌}
+use Rattle.gufi_base.specs.Basics.{◌>>=◌}
 use Rattle.gufi_formula.specs.declared.level.Level.{Level}
 use Rattle.gufi_formula.specs.Formulas.{Formula, test, negation, both, either}
 use Rattle.gufi_formula.specs.Levels.{new_level, with_term, open_ones}

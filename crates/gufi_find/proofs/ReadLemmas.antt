@@ -2,7 +2,7 @@
 use Rattle.std.proofs.Common.{◌≡◌, ◌≢◌, ℕ, ◌+◌, ◌<◌, ◌≤◌, List, [], ◌∷◌, length, drop, get_or, refl, sym, ap, ◌∙◌}
 use Rattle.std.specs.Prelude.{Option, Result, Ok, Err, ℤ}
 use Rattle.std.proofs.lemmas.List.{drop_more, drop_all}
-use Rattle.gufi_base.specs.Words.{◌>>=◌}
+use Rattle.gufi_base.specs.Basics.{◌>>=◌}
 use Rattle.gufi_users.specs.Entries.{UserTables}
 use Rattle.gufi_find.specs.declared.fault.FindKind.{FindKind}
 use Rattle.gufi_find.specs.declared.fault.FindError.TheVariants as errors

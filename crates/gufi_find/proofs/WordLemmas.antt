@@ -1,6 +1,6 @@
 -- Ends of words.
 use Rattle.std.proofs.Common.{◌≡◌, ℕ, suc, ◌-◌, ◌<◌, List, [], ◌∷◌, length, take, get_or, refl, ap, arith}
-use Rattle.gufi_base.specs.Words.{last_of, all_but_last}
+use Rattle.gufi_base.specs.Basics.{last_of, all_but_last}
 
 last_there : (b d : ℕ) (rest : List ℕ) → get_or (b ∷ rest) (length rest) d ≡ last_of d (b ∷ rest)
 last_there b d [] = refl

@@ -2,7 +2,7 @@
 use Rattle.std.specs.Prelude.{ℕ, Bool, false, ◌==◌, List, [], ◌∷◌, map, drop, Option, Some, None, option_map, Result, ok_or, if◌then◌else◌, ℤ, bytes_eq, codes}
 use Rattle.std.specs.Option.{option_or}
 use Rattle.std.specs.Result.{result_ok}
-use Rattle.gufi_base.specs.Words.{all_but_last, last_of, distinct}
+use Rattle.gufi_base.specs.Basics.{all_but_last, last_of, distinct}
 use Rattle.gufi_base.specs.Numbers.{read_u32, read_u64, read_octal}
 use Rattle.gufi_base.specs.Kinds.{read_kind}
 use Rattle.gufi_users.specs.Entries.{UserTables, PasswdEntry, GroupEntry}

@@ -1,7 +1,7 @@
 -- How the words of a find expression are read, and their first fault.
 use Rattle.std.specs.Prelude.{ℕ, ◌+◌, not, nat_le, List, [], ◌∷◌, Option, Some, None, unwrap_or, Result, Ok, Err, if◌then◌else◌, ℤ, bytes_eq, codes}
 use Rattle.gufi_base.specs.Limits.{max_nesting}
-use Rattle.gufi_base.specs.Words.{is_empty, capped_number, result_map_err, ◌>>=◌, ◌>>◌, refuse}
+use Rattle.gufi_base.specs.Basics.{is_empty, capped_number, result_map_err, ◌>>=◌, ◌>>◌, refuse}
 use Rattle.gufi_formula.specs.declared.level.Level.{Level}
 use Rattle.gufi_formula.specs.Formulas.{test}
 use Rattle.gufi_formula.specs.Levels.{new_level, with_term, with_or, with_not, level_formula, closed_into, open_ones}

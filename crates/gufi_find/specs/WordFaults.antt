@@ -1,6 +1,6 @@
 -- What a reader of a word gives.
 use Rattle.std.specs.Prelude.{◌≡◌, ℕ, ◌+◌, Result, Ok, Err}
-use Rattle.gufi_base.specs.Words.{capped_number}
+use Rattle.gufi_base.specs.Basics.{capped_number}
 use Rattle.gufi_find.specs.declared.fault.FindError.{FindError}
 use Rattle.gufi_find.specs.declared.fault.FindError.TheVariants as errors
 use Rattle.gufi_find.specs.declared.fault.FindKind.{FindKind}

@@ -1,7 +1,7 @@
 //! Sets of uids and gids.
 ghost use Rattle.std.specs.Prelude.{◌≡◌, ◌==◌, IfOk};
 ghost use Rattle.std.specs.List.{list_any};
-ghost use Rattle.gufi_base.specs.Words.{distinct};
+ghost use Rattle.gufi_base.specs.Basics.{distinct};
 
 use indexmap::IndexSet;
 use std::alloc::{AllocError, Global};

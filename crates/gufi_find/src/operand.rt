@@ -2,7 +2,7 @@
 ghost use Rattle.std.specs.Prelude.{◌≡◌, false, true, drop, option_map, MatchOption, Ok};
 ghost use Rattle.std.specs.Option.{option_or};
 ghost use Rattle.std.specs.Result.{result_ok};
-ghost use Rattle.gufi_base.specs.Words.{last_of, all_but_last};
+ghost use Rattle.gufi_base.specs.Basics.{last_of, all_but_last};
 ghost use Rattle.gufi_base.specs.Numbers.{read_u32};
 ghost use Rattle.gufi_users.specs.Users.{uid_of, gid_of};
 ghost use Rattle.gufi_glob.specs.Patterns.{read_pattern};

@@ -1,6 +1,6 @@
 //! The words that begin a primary.
 ghost use Rattle.std.specs.Prelude.{◌≡◌, map, IfOk};
-ghost use Rattle.gufi_base.specs.Words.{distinct};
+ghost use Rattle.gufi_base.specs.Basics.{distinct};
 ghost use Rattle.gufi_users.specs.Entries.{PasswdEntry, GroupEntry};
 ghost use Rattle.gufi_find.specs.Operands.{primary_named, primary_of};
 

@@ -1,6 +1,6 @@
 //! How the words of an expression are read.
 ghost use Rattle.std.specs.Prelude.{◌≡◌, ◌+◌};
-ghost use Rattle.gufi_base.specs.Words.{GivesUnless, capped_number};
+ghost use Rattle.gufi_base.specs.Basics.{GivesUnless, capped_number};
 ghost use Rattle.gufi_find.specs.Reading.{read_find, first_state};
 ghost use Rattle.gufi_find.specs.WordFaults.{fault_of};
 ghost use Rattle.gufi_find.specs.States.{state_kept};

@@ -1,7 +1,7 @@
 //! What stands open while a formula is read.
 ghost use Rattle.std.specs.Prelude.{◌≡◌, ◌<◌, ◌∷◌, nat_le, IfOk};
 ghost use Rattle.gufi_base.specs.Limits.{max_nesting};
-ghost use Rattle.gufi_base.specs.Words.{is_empty};
+ghost use Rattle.gufi_base.specs.Basics.{is_empty};
 ghost use Rattle.gufi_formula.specs.Formulas.{test as test_alone};
 ghost use Rattle.gufi_formula.specs.Levels.{new_level, with_term, with_or, with_not, level_formula, open_ones, first_levels, closed_levels};
 

@@ -13,7 +13,7 @@ use Rattle.gufi_base.specs.Delimiters.{may_delimit}
 use Rattle.gufi_base.specs.Limits.{max_dirs}
 use Rattle.gufi_base.specs.Paths.{path_eq}
 use Rattle.gufi_base.specs.TraceRows.{row_line}
-use Rattle.gufi_base.specs.Words.{result_map_err, ascends}
+use Rattle.gufi_base.specs.Basics.{result_map_err, ascends}
 use Rattle.gufi_base.proofs.Permutations.{IsPermutation-flat_map}
 use Rattle.gufi_access.specs.declared.class.Principal.{Principal}
 use Rattle.gufi_access.specs.declared.class.Class.{Class}

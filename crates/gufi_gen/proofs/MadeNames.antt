@@ -12,7 +12,7 @@ use Rattle.gufi_base.specs.Limits.{max_path, max_components}
 use Rattle.gufi_base.specs.Names.{is_name_byte, is_name}
 use Rattle.gufi_base.specs.Rows.{are_bytes}
 use Rattle.gufi_base.specs.Paths.{Components, path_text, is_too_long}
-use Rattle.gufi_base.specs.Words.{last_of}
+use Rattle.gufi_base.specs.Basics.{last_of}
 use Rattle.gufi_base.proofs.Parts.{last_of_push}
 use Rattle.gufi_gen.specs.Generated.{path_within, directory_path, made_root}
 use Rattle.gufi_gen.proofs.Lines.{fuel_same}

@@ -1,7 +1,7 @@
 -- The tree that a generated trace means.
 use Rattle.std.specs.Prelude.{ℕ, ◌%◌, List, [], ◌∷◌, map, decimal}
 use Rattle.std.specs.List.{range_with_len}
-use Rattle.gufi_base.specs.Words.{sort_by}
+use Rattle.gufi_base.specs.Basics.{sort_by}
 use Rattle.gufi_tree.specs.declared.tree.Entry.{Entry}
 use Rattle.gufi_tree.specs.Tree.{Directory, dir_cmp}
 use Rattle.gufi_gen.specs.Generated.{directory_path, directory_meta, entry_meta}

@@ -1,7 +1,7 @@
 -- Reading a pattern part by part.
 use Rattle.std.proofs.Common.{◌≡◌, ℕ, zero, suc, List, [], ◌∷◌, ◌++◌, drop, refl, sym, ap, ◌∙◌, append_assoc, append-nil}
 use Rattle.std.specs.Prelude.{Result, Ok, Err}
-use Rattle.gufi_base.specs.Words.{◌>>=◌}
+use Rattle.gufi_base.specs.Basics.{◌>>=◌}
 use Rattle.gufi_glob.specs.declared.fault.GlobFault.{GlobFault}
 use Rattle.gufi_glob.specs.Parts.{Part}
 use Rattle.gufi_glob.specs.Patterns.{parts_from, front_part, read_pattern}

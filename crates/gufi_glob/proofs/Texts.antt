@@ -8,7 +8,7 @@ use Rattle.std.proofs.lemmas.Slice.Eq.{bytes_eq-Decides}
 use Rattle.gufi_glob.specs.Parts.{only, any_text}
 use Rattle.gufi_glob.specs.Patterns.{matches, parts_from, read_pattern, front_part}
 use Rattle.gufi_glob.specs.Plain.{is_plain_byte, ends_with}
-use Rattle.gufi_base.specs.Words.{◌>>=◌}
+use Rattle.gufi_base.specs.Basics.{◌>>=◌}
 use Rattle.gufi_glob.proofs.Matching.{if_so}
 use Rattle.gufi_glob.proofs.Reading.{parts_from-more}
 

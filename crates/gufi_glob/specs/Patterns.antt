@@ -1,7 +1,7 @@
 -- Patterns (XCU 2.13, in the C locale by bytes): how they are read, and what they match.
 use Rattle.std.specs.Prelude.{ℕ, zero, suc, ◌+◌, Bool, true, false, not, ◌==◌, ◌&&◌, ◌||◌, nat_lt, nat_le, List, [], ◌∷◌, take, drop, Option, Some, None, option_map, Result, Ok, Err, if◌then◌else◌}
 use Rattle.std.specs.List.{list_any}
-use Rattle.gufi_base.specs.Words.{is_empty, ◌>>=◌, ◌>>◌, refuse}
+use Rattle.gufi_base.specs.Basics.{is_empty, ◌>>=◌, ◌>>◌, refuse}
 use Rattle.gufi_glob.specs.Parts.{Part, any_text, one_byte, byte_in, only}
 use Rattle.gufi_glob.specs.declared.fault.GlobFault.{GlobFault}
 use Rattle.gufi_glob.specs.declared.fault.GlobFault.TheVariants.{BadPattern}

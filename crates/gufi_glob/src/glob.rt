@@ -1,6 +1,6 @@
 //! Patterns.
 ghost use Rattle.std.specs.Prelude.{◌≡◌, ◌++◌, ◌&&◌, bytes_eq};
-ghost use Rattle.gufi_base.specs.Words.{GivesUnless};
+ghost use Rattle.gufi_base.specs.Basics.{GivesUnless};
 ghost use Rattle.gufi_glob.specs.Patterns.{matches, read_pattern};
 ghost use Rattle.gufi_glob.specs.Plain.{ends_with};
 

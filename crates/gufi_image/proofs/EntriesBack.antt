@@ -6,7 +6,7 @@ use Rattle.std.proofs.lemmas.Bool.{and_parts, or_parts, leb-true, eqb-true, eq-e
 use Rattle.std.proofs.lemmas.List.{append-nil}
 use Rattle.gufi_base.specs.declared.record.Kind.{Kind}
 use Rattle.gufi_base.specs.declared.record.Kind.TheVariants.{Block, Char, Dir, Link, Fifo, File, Socket}
-use Rattle.gufi_base.specs.Words.{is_empty, ◌>>=◌}
+use Rattle.gufi_base.specs.Basics.{is_empty, ◌>>=◌}
 use Rattle.gufi_base.specs.Limits.{max_name}
 use Rattle.gufi_base.specs.Names.{is_name, is_name_byte, dot, dot_dot}
 use Rattle.gufi_base.specs.Kinds.{kind_letter, kind_of_letter, is_dir}

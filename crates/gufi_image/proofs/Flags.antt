@@ -3,7 +3,7 @@ use Rattle.std.proofs.Common.{◌≡◌, ℕ, zero, suc, ◌+◌, ◌<◌, ◌�
 use Rattle.std.proofs.Math.Seq.{drop-cons}
 use Rattle.std.proofs.lemmas.List.{length-map}
 use Rattle.std.proofs.Math.ListN.{drop_of_length-le}
-use Rattle.gufi_base.specs.Words.{◌>>◌, refuse}
+use Rattle.gufi_base.specs.Basics.{◌>>◌, refuse}
 use Rattle.gufi_tree.specs.Tree.{Directory}
 use Rattle.gufi_tree.specs.Places.{path_at}
 use Rattle.gufi_roll.specs.CanRoll.{can_roll, roll_flags}

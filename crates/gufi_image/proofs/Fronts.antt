@@ -9,7 +9,7 @@ use Rattle.std.proofs.lemmas.Bool.{and_parts, and_from, cases_order}
 use Rattle.std.proofs.lemmas.Cmp.{nat_list_cmp_total, tied_itself}
 use Rattle.std.proofs.lemmas.List.Folds.{list_any-append}
 use Rattle.std.proofs.lemmas.Option.{slice_get_within, get_or_from_slice_get}
-use Rattle.gufi_base.specs.Words.{ascends, last_of}
+use Rattle.gufi_base.specs.Basics.{ascends, last_of}
 use Rattle.gufi_base.specs.Paths.{Components, path_cmp, path_eq}
 use Rattle.gufi_tree.specs.Tree.{Directory, dir_cmp, has_dir, is_at}
 use Rattle.gufi_tree.proofs.Built.{path_cmp-total, dir_cmp-total}

@@ -4,7 +4,7 @@ use Rattle.std.specs.List.{flat_map}
 use Rattle.std.proofs.lemmas.Bool.{eqb-true, eq-eqb}
 use Rattle.std.proofs.lemmas.List.{append-nil, length-map}
 use Rattle.gufi_base.specs.Limits.{max_dirs, max_entries}
-use Rattle.gufi_base.specs.Words.{is_empty, ascends, ◌>>◌, result_map_err}
+use Rattle.gufi_base.specs.Basics.{is_empty, ascends, ◌>>◌, result_map_err}
 use Rattle.gufi_base.specs.Rows.{are_bytes}
 use Rattle.gufi_tree.specs.Tree.{Directory, dir_cmp, entry_count}
 use Rattle.gufi_roll.specs.CanRoll.{can_roll, roll_flags}

@@ -5,7 +5,7 @@ use Rattle.std.specs.List.{list_all}
 use Rattle.std.proofs.lemmas.Bool.{and_parts, and_from, eqb-true}
 use Rattle.std.proofs.lemmas.List.Folds.{list_all-append}
 use Rattle.std.proofs.lemmas.Option.{slice_get_within, get_or_from_slice_get}
-use Rattle.gufi_base.specs.Words.{is_empty, last_of, ascends}
+use Rattle.gufi_base.specs.Basics.{is_empty, last_of, ascends}
 use Rattle.gufi_base.specs.Names.{is_name}
 use Rattle.gufi_base.specs.Paths.{Components, parent_path, is_too_long}
 use Rattle.gufi_base.specs.Rows.{are_bytes}

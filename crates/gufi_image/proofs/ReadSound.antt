@@ -7,7 +7,7 @@ use Rattle.std.proofs.lemmas.List.{append-nil}
 use Rattle.std.proofs.lemmas.List.Folds.{list_all-append, list_all-map}
 use Rattle.gufi_base.specs.declared.record.Kind.TheVariants.{Dir}
 use Rattle.gufi_base.specs.declared.record.Row.{Row}
-use Rattle.gufi_base.specs.Words.{ascends}
+use Rattle.gufi_base.specs.Basics.{ascends}
 use Rattle.gufi_base.specs.Limits.{max_dirs, max_entries}
 use Rattle.gufi_base.specs.Names.{is_name}
 use Rattle.gufi_base.specs.Kinds.{is_dir}

@@ -9,7 +9,7 @@ use Rattle.std.specs.Cmp.Lexicographic.{slice_cmp}
 use Rattle.std.specs.List.{AllByRecursion, list_all}
 use Rattle.std.proofs.lemmas.Bool.{and_parts}
 use Rattle.std.proofs.lemmas.Option.{slice_get-get_or}
-use Rattle.gufi_base.specs.Words.{ascends, last_of}
+use Rattle.gufi_base.specs.Basics.{ascends, last_of}
 use Rattle.gufi_base.specs.Paths.{Components, path_cmp}
 use Rattle.gufi_base.proofs.SortedOnce.{below_all, ascends-tail}
 use Rattle.gufi_tree.specs.declared.tree.Entry.{Entry}

@@ -16,7 +16,7 @@ use Rattle.std.proofs.Math.Seq.{get_or-append_seam}
 use Rattle.gufi_base.specs.declared.record.Kind.{Kind}
 use Rattle.gufi_base.specs.declared.record.Kind.TheVariants.{Block, Char, Dir, Link, Fifo, File, Socket}
 use Rattle.gufi_base.specs.declared.record.Row.{Row}
-use Rattle.gufi_base.specs.Words.{last_of, ascends}
+use Rattle.gufi_base.specs.Basics.{last_of, ascends}
 use Rattle.gufi_base.specs.Limits.{max_dirs, max_entries}
 use Rattle.gufi_base.specs.Names.{is_name}
 use Rattle.gufi_base.specs.Kinds.{is_dir}

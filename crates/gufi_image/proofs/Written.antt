@@ -7,7 +7,7 @@ use Rattle.std.proofs.lemmas.List.{append-nil, length-map, take_more}
 use Rattle.std.proofs.lemmas.List.Concat.{flat_map-append}
 use Rattle.std.proofs.lemmas.List.Sums.{sum_by_more, sum_by_more_le, sum_by-cons}
 use Rattle.gufi_base.specs.declared.record.Rec.{Rec}
-use Rattle.gufi_base.specs.Words.{is_empty, last_of}
+use Rattle.gufi_base.specs.Basics.{is_empty, last_of}
 use Rattle.gufi_base.specs.Names.{is_name, is_name_byte, dot, dot_dot}
 use Rattle.gufi_base.specs.Limits.{max_name}
 use Rattle.gufi_base.specs.Paths.{Components, parent_path, base_name}

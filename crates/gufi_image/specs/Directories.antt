@@ -3,7 +3,7 @@ use Rattle.std.specs.Prelude.{ℕ, ◌+◌, ◌-◌, ◌^◌, Bool, true, not, �
 use Rattle.std.specs.Int.{w8, w32}
 use Rattle.std.specs.Ordering.{is_lt}
 use Rattle.gufi_base.specs.declared.record.Kind.TheVariants.{Dir}
-use Rattle.gufi_base.specs.Words.{is_empty, last_of, ◌>>=◌, ◌>>◌}
+use Rattle.gufi_base.specs.Basics.{is_empty, last_of, ◌>>=◌, ◌>>◌}
 use Rattle.gufi_base.specs.Paths.{Components, path_cmp}
 use Rattle.gufi_tree.specs.Tree.{Directory, has_entry_named, entry_count}
 use Rattle.gufi_image.specs.declared.fault.Flaw.{Flaw}

@@ -4,7 +4,7 @@ use Rattle.std.specs.Int.{w8}
 use Rattle.std.specs.Ordering.{nat_cmp, is_lt}
 use Rattle.std.specs.Cmp.Lexicographic.{slice_cmp}
 use Rattle.gufi_base.specs.declared.record.Kind.{Kind}
-use Rattle.gufi_base.specs.Words.{last_of, ◌>>=◌, ◌>>◌}
+use Rattle.gufi_base.specs.Basics.{last_of, ◌>>=◌, ◌>>◌}
 use Rattle.gufi_base.specs.Kinds.{kind_of_letter}
 use Rattle.gufi_base.specs.Paths.{Components}
 use Rattle.gufi_tree.specs.declared.tree.Entry.{Entry}

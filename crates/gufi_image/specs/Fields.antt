@@ -6,7 +6,7 @@ use Rattle.gufi_base.specs.declared.record.Kind.{Kind}
 use Rattle.gufi_base.specs.declared.record.Meta.{Meta}
 use Rattle.gufi_base.specs.declared.record.Rec.{Rec}
 use Rattle.gufi_base.specs.Limits.{max_link}
-use Rattle.gufi_base.specs.Words.{◌>>=◌, ◌>>◌, refuse}
+use Rattle.gufi_base.specs.Basics.{◌>>=◌, ◌>>◌, refuse}
 use Rattle.gufi_base.specs.Names.{is_path_byte}
 use Rattle.gufi_image.specs.declared.fault.ImageKind.{ImageKind}
 use Rattle.gufi_image.specs.declared.fault.ImageKind.TheVariants as kinds

@@ -2,7 +2,7 @@
 use Rattle.std.specs.Prelude.{ℕ, ◌-◌, ◌^◌, Bool, true, false, List, [], ◌++◌, length, unwrap_or, if◌then◌else◌}
 use Rattle.std.specs.List.{flat_map}
 use Rattle.gufi_base.specs.declared.record.Rec.{Rec}
-use Rattle.gufi_base.specs.Words.{is_empty, last_of}
+use Rattle.gufi_base.specs.Basics.{is_empty, last_of}
 use Rattle.gufi_base.specs.Kinds.{kind_letter}
 use Rattle.gufi_base.specs.Paths.{Components, parent_path}
 use Rattle.gufi_tree.specs.declared.tree.Entry.{Entry}

@@ -1,7 +1,7 @@
 -- The names in an image.
 use Rattle.std.specs.Prelude.{ℕ, ◌||◌, not, List, [], ◌∷◌, ◌++◌, Result, Ok}
 use Rattle.std.specs.Int.{w8}
-use Rattle.gufi_base.specs.Words.{◌>>=◌, ◌>>◌}
+use Rattle.gufi_base.specs.Basics.{◌>>=◌, ◌>>◌}
 use Rattle.gufi_base.specs.Names.{is_name}
 use Rattle.gufi_base.specs.Paths.{Components, is_too_long}
 use Rattle.gufi_image.specs.declared.fault.ImageKind.TheVariants as kinds

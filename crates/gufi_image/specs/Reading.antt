@@ -4,7 +4,7 @@ use Rattle.std.specs.List.{starts_with}
 use Rattle.std.specs.Bool.{nat_eq}
 use Rattle.std.specs.Int.{w16, w32, w64}
 use Rattle.gufi_base.specs.Limits.{max_dirs, max_entries}
-use Rattle.gufi_base.specs.Words.{is_empty, ◌>>=◌, ◌>>◌, refuse, result_map_err}
+use Rattle.gufi_base.specs.Basics.{is_empty, ◌>>=◌, ◌>>◌, refuse, result_map_err}
 use Rattle.gufi_tree.specs.Tree.{entry_count}
 use Rattle.gufi_roll.specs.CanRoll.{roll_flags}
 use Rattle.gufi_snap.specs.Snap.{Snap}

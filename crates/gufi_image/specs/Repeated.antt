@@ -1,6 +1,6 @@
 -- Parts that stand one after the other.
 use Rattle.std.specs.Prelude.{ℕ, zero, suc, List, Result, Ok}
-use Rattle.gufi_base.specs.Words.{◌>>=◌}
+use Rattle.gufi_base.specs.Basics.{◌>>=◌}
 use Rattle.gufi_image.specs.declared.fault.Flaw.{Flaw}
 
 -- so many steps, each of which reads a part behind those before it

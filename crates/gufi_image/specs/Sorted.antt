@@ -1,7 +1,7 @@
 -- Directories each with its entries in name order.
 use Rattle.std.specs.Prelude.{◌≡◌, ℕ, List, slice_get, Some, IsTrue}
 use Rattle.std.specs.List.{list_all}
-use Rattle.gufi_base.specs.Words.{ascends}
+use Rattle.gufi_base.specs.Basics.{ascends}
 use Rattle.gufi_tree.specs.Tree.{Directory, entry_cmp}
 
 abbrev pub AreSorted : List Directory → Type 0

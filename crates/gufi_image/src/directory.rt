@@ -1,7 +1,7 @@
 //! The directories of an image.
 
 ghost use Rattle.std.specs.Prelude.{◌≡◌, ◌++◌, ◌∷◌, [], length, slice_get, None, IsTrue, IfOk, MatchOption};
-ghost use Rattle.gufi_base.specs.Words.{ascends};
+ghost use Rattle.gufi_base.specs.Basics.{ascends};
 ghost use Rattle.gufi_tree.specs.Tree.{entry_cmp, entry_count};
 ghost use Rattle.gufi_tree.specs.Stored.{directory_of};
 ghost use Rattle.gufi_image.specs.Fields.{Gives};

@@ -5,7 +5,7 @@ ghost use Rattle.std.specs.Int.{w16};
 ghost use Rattle.std.specs.Bool.{nat_eq};
 ghost use Rattle.std.specs.List.{starts_with};
 ghost use Rattle.gufi_base.specs.Limits.{max_dirs, max_entries, max_image};
-ghost use Rattle.gufi_base.specs.Words.{GivesUnless};
+ghost use Rattle.gufi_base.specs.Basics.{GivesUnless};
 ghost use Rattle.gufi_tree.specs.Kept.{HasParents};
 ghost use Rattle.gufi_roll.specs.CanRoll.{roll_flags};
 ghost use Rattle.gufi_image.specs.Bytes.{magic};

@@ -1,7 +1,7 @@
 //! The image of a snapshot.
 
 ghost use Rattle.std.specs.Prelude.{◌≡◌, ◌<◌, ◌++◌, [], length, OnOk, IfOk};
-ghost use Rattle.gufi_base.specs.Words.{last_of};
+ghost use Rattle.gufi_base.specs.Basics.{last_of};
 ghost use Rattle.gufi_tree.specs.Tree.{entry_count, HasTreeShape};
 ghost use Rattle.gufi_tree.specs.Places.{path_at};
 ghost use Rattle.gufi_image.specs.Bytes.{name_image};

@@ -10,7 +10,7 @@ use Rattle.gufi_base.specs.declared.record.Meta.{Meta}
 use Rattle.gufi_base.specs.declared.record.Row.{Row}
 use Rattle.gufi_base.specs.Kinds.{kind_letter, is_file, is_link}
 use Rattle.gufi_base.specs.Paths.{base_name}
-use Rattle.gufi_base.specs.Words.{line}
+use Rattle.gufi_base.specs.Basics.{line}
 use Rattle.gufi_users.specs.Entries.{UserTables}
 use Rattle.gufi_users.specs.Users.{name_of_uid, name_of_gid}
 

@@ -3,7 +3,7 @@ use Rattle.std.specs.Prelude.{ℕ, ◌+◌, ◌/◌, ◌%◌, ◌^◌, List, [],
 use Rattle.std.specs.Fmt.{signed_decimal}
 use Rattle.gufi_base.specs.declared.record.Row.{Row}
 use Rattle.gufi_base.specs.Kinds.{kind_letter}
-use Rattle.gufi_base.specs.Words.{line}
+use Rattle.gufi_base.specs.Basics.{line}
 use Rattle.gufi_base.specs.Paths.{path_text}
 use Rattle.gufi_sums.specs.declared.summary.Summary.{Summary}
 use Rattle.gufi_sums.specs.Counts.{counts_text}

@@ -2,7 +2,7 @@
 
 ghost use Rattle.std.specs.Prelude.{◌≡◌, ◌++◌, IfOk, OnOk};
 ghost use Rattle.gufi_base.specs.Kinds.{is_link};
-ghost use Rattle.gufi_base.specs.Words.{line};
+ghost use Rattle.gufi_base.specs.Basics.{line};
 ghost use Rattle.gufi_list.specs.Columns.{links_column, owners_column, sizes_column, meta_columns, shown_line};
 ghost use Rattle.gufi_list.specs.Listings.{owner_text, group_text, target_text, long_text, ls_line, is_hidden, is_shown, ls_text, ls_asks};
 

@@ -2,7 +2,7 @@
 
 ghost use Rattle.std.specs.Prelude.{◌≡◌, ◌++◌, IfOk, OnOk, codes};
 ghost use Rattle.gufi_base.specs.Paths.{path_text};
-ghost use Rattle.gufi_base.specs.Words.{line};
+ghost use Rattle.gufi_base.specs.Basics.{line};
 ghost use Rattle.gufi_list.specs.Pieces.{type_text, links_and_owners_text, size_text, early_times_text, times_text};
 ghost use Rattle.gufi_list.specs.Texts.{octal_text, record_text, stat_text, total_text};
 

@@ -5,7 +5,7 @@ use Rattle.std.specs.List.{flat_map, onto_first}
 use Rattle.std.proofs.lemmas.Bool.{and_parts, leb-true}
 use Rattle.std.proofs.lemmas.List.{take_all}
 use Rattle.gufi_base.specs.Limits.{max_script_lines}
-use Rattle.gufi_base.specs.Words.{result_map_err, ◌>>=◌}
+use Rattle.gufi_base.specs.Basics.{result_map_err, ◌>>=◌}
 use Rattle.gufi_script.specs.declared.fault.ScriptKind.{ScriptKind}
 use Rattle.gufi_script.specs.declared.fault.ScriptError.TheVariants as errors
 use Rattle.gufi_plan.specs.declared.fault.ActFault.{ActFault}

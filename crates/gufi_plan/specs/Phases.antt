@@ -1,7 +1,7 @@
 -- Phases whose last one goes on.
 use Rattle.std.specs.Prelude.{List, [], ◌∷◌, ◌++◌, Result, Ok}
 use Rattle.std.specs.List.{onto_first}
-use Rattle.gufi_base.specs.Words.{◌>>=◌}
+use Rattle.gufi_base.specs.Basics.{◌>>=◌}
 use Rattle.gufi_script.specs.declared.fault.ScriptError.{ScriptError}
 use Rattle.gufi_script.specs.ScriptText.{PlacedAct}
 use Rattle.gufi_plan.specs.declared.act.PlannedAct.{PlannedAct}

@@ -2,7 +2,7 @@
 use Rattle.std.specs.Prelude.{ℕ, ℤ, ◌+◌, Bool, List, [], ◌∷◌, length, Option, Some, None, Result, Ok, ok_or}
 use Rattle.std.specs.List.{join_with_byte, onto_first}
 use Rattle.gufi_base.specs.declared.record.Row.{Row}
-use Rattle.gufi_base.specs.Words.{◌>>=◌, result_map_err}
+use Rattle.gufi_base.specs.Basics.{◌>>=◌, result_map_err}
 use Rattle.gufi_base.specs.Paths.{Components}
 use Rattle.gufi_users.specs.Entries.{UserTables}
 use Rattle.gufi_users.specs.Users.{principal_of}

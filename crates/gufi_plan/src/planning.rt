@@ -1,7 +1,7 @@
 //! From a script to its plan.
 ghost use Rattle.std.specs.Prelude.{◌≡◌, ◌+◌, ◌≤◌, [], ◌∷◌, length, IsTrue, IfOk, OnOk};
 ghost use Rattle.gufi_base.specs.Limits.{max_script_lines};
-ghost use Rattle.gufi_base.specs.Words.{GivesUnless};
+ghost use Rattle.gufi_base.specs.Basics.{GivesUnless};
 ghost use Rattle.gufi_script.specs.ScriptText.{is_script};
 ghost use Rattle.gufi_plan.specs.Plan.{Plan, act_count, with_act, plan};
 ghost use Rattle.gufi_plan.specs.Settings.{setting_of};

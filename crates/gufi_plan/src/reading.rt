@@ -1,7 +1,7 @@
 //! The act that a line of a script is, its user and its query read.
 ghost use Rattle.std.specs.Prelude.{◌≡◌, ◌∷◌, ◌++◌, IfOk, OnOk};
 ghost use Rattle.std.specs.List.{flat_map};
-ghost use Rattle.gufi_base.specs.Words.{GivesUnless, result_map_err};
+ghost use Rattle.gufi_base.specs.Basics.{GivesUnless, result_map_err};
 ghost use Rattle.gufi_plan.specs.Plan.{query_text, query_of, search_of, planned_act};
 ghost use Rattle.gufi_plan.specs.Settings.{setting_of};
 

@@ -7,7 +7,7 @@ use Rattle.std.proofs.lemmas.List.{length-append, length-map, get_or-map, take_m
 use Rattle.std.proofs.lemmas.List.Folds.{list_all-append, list_all_more, length-flat_map-take}
 use Rattle.std.proofs.lemmas.List.Sorted.{length_permutation}
 use Rattle.gufi_base.specs.declared.record.Row.{Row}
-use Rattle.gufi_base.specs.Words.{is_empty}
+use Rattle.gufi_base.specs.Basics.{is_empty}
 use Rattle.gufi_base.specs.Paths.{Components, path_eq, parent_path, is_prefix, is_proper_prefix, is_child_of}
 use Rattle.gufi_access.specs.Tried.{covers}
 use Rattle.gufi_access.specs.declared.class.Guard.{Guard}

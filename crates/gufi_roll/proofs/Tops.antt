@@ -8,7 +8,7 @@ use Rattle.std.proofs.lemmas.List.{length-append}
 use Rattle.std.proofs.lemmas.List.Concat.{length-flat_map}
 use Rattle.std.proofs.lemmas.List.Sums.{sum_by-cons}
 use Rattle.std.proofs.lemmas.Slice.Eq.{bytes_eq-Decides}
-use Rattle.gufi_base.specs.Words.{is_empty}
+use Rattle.gufi_base.specs.Basics.{is_empty}
 use Rattle.gufi_base.specs.Paths.{Components, path_eq, parent_path, base_name, is_prefix, is_proper_prefix}
 use Rattle.gufi_base.proofs.Cuts.{all_but_last_and_last}
 use Rattle.gufi_base.proofs.Prefixes.{prefix_of_child}

@@ -1,7 +1,7 @@
 -- Which directories are rolled up under a limit.
 use Rattle.std.specs.Prelude.{ℕ, Bool, not, ◌&&◌, ◌||◌, nat_le, List, [], ◌++◌, length, filter, map, sum_by, zip, codes, decimal}
 use Rattle.std.specs.List.{list_all, list_any}
-use Rattle.gufi_base.specs.Words.{line}
+use Rattle.gufi_base.specs.Basics.{line}
 use Rattle.gufi_base.specs.Paths.{Components, is_prefix, is_proper_prefix, is_child_of}
 use Rattle.gufi_access.specs.Tried.{covers}
 use Rattle.gufi_tree.specs.Tree.{Directory, rights_of, subtree_rows}

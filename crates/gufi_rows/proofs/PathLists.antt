@@ -15,7 +15,7 @@ use Rattle.std.proofs.lemmas.List.Sorted.{IsPermutation-map, IsPermutation-trans
 use Rattle.std.proofs.Math.Seq.{get_or-append_seam}
 use Rattle.gufi_base.specs.declared.record.Row.{Row}
 use Rattle.gufi_rows.specs.declared.spot.Spot.{Spot}
-use Rattle.gufi_base.specs.Words.{ascends}
+use Rattle.gufi_base.specs.Basics.{ascends}
 use Rattle.gufi_base.specs.Paths.{Components, path_cmp, path_text, stem}
 use Rattle.gufi_base.specs.declared.record.RowRef.{RowRef}
 use Rattle.gufi_base.specs.Rows.{row_cmp, Stands}

@@ -11,7 +11,7 @@ use Rattle.gufi_base.specs.declared.record.Rec.{Rec}
 use Rattle.gufi_base.specs.declared.record.Row.{Row}
 use Rattle.gufi_base.specs.declared.record.RowRef.{RowRef}
 use Rattle.gufi_rows.specs.declared.kept.Kept.{Kept}
-use Rattle.gufi_base.specs.Words.{ascends}
+use Rattle.gufi_base.specs.Basics.{ascends}
 use Rattle.gufi_base.specs.Paths.{Components}
 use Rattle.gufi_base.specs.Rows.{Stands, row_cmp}
 use Rattle.gufi_base.specs.PathParts.{ArePartsOf}

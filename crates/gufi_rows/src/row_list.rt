@@ -5,7 +5,7 @@ ghost use Rattle.std.specs.Ordering.{is_lt};
 ghost use Rattle.std.specs.List.Sorted.{IsPermutation, IsSortedBy};
 ghost use Rattle.std.proofs.lemmas.List.Sorted.{length_permutation, IsPermutation-trans};
 ghost use Rattle.gufi_base.specs.declared.record.Row.{Row as SeenRow};
-ghost use Rattle.gufi_base.specs.Words.{ascends};
+ghost use Rattle.gufi_base.specs.Basics.{ascends};
 ghost use Rattle.gufi_base.specs.Rows.{Stands, StandsForSome, row_cmp};
 ghost use Rattle.gufi_rows.specs.PathLists.{FitsBehind, picked};
 ghost use Rattle.gufi_rows.specs.PathPlaces.{places_between, places_of};

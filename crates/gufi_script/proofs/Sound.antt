@@ -5,7 +5,7 @@ use Rattle.std.specs.List.{list_all}
 use Rattle.std.proofs.lemmas.Bool.{and_parts, and_from, and_cases, le-leb, lt-ltb, leb-true, leb-false, ltb-false, not-false}
 use Rattle.std.proofs.lemmas.List.Folds.{list_all-append}
 use Rattle.gufi_base.specs.Limits.{max_script_lines, max_publishing, max_lanes}
-use Rattle.gufi_base.specs.Words.{is_empty, part_at, text_lines, result_map_err, ◌>>=◌, ◌>>◌, refuse}
+use Rattle.gufi_base.specs.Basics.{is_empty, part_at, text_lines, result_map_err, ◌>>=◌, ◌>>◌, refuse}
 use Rattle.gufi_base.specs.Numbers.{read_u32}
 use Rattle.gufi_script.specs.declared.fault.ScriptKind.{ScriptKind}
 use Rattle.gufi_script.specs.declared.fault.ScriptKind.TheVariants as kinds

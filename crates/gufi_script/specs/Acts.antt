@@ -2,7 +2,7 @@
 use Rattle.std.specs.Prelude.{ℕ, Bool, not, ◌==◌, ◌&&◌, ◌||◌, nat_le, List, length, drop, Option, Some, None, Result, Ok, Err, ok_or, if◌then◌else◌, bytes_eq, codes}
 use Rattle.std.specs.Str.{is_utf8}
 use Rattle.gufi_base.specs.Limits.{max_lanes}
-use Rattle.gufi_base.specs.Words.{is_empty, part_at, result_map_err, ◌>>=◌, ◌>>◌, refuse}
+use Rattle.gufi_base.specs.Basics.{is_empty, part_at, result_map_err, ◌>>=◌, ◌>>◌, refuse}
 use Rattle.gufi_base.specs.Numbers.{read_u32, read_u64}
 use Rattle.gufi_base.specs.Paths.{Components, read_path}
 use Rattle.gufi_script.specs.declared.fault.ScriptKind.{ScriptKind}

@@ -2,7 +2,7 @@
 use Rattle.std.specs.Prelude.{ℕ, ◌+◌, Bool, true, false, not, ◌==◌, ◌&&◌, nat_lt, nat_le, List, [], ◌∷◌, ◌++◌, length, count_by, Result, Ok, if◌then◌else◌, codes, decimal}
 use Rattle.std.specs.List.{list_all}
 use Rattle.gufi_base.specs.Limits.{max_script_lines, max_publishing, max_lanes}
-use Rattle.gufi_base.specs.Words.{is_empty, part_at, text_lines, result_map_err, ◌>>=◌, ◌>>◌, refuse}
+use Rattle.gufi_base.specs.Basics.{is_empty, part_at, text_lines, result_map_err, ◌>>=◌, ◌>>◌, refuse}
 use Rattle.gufi_script.specs.declared.fault.ScriptKind.{ScriptKind}
 use Rattle.gufi_script.specs.declared.fault.ScriptKind.TheVariants as kinds
 use Rattle.gufi_script.specs.declared.fault.ScriptError.{ScriptError}

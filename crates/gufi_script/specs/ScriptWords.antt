@@ -3,7 +3,7 @@ use Rattle.std.specs.Prelude.{ℕ, Bool, false, not, ◌==◌, ◌&&◌, ◌||�
 use Rattle.std.specs.Char.{is_ascii_hexdigit}
 use Rattle.std.specs.List.{slice_split}
 use Rattle.percent_encoding.specs.Percent.{percent_decode}
-use Rattle.gufi_base.specs.Words.{is_empty}
+use Rattle.gufi_base.specs.Basics.{is_empty}
 
 abbrev pub separates_words : ℕ → Bool
 separates_words b = b == 32 || b == 9

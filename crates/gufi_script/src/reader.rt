@@ -1,6 +1,6 @@
 //! Scripts line by line.
 ghost use Rattle.std.specs.Prelude.{◌≡◌, ◌≢◌, ◌≤◌, Ok, Err, IfOk, OnOk, IfErr, IsTrue};
-ghost use Rattle.gufi_base.specs.Words.{GivesUnless, result_map_err};
+ghost use Rattle.gufi_base.specs.Basics.{GivesUnless, result_map_err};
 ghost use Rattle.gufi_script.specs.Faults.{error_at};
 ghost use Rattle.gufi_script.specs.ScriptText.{publishing_count, is_publishing, is_comment, is_skipped_line, read_line, with_act, with_script_line, read_script, is_script};
 

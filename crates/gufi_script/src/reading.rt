@@ -1,6 +1,6 @@
 //! The act that the words of a line are.
 ghost use Rattle.std.specs.Prelude.{◌≡◌, ok_or, slice_index_or, [], bytes_eq, length};
-ghost use Rattle.gufi_base.specs.Words.{GivesUnless, result_map_err};
+ghost use Rattle.gufi_base.specs.Basics.{GivesUnless, result_map_err};
 ghost use Rattle.gufi_script.specs.Acts.{read_limit, read_lane, read_path_word, read_file_word, read_form_word, has_ask_words, read_publish, read_rollup, read_barrier, read_ask, read_act};
 
 use crate::act::{Act, Form};

@@ -3,7 +3,7 @@ use Rattle.std.proofs.Common.{◌≡◌, ℕ, suc, ◌<◌, ◌≤◌, false, Li
 use Rattle.std.specs.Prelude.{pos, negsuc, Option, Some, None, Ok}
 use Rattle.std.proofs.lemmas.Bool.Decides.{nat_tests}
 use Rattle.gufi_base.specs.Limits.{max_nesting}
-use Rattle.gufi_base.specs.Words.{◌>>=◌}
+use Rattle.gufi_base.specs.Basics.{◌>>=◌}
 use Rattle.gufi_formula.specs.declared.level.Level.{Level}
 use Rattle.gufi_formula.specs.Formulas.{Formula, test}
 use Rattle.gufi_formula.specs.Levels.{new_level, with_term, open_ones}

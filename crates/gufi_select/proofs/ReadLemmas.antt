@@ -2,7 +2,7 @@
 use Rattle.std.proofs.Common.{◌≡◌, ◌≢◌, ℕ, ◌+◌, ◌-◌, ◌≤◌, Bool, true, false, List, [], ◌∷◌, length, drop, refl, sym, ap, ◌∙◌, arith, subst}
 use Rattle.std.proofs.lemmas.List.{length-drop}
 use Rattle.std.specs.Prelude.{Result, Ok, Err, not}
-use Rattle.gufi_base.specs.Words.{◌>>=◌, ◌>>◌, refuse, GivesUnless}
+use Rattle.gufi_base.specs.Basics.{◌>>=◌, ◌>>◌, refuse, GivesUnless}
 use Rattle.gufi_select.specs.declared.fault.SelectError.{SelectError}
 use Rattle.gufi_select.specs.declared.fault.SelectError.TheVariants as errors
 use Rattle.gufi_select.specs.declared.fault.SelectKind.TheVariants.{Unexpected}

@@ -7,7 +7,7 @@ use Rattle.std.specs.Ordering.{int_cmp, nat_cmp, is_eq, is_ne, is_lt, is_le, is_
 use Rattle.std.specs.Cmp.Lexicographic.{slice_cmp}
 use Rattle.gufi_base.specs.declared.record.Meta.{Meta}
 use Rattle.gufi_base.specs.declared.record.Row.{Row}
-use Rattle.gufi_base.specs.Words.{line}
+use Rattle.gufi_base.specs.Basics.{line}
 use Rattle.gufi_base.specs.Paths.{Components, path_text, base_name}
 use Rattle.gufi_base.specs.Kinds.{kind_letter, is_dir}
 use Rattle.gufi_base.specs.Rows.{depth_below}

@@ -1,7 +1,7 @@
 -- What stands open in a condition, and how NOT and parentheses change it.
 use Rattle.std.specs.Prelude.{nat_le, List, ◌∷◌, Result, Ok, ok_or}
 use Rattle.gufi_base.specs.Limits.{max_nesting}
-use Rattle.gufi_base.specs.Words.{◌>>◌, refuse}
+use Rattle.gufi_base.specs.Basics.{◌>>◌, refuse}
 use Rattle.gufi_formula.specs.declared.level.Level.{Level}
 use Rattle.gufi_formula.specs.Levels.{Levels, new_level, with_not, open_ones, closed_levels}
 use Rattle.gufi_select.specs.declared.condition.Condition.{Condition}

@@ -1,7 +1,7 @@
 -- What the words of a SELECT name.
 use Rattle.std.specs.Prelude.{ℕ, List, [], ◌∷◌, map, Option, Some, None, codes}
 use Rattle.std.specs.Char.{to_ascii_lowercase}
-use Rattle.gufi_base.specs.Words.{lookup}
+use Rattle.gufi_base.specs.Basics.{lookup}
 use Rattle.gufi_select.specs.declared.column.Column.{Column}
 use Rattle.gufi_select.specs.declared.column.Column.TheVariants.{Path, Name, Kind, Inode, Mode, Nlink, Uid, Gid, Size, Blksize, Blocks, Atime, Mtime, Ctime, Linkname, Level}
 use Rattle.gufi_select.specs.declared.column.Table.{Table}

@@ -1,6 +1,6 @@
 -- How a SELECT is read, from the left, and its first fault.
 use Rattle.std.specs.Prelude.{ℕ, Bool, true, false, not, List, [], ◌∷◌, ◌++◌, length, map, Option, Some, None, is_some, Result, Ok, Err, ok_or, if◌then◌else◌, pos, neg_ℤ}
-use Rattle.gufi_base.specs.Words.{is_empty, capped_number, ◌>>=◌, ◌>>◌, refuse}
+use Rattle.gufi_base.specs.Basics.{is_empty, capped_number, ◌>>=◌, ◌>>◌, refuse}
 use Rattle.gufi_formula.specs.Formulas.{test}
 use Rattle.gufi_formula.specs.Levels.{Levels, first_levels, with_term, with_or, level_formula}
 use Rattle.gufi_select.specs.declared.column.Column.{Column}

@@ -1,6 +1,6 @@
 -- What a reader of a token gives.
 use Rattle.std.specs.Prelude.{◌≡◌, ℕ, Result, Ok, Err}
-use Rattle.gufi_base.specs.Words.{capped_number}
+use Rattle.gufi_base.specs.Basics.{capped_number}
 use Rattle.gufi_select.specs.declared.fault.SelectError.{SelectError}
 use Rattle.gufi_select.specs.declared.fault.SelectError.TheVariants as errors
 use Rattle.gufi_select.specs.declared.fault.SelectKind.{SelectKind}

@@ -1,6 +1,6 @@
 //! How the text of a SELECT is read.
 ghost use Rattle.std.specs.Prelude.{◌≡◌, ◌∷◌, [], drop, MatchOption};
-ghost use Rattle.gufi_base.specs.Words.{GivesUnless, capped_number};
+ghost use Rattle.gufi_base.specs.Basics.{GivesUnless, capped_number};
 ghost use Rattle.gufi_select.specs.Reading.{read_token, read_placed, read_state, check_regexp, finished, wrong_negative, read_select};
 ghost use Rattle.gufi_select.specs.States.{state_kept};
 ghost use Rattle.gufi_select.specs.TokenFaults.{Gives, Tells, fault_of};

@@ -1,6 +1,6 @@
 //! What the words of a SELECT name.
 ghost use Rattle.std.specs.Prelude.{◌≡◌, bytes_eq};
-ghost use Rattle.gufi_base.specs.Words.{lookup};
+ghost use Rattle.gufi_base.specs.Basics.{lookup};
 ghost use Rattle.gufi_select.specs.Names.{lower, keywords, columns, tables, word_of};
 
 use crate::column::{Column, Table};

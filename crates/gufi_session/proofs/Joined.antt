@@ -5,7 +5,7 @@ use Rattle.std.specs.List.{list_all, last_or}
 use Rattle.std.proofs.lemmas.Bool.{and_from, le-leb, eq-eqb, eqb-true}
 use Rattle.std.proofs.lemmas.List.{append-nil, take_at, drop_at}
 use Rattle.std.proofs.lemmas.List.Sums.{sum_by_from}
-use Rattle.gufi_base.specs.Words.{is_empty, line}
+use Rattle.gufi_base.specs.Basics.{is_empty, line}
 use Rattle.gufi_tree.specs.Tree.{Directory}
 use Rattle.gufi_trace.specs.TraceText.{trace_means, TraceFailure}
 use Rattle.gufi_io.specs.Files.{Files}

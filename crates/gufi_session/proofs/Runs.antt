@@ -2,7 +2,7 @@
 use Rattle.std.proofs.Common.{◌≡◌, ℕ, ◌+◌, ◌≤◌, Bool, true, false, List, [], ◌∷◌, length, take, map, refl, sym, ap, ◌∙◌, subst, arith}
 use Rattle.std.specs.Prelude.{Option, Some, None, Result, Ok, Err, IsTrue}
 use Rattle.std.proofs.lemmas.List.{length-map, take-map}
-use Rattle.gufi_base.specs.Words.{◌>>=◌}
+use Rattle.gufi_base.specs.Basics.{◌>>=◌}
 use Rattle.gufi_io.specs.Files.{Files}
 use Rattle.gufi_phases.specs.declared.load.Stop.{Stop}
 use Rattle.gufi_phases.specs.declared.session.End.{End}

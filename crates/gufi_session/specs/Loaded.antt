@@ -1,7 +1,7 @@
 -- The acts of a phase as they are carried out: files are replaced by their bytes.
 use Rattle.std.specs.Prelude.{ℕ, List, ◌++◌, map, Option, Result, Ok, Err, codes, decimal}
 use Rattle.gufi_io.specs.Files.{Files}
-use Rattle.gufi_base.specs.Words.{line, ◌>>=◌}
+use Rattle.gufi_base.specs.Basics.{line, ◌>>=◌}
 use Rattle.gufi_trace.specs.TraceText.{trace_means}
 use Rattle.gufi_phases.specs.declared.act.Act.{Act}
 use Rattle.gufi_phases.specs.declared.act.Act.TheVariants as acts

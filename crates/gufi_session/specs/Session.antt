@@ -3,7 +3,7 @@ use Rattle.std.specs.Prelude.{◌≡◌, ℕ, zero, suc, ◌+◌, Bool, true, fa
 use Rattle.std.specs.List.{list_all, last_or}
 use Rattle.gufi_io.specs.Files.{Files}
 use Rattle.gufi_base.specs.declared.record.Row.{Row}
-use Rattle.gufi_base.specs.Words.{is_empty, line}
+use Rattle.gufi_base.specs.Basics.{is_empty, line}
 use Rattle.gufi_base.specs.Paths.{Components}
 use Rattle.gufi_rows.specs.PathLines.{path_lines}
 use Rattle.gufi_tree.specs.Tree.{Directory}

@@ -1,7 +1,7 @@
 //! Publishing commands whose files were read.
 ghost use Rattle.std.specs.Prelude.{◌≡◌, ◌++◌, ◌<◌, ◌^◌, Err, IfOk, OnOk, codes, decimal, length, option_map};
 ghost use Rattle.std.specs.Arc.{arc_value};
-ghost use Rattle.gufi_base.specs.Words.{result_map_err};
+ghost use Rattle.gufi_base.specs.Basics.{result_map_err};
 ghost use Rattle.gufi_tree.specs.Build.{tree_of};
 ghost use Rattle.gufi_trace.specs.TraceText.{trace_means, failure_text, of_line, of_tree};
 ghost use Rattle.gufi_phases.specs.Made.{made_of};

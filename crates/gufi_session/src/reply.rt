@@ -1,6 +1,6 @@
 //! Replies to searches.
 ghost use Rattle.std.specs.Prelude.{◌≡◌, ◌≢◌, ◌++◌, Some, IfOk, OnOk, codes, decimal};
-ghost use Rattle.gufi_base.specs.Words.{line};
+ghost use Rattle.gufi_base.specs.Basics.{line};
 ghost use Rattle.gufi_find.specs.Expressions.{find_holds};
 ghost use Rattle.gufi_select.specs.Columns.{select_holds};
 ghost use Rattle.gufi_walk.specs.Answer.{reply_rows};

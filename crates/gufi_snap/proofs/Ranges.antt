@@ -8,7 +8,7 @@ use Rattle.std.proofs.lemmas.List.{append-nil, length-take}
 use Rattle.std.proofs.lemmas.List.Elements.{All-nil, All-cons}
 use Rattle.gufi_base.specs.Kinds.{is_dir}
 use Rattle.gufi_base.specs.Paths.{Components, path_cmp, is_prefix}
-use Rattle.gufi_base.specs.Words.{ascends}
+use Rattle.gufi_base.specs.Basics.{ascends}
 use Rattle.gufi_base.proofs.Prefixes.{paths_total, stands_after_subtree, prefix_stands_before}
 use Rattle.gufi_base.proofs.SortedOnce.{below_all, ascends-tail, less_turned}
 use Rattle.gufi_tree.specs.declared.tree.Entry.{Entry}

@@ -12,7 +12,7 @@ use Rattle.std.proofs.lemmas.List.{map-append}
 use Rattle.std.proofs.lemmas.List.Elements.{filter-append}
 use Rattle.std.proofs.lemmas.List.Filters.{length-filter_both}
 use Rattle.gufi_base.specs.declared.record.Row.{Row}
-use Rattle.gufi_base.specs.Words.{insert_by, sort_by, ascends, distinct, without}
+use Rattle.gufi_base.specs.Basics.{insert_by, sort_by, ascends, distinct, without}
 use Rattle.gufi_base.proofs.SortedOnce.{order_cases, ascends-tail, ascends-sort_by}
 use Rattle.gufi_sums.specs.declared.summary.Summary.{Summary}
 use Rattle.gufi_sums.specs.Total.{total, empty, add, rows_in, IsBounded}

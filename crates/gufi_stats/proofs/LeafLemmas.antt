@@ -13,7 +13,7 @@ use Rattle.std.proofs.lemmas.List.Concat.{flat_map-append}
 use Rattle.gufi_base.specs.declared.record.Row.{Row}
 use Rattle.gufi_base.specs.Paths.{Components, path_cmp, path_text, is_prefix, is_proper_prefix}
 use Rattle.gufi_base.specs.Rows.{row_cmp, is_dir_row}
-use Rattle.gufi_base.specs.Words.{ascends, line}
+use Rattle.gufi_base.specs.Basics.{ascends, line}
 use Rattle.gufi_base.proofs.Orders.{path_cmp-same}
 use Rattle.gufi_base.proofs.Prefixes.{rows_total, front_and_rest, prefix_stands_before, stands_after_subtree}
 use Rattle.gufi_base.proofs.SortedOnce.{below_all, ascends-tail, less_turned}

@@ -9,7 +9,7 @@ use Rattle.std.proofs.lemmas.Bool.{cases_Bool, eqb-true, eq-eqb, false≢true}
 use Rattle.std.proofs.lemmas.Bool.Decides.{nat_tests}
 use Rattle.std.proofs.lemmas.Cmp.{nat_cmp_total}
 use Rattle.std.proofs.lemmas.List.Sorted.{IsPermutation-refl, IsPermutation-trans, IsPermutation-cons, list_any-IsPermutation}
-use Rattle.gufi_base.specs.Words.{insert_by, sort_by, ascends, distinct, without}
+use Rattle.gufi_base.specs.Basics.{insert_by, sort_by, ascends, distinct, without}
 use Rattle.gufi_base.proofs.Permutations.{front_turned, IsPermutation-filter}
 use Rattle.gufi_base.proofs.Sorting.{IsPermutation-sort_by}
 use Rattle.gufi_base.proofs.SortedOnce.{times, Once, less_turned, below_all, ascends-sort_by, ascends-filter, sort_by-IsPermutation, sort_by-to}

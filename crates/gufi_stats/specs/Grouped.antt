@@ -5,7 +5,7 @@ use Rattle.std.specs.Map.{lookup}
 use Rattle.std.specs.Ordering.{nat_cmp, is_eq}
 use Rattle.gufi_base.specs.declared.record.Row.{Row}
 use Rattle.gufi_base.specs.Rows.{depth_below}
-use Rattle.gufi_base.specs.Words.{distinct, sort_by, line}
+use Rattle.gufi_base.specs.Basics.{distinct, sort_by, line}
 use Rattle.gufi_sums.specs.declared.summary.Summary.{Summary}
 use Rattle.gufi_sums.specs.Counts.{counts_text}
 use Rattle.gufi_sums.specs.Total.{total, empty}

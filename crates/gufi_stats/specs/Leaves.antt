@@ -4,7 +4,7 @@ use Rattle.std.specs.List.{list_any}
 use Rattle.gufi_base.specs.declared.record.Row.{Row}
 use Rattle.gufi_base.specs.Paths.{path_text, is_proper_prefix}
 use Rattle.gufi_base.specs.Rows.{is_dir_row}
-use Rattle.gufi_base.specs.Words.{line}
+use Rattle.gufi_base.specs.Basics.{line}
 pub use Rattle.gufi_stats.specs.Reports.{leaf_lines}
 
 -- one of the rows is a directory below the row

@@ -3,7 +3,7 @@ use Rattle.std.specs.Prelude.{ℕ, Bool, not, ◌==◌, ◌&&◌, List, ◌++◌
 use Rattle.std.specs.List.{flat_map, list_any}
 use Rattle.std.specs.Ordering.{nat_cmp}
 use Rattle.gufi_base.specs.declared.record.Row.{Row}
-use Rattle.gufi_base.specs.Words.{distinct, sort_by, line}
+use Rattle.gufi_base.specs.Basics.{distinct, sort_by, line}
 use Rattle.gufi_base.specs.Paths.{Components, path_text, is_proper_prefix}
 use Rattle.gufi_base.specs.Rows.{is_dir_row, depth_below}
 use Rattle.gufi_sums.specs.Counts.{counts_text}

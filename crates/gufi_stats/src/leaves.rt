@@ -2,7 +2,7 @@
 
 ghost use Rattle.std.specs.Prelude.{◌≡◌, ◌++◌, ◌∷◌, not, IsTrue, IfOk, OnOk};
 ghost use Rattle.gufi_base.specs.Paths.{path_text};
-ghost use Rattle.gufi_base.specs.Words.{ascends, line};
+ghost use Rattle.gufi_base.specs.Basics.{ascends, line};
 ghost use Rattle.gufi_base.specs.Rows.{row_cmp};
 ghost use Rattle.gufi_stats.specs.Leaves.{is_above_any, leaf_line, leaf_lines};
 

@@ -1,7 +1,7 @@
 //! The four reports.
 
 ghost use Rattle.std.specs.Prelude.{◌≡◌, ◌^◌, ◌<◌, length, IsTrue, IfOk};
-ghost use Rattle.gufi_base.specs.Words.{ascends};
+ghost use Rattle.gufi_base.specs.Basics.{ascends};
 ghost use Rattle.gufi_base.specs.Rows.{row_cmp};
 ghost use Rattle.gufi_stats.specs.Reports.{stats_text};
 

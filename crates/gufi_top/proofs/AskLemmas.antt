@@ -6,7 +6,7 @@ use Rattle.std.specs.List.{flat_map}
 use Rattle.std.proofs.lemmas.List.{append-nil}
 use Rattle.std.proofs.lemmas.List.Filters.{length-filter_both}
 use Rattle.gufi_base.specs.declared.record.Row.{Row}
-use Rattle.gufi_base.specs.Words.{◌>>=◌}
+use Rattle.gufi_base.specs.Basics.{◌>>=◌}
 use Rattle.gufi_base.specs.Paths.{Components, path_eq}
 use Rattle.gufi_base.specs.Rows.{home, depth_below}
 use Rattle.gufi_access.specs.declared.class.Principal.{Principal}

@@ -5,7 +5,7 @@ use Rattle.std.specs.declared.alloc.Global.{Global}
 use Rattle.std.specs.Io.KnownBytes.{Consumes, IsAtEnd}
 use Rattle.std.proofs.lemmas.List.{take-append-le}
 use Rattle.gufi_io.specs.Files.{Files, IsReadUpTo}
-use Rattle.gufi_base.specs.Words.{result_map_err, GivesUnless}
+use Rattle.gufi_base.specs.Basics.{result_map_err, GivesUnless}
 use Rattle.gufi_base.specs.Limits.{max_image}
 use Rattle.gufi_tree.specs.Tree.{Directory}
 use Rattle.gufi_snap.specs.Snap.{Snap}

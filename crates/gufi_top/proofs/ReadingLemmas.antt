@@ -5,7 +5,7 @@ use Rattle.std.specs.declared.alloc.Global.{Global}
 use Rattle.std.proofs.lemmas.List.{length-append}
 use Rattle.std.proofs.lemmas.Bool.Decides.{nat_tests}
 use Rattle.gufi_io.specs.Files.{Files, Holds, Lacks, HoldsFront, IsReadUpTo}
-use Rattle.gufi_base.specs.Words.{◌>>=◌, result_map_err, GivesUnless}
+use Rattle.gufi_base.specs.Basics.{◌>>=◌, result_map_err, GivesUnless}
 use Rattle.gufi_base.specs.Limits.{max_trace}
 use Rattle.gufi_base.specs.declared.record.Line.{Line}
 use Rattle.gufi_tree.specs.Tree.{Directory}

@@ -5,7 +5,7 @@ use Rattle.std.specs.declared.alloc.Global.{Global}
 use Rattle.gufi_io.specs.Files.{Files}
 use Rattle.gufi_io.specs.declared.shelf.Shelf.{Ghosts as ShelfOf}
 use Rattle.gufi_io.specs.declared.sink.Sink.{Ghosts as SinkOf}
-use Rattle.gufi_base.specs.Words.{result_map_err}
+use Rattle.gufi_base.specs.Basics.{result_map_err}
 use Rattle.gufi_access.specs.declared.class.Principal.{Principal}
 use Rattle.gufi_words.specs.declared.command.Command.{Command}
 use Rattle.gufi_words.specs.declared.word.WordError.{WordError}

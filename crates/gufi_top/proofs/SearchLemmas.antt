@@ -2,7 +2,7 @@
 use Rattle.std.proofs.Common.{List, refl}
 use Rattle.std.specs.Prelude.{Option, Result, Ok, Err}
 use Rattle.gufi_io.specs.Files.{Files}
-use Rattle.gufi_base.specs.Words.{◌>>=◌}
+use Rattle.gufi_base.specs.Basics.{◌>>=◌}
 use Rattle.gufi_access.specs.declared.class.Principal.{Principal}
 use Rattle.gufi_tree.specs.Tree.{Directory}
 use Rattle.gufi_snap.specs.Snap.{Snap}

@@ -5,7 +5,7 @@ use Rattle.std.specs.declared.alloc.Global.{Global}
 use Rattle.gufi_io.specs.Files.{Files}
 use Rattle.gufi_io.specs.Kept.{Keeps}
 use Rattle.gufi_io.specs.declared.shelf.Shelf.{Ghosts as ShelfOf}
-use Rattle.gufi_base.specs.Words.{◌>>=◌}
+use Rattle.gufi_base.specs.Basics.{◌>>=◌}
 use Rattle.gufi_users.specs.Entries.{PasswdEntry, GroupEntry, UserTables}
 use Rattle.gufi_top.specs.Reasons.{Reason, optional_file, passwd_within, group_within, passwd_in, group_in, tables_with, tables_beside, tables_in}
 use Rattle.gufi_top.specs.Calls.{Gives, GivesOver, HaltHasCause, IsOfBytes}

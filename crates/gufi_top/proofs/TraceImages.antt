@@ -2,7 +2,7 @@
 use Rattle.std.proofs.Common.{◌≡◌, ◌≢◌, true, not, [], ap, sym, ◌∙◌, ⊎_elim}
 use Rattle.std.specs.List.{flat_map, list_all}
 use Rattle.std.proofs.lemmas.Bool.{or_cases, false≢true}
-use Rattle.gufi_base.specs.Words.{is_empty}
+use Rattle.gufi_base.specs.Basics.{is_empty}
 use Rattle.gufi_base.specs.Paths.{Components, is_too_long}
 use Rattle.gufi_tree.specs.Tree.{own_rows}
 use Rattle.gufi_trace.specs.TraceTrees.{trace_root, TracesMeanSoundTrees}

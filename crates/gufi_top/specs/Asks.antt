@@ -2,7 +2,7 @@
 use Rattle.std.specs.Prelude.{◌≡◌, ℕ, Bool, true, List, ◌++◌, filter, Result, Ok, codes}
 use Rattle.std.specs.List.{flat_map}
 use Rattle.gufi_base.specs.declared.record.Row.{Row}
-use Rattle.gufi_base.specs.Words.{◌>>=◌, line}
+use Rattle.gufi_base.specs.Basics.{◌>>=◌, line}
 use Rattle.gufi_base.specs.Paths.{Components, path_eq}
 use Rattle.gufi_rows.specs.PathLines.{path_lines}
 use Rattle.gufi_access.specs.declared.class.Principal.{Principal}

@@ -4,7 +4,7 @@ use Rattle.std.specs.Io.KnownBytes.{Appends}
 use Rattle.gufi_io.specs.Causes.{Rose}
 use Rattle.gufi_io.specs.Files.{Files, TakesFront}
 use Rattle.gufi_io.specs.declared.sink.Sink.{Ghosts as SinkOf}
-use Rattle.gufi_base.specs.Words.{line}
+use Rattle.gufi_base.specs.Basics.{line}
 use Rattle.gufi_phases.specs.declared.load.Stop.{Stop}
 use Rattle.gufi_session.specs.Ends.{AnsweredWhole, AnsweredInPart}
 use Rattle.gufi_top.specs.Reasons.{Reason, stop_reason}

@@ -1,7 +1,7 @@
 -- Files that are taken as they come.
 use Rattle.std.specs.Prelude.{◌≡◌, ℕ, ◌≤◌, Bool, List, length, ⊤, Option, Some, None, Result}
 use Rattle.gufi_base.specs.Limits.{max_trace}
-use Rattle.gufi_base.specs.Words.{◌>>=◌, result_map_err}
+use Rattle.gufi_base.specs.Basics.{◌>>=◌, result_map_err}
 use Rattle.gufi_base.specs.declared.record.Line.{Line}
 use Rattle.gufi_io.specs.Files.{Files}
 use Rattle.gufi_io.specs.Whole.{IsTakenUpTo}

@@ -2,7 +2,7 @@
 use Rattle.std.specs.Prelude.{◌≡◌, ◌≤◌, ◌<◌, ◌^◌, ℕ, ℤ, Bool, not, ◌||◌, IsTrue, List, [], length, filter, Option, Some, is_ok, Ok}
 use Rattle.std.specs.List.{flat_map, list_all}
 use Rattle.gufi_io.specs.Files.{Files}
-use Rattle.gufi_base.specs.Words.{is_empty}
+use Rattle.gufi_base.specs.Basics.{is_empty}
 use Rattle.gufi_base.specs.Delimiters.{may_delimit}
 use Rattle.gufi_base.specs.Paths.{is_too_long}
 use Rattle.gufi_base.specs.Rows.{are_bytes, home, depth_below}

@@ -4,7 +4,7 @@ use Rattle.std.specs.Bool.{nat_eq}
 use Rattle.std.specs.List.{starts_with}
 use Rattle.gufi_io.specs.Files.{Files}
 use Rattle.gufi_base.specs.Limits.{max_trace, max_image, max_users, max_script}
-use Rattle.gufi_base.specs.Words.{line, capped_number, ◌>>=◌, ◌>>◌, refuse, result_map_err}
+use Rattle.gufi_base.specs.Basics.{line, capped_number, ◌>>=◌, ◌>>◌, refuse, result_map_err}
 use Rattle.gufi_tree.specs.Tree.{Directory}
 use Rattle.gufi_snap.specs.Snap.{Snap}
 use Rattle.gufi_image.specs.Bytes.{magic}

@@ -1,7 +1,7 @@
 -- What the words and the files come to: a reason with its status and note, a text, or the run of a session.
 use Rattle.std.specs.Prelude.{ℕ, ℤ, Bool, true, false, List, [], ◌∷◌, ◌++◌, Option, ok_or, Result, Ok, Err, if◌then◌else◌, codes}
 use Rattle.gufi_io.specs.Files.{Files}
-use Rattle.gufi_base.specs.Words.{◌>>=◌, result_map_err}
+use Rattle.gufi_base.specs.Basics.{◌>>=◌, result_map_err}
 use Rattle.gufi_base.specs.Paths.{Components}
 use Rattle.gufi_access.specs.declared.class.Principal.{Principal}
 use Rattle.gufi_access.specs.Access.{principal}

@@ -10,7 +10,7 @@ ghost use Rattle.gufi_roll.specs.CanRoll.{report_text};
 ghost use Rattle.gufi_image.specs.Kinds.{image_kind_text};
 ghost use Rattle.gufi_find.specs.Faults.{find_kind_text};
 ghost use Rattle.gufi_select.specs.Faults.{select_kind_text};
-ghost use Rattle.gufi_base.specs.Words.{line};
+ghost use Rattle.gufi_base.specs.Basics.{line};
 
 use gufi_base::Memory;
 use gufi_find::FindKind;

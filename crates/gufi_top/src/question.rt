@@ -1,6 +1,6 @@
 //! What the commands with a USER and a START ask.
 ghost use Rattle.std.specs.Prelude.{◌≡◌, ◌≢◌, ◌+◌, Err, IfErr, IfOk};
-ghost use Rattle.gufi_base.specs.Words.{capped_number};
+ghost use Rattle.gufi_base.specs.Basics.{capped_number};
 ghost use Rattle.gufi_find.specs.Expressions.{Find as SeenFind};
 ghost use Rattle.gufi_find.specs.Faults.{find_kind_text};
 ghost use Rattle.gufi_select.specs.Columns.{Select as SeenSelect};

@@ -1,6 +1,6 @@
 //! The files that the words name.
 ghost use Rattle.std.specs.Prelude.{◌≡◌, ◌≢◌, ◌≤◌, ◌<◌, ◌+◌, [], true, length, IfErr, IfOk, OnOk, IsTrue, Err};
-ghost use Rattle.gufi_base.specs.Words.{result_map_err};
+ghost use Rattle.gufi_base.specs.Basics.{result_map_err};
 ghost use Rattle.gufi_base.specs.Limits.{max_dirs, max_entries, max_trace};
 ghost use Rattle.gufi_tree.specs.Build.{tree_of};
 ghost use Rattle.gufi_io.specs.Causes.{Rose};

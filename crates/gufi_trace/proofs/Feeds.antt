@@ -4,7 +4,7 @@ use Rattle.std.specs.Prelude.{◌≢◌, Option, Some, None, Result, Ok, Err}
 use Rattle.std.proofs.lemmas.List.{drop_more, take-append-drop, append-nil, length-reverse}
 use Rattle.std.proofs.lemmas.List.Concat.{flat_map-append}
 use Rattle.gufi_base.specs.declared.record.Line.{Line}
-use Rattle.gufi_base.specs.Words.{is_empty, ◌>>◌, refuse, GivesUnless}
+use Rattle.gufi_base.specs.Basics.{is_empty, ◌>>◌, refuse, GivesUnless}
 use Rattle.gufi_base.specs.Paths.{Components}
 use Rattle.gufi_trace.specs.declared.fault.TraceKind.{TraceKind}
 use Rattle.gufi_trace.specs.declared.fault.TraceKind.TheVariants.{CutLine}

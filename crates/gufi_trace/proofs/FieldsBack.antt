@@ -3,7 +3,7 @@ use Rattle.std.proofs.Common.{◌≡◌, ℕ, Bool, true, not, ◌&&◌, ◌||�
 use Rattle.std.specs.List.{join_with_byte, list_all}
 use Rattle.std.proofs.lemmas.Bool.{eqb-true, and_parts, and_from, or_cases, or_from, not-true, not_from_false, cases_Bool, false≢true}
 use Rattle.std.proofs.lemmas.List.Folds.{list_all-append}
-use Rattle.gufi_base.specs.Words.{split}
+use Rattle.gufi_base.specs.Basics.{split}
 use Rattle.gufi_base.specs.Delimiters.{is_letter_or_digit, is_delimiter, may_delimit}
 use Rattle.gufi_base.proofs.Parts.{has_no, split_first, split_one}
 

@@ -7,7 +7,7 @@ use Rattle.std.proofs.lemmas.List.Splits.{slice_split_first}
 use Rattle.std.proofs.lemmas.List.Quantifiers.{position-Some}
 use Rattle.memchr.specs.Find.{IsFirstByte, is_byte}
 use Rattle.memchr.proofs.lemmas.ValueLemmas.{IsFirstByte-value}
-use Rattle.gufi_base.specs.Words.{split}
+use Rattle.gufi_base.specs.Basics.{split}
 
 abbrev is_end : ℕ → ℕ → Bool
 is_end s b = eqb b s

@@ -5,7 +5,7 @@ use Rattle.std.proofs.lemmas.Bool.{le-ltb}
 use Rattle.gufi_base.specs.declared.record.Kind.{Kind}
 use Rattle.gufi_base.specs.declared.record.Line.{Line}
 use Rattle.gufi_base.specs.Limits.{max_dirs, max_entries}
-use Rattle.gufi_base.specs.Words.{split, part_at, ◌>>=◌, ◌>>◌, refuse}
+use Rattle.gufi_base.specs.Basics.{split, part_at, ◌>>=◌, ◌>>◌, refuse}
 use Rattle.gufi_base.specs.Paths.{Components, is_prefix}
 use Rattle.gufi_base.specs.Kinds.{is_dir}
 use Rattle.gufi_trace.specs.declared.fault.TraceKind.{TraceKind}

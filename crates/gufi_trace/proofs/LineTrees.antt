@@ -11,7 +11,7 @@ use Rattle.std.proofs.lemmas.List.Sorted.{IsPermutation-refl, IsPermutation-tran
 use Rattle.gufi_base.specs.declared.record.Line.{Line}
 use Rattle.gufi_base.specs.declared.record.Row.{Row}
 use Rattle.gufi_base.specs.Kinds.{is_dir}
-use Rattle.gufi_base.specs.Words.{is_empty, ascends, sort_by}
+use Rattle.gufi_base.specs.Basics.{is_empty, ascends, sort_by}
 use Rattle.gufi_base.specs.Paths.{Components, path_cmp, path_eq, parent_path, base_name}
 use Rattle.gufi_base.specs.Rows.{row_cmp}
 use Rattle.gufi_base.proofs.Cuts.{all_but_last_and_last}

@@ -13,7 +13,7 @@ use Rattle.gufi_base.specs.declared.record.Meta.{Meta}
 use Rattle.gufi_base.specs.declared.record.Rec.{Rec}
 use Rattle.gufi_base.specs.declared.record.Row.{Row}
 use Rattle.gufi_base.specs.declared.record.Line.{Line}
-use Rattle.gufi_base.specs.Words.{◌>>=◌}
+use Rattle.gufi_base.specs.Basics.{◌>>=◌}
 use Rattle.gufi_base.specs.Limits.{max_link}
 use Rattle.gufi_base.specs.Names.{is_path_byte, is_name}
 use Rattle.gufi_base.specs.Paths.{Components, read_path, path_text, is_prefix, is_too_long}

@@ -11,7 +11,7 @@ use Rattle.gufi_base.specs.declared.record.Line.{Line}
 use Rattle.gufi_base.specs.declared.record.Meta.{Meta}
 use Rattle.gufi_base.specs.declared.path.PathFault.{PathFault}
 use Rattle.gufi_base.specs.Limits.{max_dirs, max_entries, max_link, max_path, max_components}
-use Rattle.gufi_base.specs.Words.{split, result_map_err}
+use Rattle.gufi_base.specs.Basics.{split, result_map_err}
 use Rattle.gufi_base.proofs.Parts.{has_no}
 use Rattle.gufi_base.specs.Names.{is_name, is_path_byte}
 use Rattle.gufi_base.specs.Paths.{Components, read_path, is_prefix, path_text}

@@ -4,7 +4,7 @@ use Rattle.std.specs.Prelude.{Option, Some, None, Result, Ok, Err, ok_or, option
 use Rattle.std.specs.Str.Parse.{digits_value, starts_with_minus}
 use Rattle.std.proofs.lemmas.Bool.{and_parts, and_from, ltb-true, lt-ltb, le-leb}
 use Rattle.gufi_base.specs.declared.record.Meta.{Meta}
-use Rattle.gufi_base.specs.Words.{◌>>=◌, ◌>>◌, refuse}
+use Rattle.gufi_base.specs.Basics.{◌>>=◌, ◌>>◌, refuse}
 use Rattle.gufi_base.specs.Numbers.{is_numeral, read_below, read_u32, read_u64, read_i64}
 use Rattle.gufi_base.specs.Kinds.{read_kind}
 use Rattle.gufi_base.specs.Rows.{are_bytes, fits_i64, fits_types}

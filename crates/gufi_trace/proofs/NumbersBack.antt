@@ -8,7 +8,7 @@ use Rattle.std.specs.Str.Parse.{AllDigits, digits_value, starts_with_minus}
 use Rattle.std.proofs.lemmas.Fmt.{decimal_is_IsNumeral}
 use Rattle.std.proofs.lemmas.Str.Parse.{digit_from_value}
 use Rattle.std.proofs.lemmas.Bool.{and_parts, and_from, or_left, lt-ltb, le-leb, ltb-true, leb-true, ne_eqb, cond-true, cond-false}
-use Rattle.gufi_base.specs.Words.{is_empty}
+use Rattle.gufi_base.specs.Basics.{is_empty}
 use Rattle.gufi_base.specs.Numbers.{is_numeral, read_below, read_i64}
 use Rattle.gufi_base.specs.Rows.{fits_i64}
 use Rattle.gufi_trace.proofs.FieldsBack.{is_plain}

@@ -6,7 +6,7 @@ use Rattle.std.proofs.lemmas.Bool.{and_parts, and_from, or_parts, or_from, not-t
 use Rattle.std.proofs.lemmas.List.{append-nil}
 use Rattle.std.proofs.lemmas.List.Folds.{list_all-append}
 use Rattle.std.proofs.lemmas.Slice.Eq.{bytes_eq-Decides}
-use Rattle.gufi_base.specs.Words.{split, is_empty}
+use Rattle.gufi_base.specs.Basics.{split, is_empty}
 use Rattle.gufi_base.specs.Limits.{max_name, max_path, max_components}
 use Rattle.gufi_base.specs.Names.{dot, dot_dot, is_path_byte, is_name_byte, is_name}
 use Rattle.gufi_base.specs.Paths.{Components, is_dropped, kept_parts, read_path, slashed_text, path_text, is_too_long}

@@ -4,7 +4,7 @@ use Rattle.std.specs.Prelude.{nat_lt, filter, bytes_eq, slice_index_or, Ok, Err}
 use Rattle.std.specs.List.{onto_first, list_all, list_any}
 use Rattle.std.proofs.lemmas.Bool.{and_parts, and_from, or_parts, not_from_false, ltb-false}
 use Rattle.gufi_base.specs.declared.path.PathFault.TheVariants.{DotDot, BadByte, LongName}
-use Rattle.gufi_base.specs.Words.{split, all_but_last}
+use Rattle.gufi_base.specs.Basics.{split, all_but_last}
 use Rattle.gufi_base.specs.Limits.{max_path, max_name, max_components}
 use Rattle.gufi_base.specs.Names.{dot_dot, is_path_byte, is_name}
 use Rattle.gufi_base.specs.Paths.{Components, is_dropped, kept_parts, read_path, slashed_text}

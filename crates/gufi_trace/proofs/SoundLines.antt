@@ -8,7 +8,7 @@ use Rattle.std.proofs.Math.Seq.{drop-append_seam}
 use Rattle.gufi_base.specs.declared.record.Kind.{Kind}
 use Rattle.gufi_base.specs.declared.record.Line.{Line}
 use Rattle.gufi_base.specs.Limits.{max_dirs, max_entries, max_link}
-use Rattle.gufi_base.specs.Words.{split, ◌>>=◌, ◌>>◌, refuse}
+use Rattle.gufi_base.specs.Basics.{split, ◌>>=◌, ◌>>◌, refuse}
 use Rattle.gufi_base.specs.Numbers.{read_i64}
 use Rattle.gufi_base.specs.Kinds.{is_dir}
 use Rattle.gufi_base.specs.Paths.{Components, read_path, is_prefix}

@@ -1,6 +1,6 @@
 -- The lines of a stream that comes in pieces.
 use Rattle.std.proofs.Common.{◌≡◌, ℕ, List, [], ◌∷◌, ◌++◌, refl, ap, ◌∙◌}
-use Rattle.gufi_base.specs.Words.{split, all_but_last, last_of}
+use Rattle.gufi_base.specs.Basics.{split, all_but_last, last_of}
 use Rattle.gufi_base.proofs.Cuts.{split_some, split_append, all_but_last-append, last_of-append}
 use Rattle.gufi_trace.specs.TraceText.{whole_lines, cut_line}
 

@@ -9,7 +9,7 @@ use Rattle.std.proofs.lemmas.List.Concat.{flat_map-append}
 use Rattle.std.proofs.lemmas.List.Folds.{list_all-append, list_any-append, flat_map-map}
 use Rattle.gufi_base.specs.declared.record.Line.{Line}
 use Rattle.gufi_base.specs.declared.record.Row.{Row}
-use Rattle.gufi_base.specs.Words.{part_at, ◌>>◌, refuse, result_map_err}
+use Rattle.gufi_base.specs.Basics.{part_at, ◌>>◌, refuse, result_map_err}
 use Rattle.gufi_base.specs.declared.path.PathFault.{PathFault}
 use Rattle.gufi_base.specs.Limits.{max_dirs, max_entries}
 use Rattle.gufi_base.specs.Names.{is_name}

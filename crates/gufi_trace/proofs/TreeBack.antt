@@ -10,7 +10,7 @@ use Rattle.std.proofs.lemmas.List.Folds.{list_all-append, list_all-map}
 use Rattle.std.proofs.lemmas.List.Sorted.{IsPermutation-refl}
 use Rattle.gufi_base.specs.declared.record.Line.{Line}
 use Rattle.gufi_base.specs.declared.record.Row.{Row}
-use Rattle.gufi_base.specs.Words.{is_empty, ascends}
+use Rattle.gufi_base.specs.Basics.{is_empty, ascends}
 use Rattle.gufi_base.specs.Names.{is_name}
 use Rattle.gufi_base.specs.Kinds.{is_dir}
 use Rattle.gufi_base.specs.Rows.{is_well_formed, row_cmp}

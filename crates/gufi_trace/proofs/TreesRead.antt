@@ -12,7 +12,7 @@ use Rattle.gufi_base.specs.declared.record.Row.{Row}
 use Rattle.gufi_base.specs.Limits.{max_dirs, max_entries, max_path, max_components}
 use Rattle.gufi_base.specs.Names.{is_name}
 use Rattle.gufi_base.specs.Kinds.{is_dir}
-use Rattle.gufi_base.specs.Words.{is_empty, ascends, sort_by, split, result_map_err}
+use Rattle.gufi_base.specs.Basics.{is_empty, ascends, sort_by, split, result_map_err}
 use Rattle.gufi_base.specs.Paths.{Components, parent_path, path_text, is_too_long}
 use Rattle.gufi_base.specs.Rows.{are_bytes, is_well_formed, row_fits_types}
 use Rattle.gufi_base.proofs.Parts.{has_no}

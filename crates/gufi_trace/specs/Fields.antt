@@ -1,6 +1,6 @@
 -- The fields of a line.
 use Rattle.std.specs.Prelude.{ℕ, List, ◌∷◌, Option, Some, None, ok_or, Result}
-use Rattle.gufi_base.specs.Words.{split}
+use Rattle.gufi_base.specs.Basics.{split}
 use Rattle.gufi_trace.specs.declared.fault.TraceKind.{TraceKind}
 use Rattle.gufi_trace.specs.declared.fault.TraceKind.TheVariants.{Short}
 use Rattle.gufi_trace.specs.declared.fields.Fields.{Fields}

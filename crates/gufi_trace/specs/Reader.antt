@@ -3,7 +3,7 @@ use Rattle.std.specs.Prelude.{◌≡◌, ◌≢◌, ℕ, ◌==◌, Bool, not, Li
 use Rattle.std.specs.Global.{Vec}
 use Rattle.std.specs.List.{flat_map, list_all}
 use Rattle.gufi_base.specs.declared.record.Line.{Line}
-use Rattle.gufi_base.specs.Words.{◌>>◌}
+use Rattle.gufi_base.specs.Basics.{◌>>◌}
 use Rattle.gufi_base.specs.Paths.{Components}
 use Rattle.gufi_trace.specs.declared.fault.TraceError.{TraceError}
 use Rattle.gufi_trace.specs.declared.fault.TraceError.TheVariants.{Fault, Memory}

@@ -6,7 +6,7 @@ use Rattle.gufi_base.specs.declared.record.Kind.{Kind}
 use Rattle.gufi_base.specs.declared.record.Meta.{Meta}
 use Rattle.gufi_base.specs.declared.record.Line.{Line}
 use Rattle.gufi_base.specs.Limits.{max_link}
-use Rattle.gufi_base.specs.Words.{split}
+use Rattle.gufi_base.specs.Basics.{split}
 use Rattle.gufi_base.specs.Numbers.{is_numeral, read_u32, read_u64}
 use Rattle.gufi_base.specs.Kinds.{read_kind}
 use Rattle.gufi_base.specs.Paths.{Components, read_path}

@@ -8,7 +8,7 @@ use Rattle.gufi_base.specs.declared.record.Line.{Line}
 use Rattle.gufi_base.specs.declared.path.PathFault.{PathFault}
 use Rattle.gufi_base.specs.declared.path.PathFault.TheVariants as paths
 use Rattle.gufi_base.specs.Limits.{max_dirs, max_entries, max_link}
-use Rattle.gufi_base.specs.Words.{is_empty, part_at, split, all_but_last, last_of, result_map_err, ◌>>=◌, ◌>>◌, refuse}
+use Rattle.gufi_base.specs.Basics.{is_empty, part_at, split, all_but_last, last_of, result_map_err, ◌>>=◌, ◌>>◌, refuse}
 use Rattle.gufi_base.specs.Numbers.{read_u32, read_u64, read_i64}
 use Rattle.gufi_base.specs.Paths.{Components, read_path, is_prefix}
 use Rattle.gufi_base.specs.Kinds.{read_kind, is_dir}

@@ -4,7 +4,7 @@ use Rattle.std.specs.List.{flat_map, list_any, list_all}
 use Rattle.gufi_base.specs.Paths.{Components, is_too_long}
 use Rattle.gufi_base.specs.TraceRows.{row_line}
 use Rattle.gufi_base.specs.declared.record.Row.{Row}
-use Rattle.gufi_base.specs.Words.{◌>>◌, refuse}
+use Rattle.gufi_base.specs.Basics.{◌>>◌, refuse}
 use Rattle.gufi_tree.specs.Tree.{is_too_large}
 use Rattle.gufi_base.specs.Delimiters.{may_delimit}
 use Rattle.gufi_base.specs.Names.{is_name}

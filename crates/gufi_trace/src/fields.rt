@@ -2,7 +2,7 @@
 
 ghost use Rattle.std.specs.Prelude.{◌≡◌, ◌+◌, ◌<◌, ◌==◌, length, drop, IfSome, option_map, position};
 ghost use Rattle.std.specs.Iterator.{YieldsFirstRef};
-ghost use Rattle.gufi_base.specs.Words.{split};
+ghost use Rattle.gufi_base.specs.Basics.{split};
 ghost use Rattle.gufi_trace.specs.Reading.{Gives};
 ghost use Rattle.gufi_trace.specs.Fields.{texts, fields_of, fields_in};
 ghost use Rattle.gufi_trace.specs.Taken.{KindBefore, Takes, TakesNumber};
@@ -37,7 +37,7 @@ pub(crate) struct Parts<'a> {
 
 impl<'a> Model for Parts<'a> {
     ghost use Rattle.std.specs.Prelude.{ℕ, List, [], if◌then◌else◌};
-    ghost use Rattle.gufi_base.specs.Words.{split};
+    ghost use Rattle.gufi_base.specs.Basics.{split};
 
     ghost Value = { List (List ℕ) };
 

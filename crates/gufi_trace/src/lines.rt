@@ -4,7 +4,7 @@ ghost use Rattle.std.specs.Prelude.{◌≡◌, ℕ, ◌+◌, ◌≤◌, ◌<◌,
 ghost use Rattle.std.specs.Result.{result_unwrap_or};
 ghost use Rattle.gufi_base.specs.Kinds.{is_dir};
 ghost use Rattle.gufi_base.specs.Limits.{max_dirs, max_entries};
-ghost use Rattle.gufi_base.specs.Words.{part_at};
+ghost use Rattle.gufi_base.specs.Basics.{part_at};
 ghost use Rattle.gufi_base.specs.Paths.{Components, read_path, is_child_of, base_name};
 ghost use Rattle.gufi_tree.specs.StanzaLines.{stanza_holds};
 ghost use Rattle.gufi_trace.specs.TraceText.{root_of};

@@ -2,7 +2,7 @@
 
 ghost use Rattle.std.specs.Prelude.{◌≡◌, ◌≢◌, ◌≤◌, ◌+◌, ℕ, length, List, [], ◌∷◌, ◌++◌, None, Some, Ok, Err, OnOk, IfOk, IfErr, IfSome, IsSome, IsTrue};
 ghost use Rattle.gufi_base.specs.Limits.{max_dirs, max_entries};
-ghost use Rattle.gufi_base.specs.Words.{GivesUnless};
+ghost use Rattle.gufi_base.specs.Basics.{GivesUnless};
 ghost use Rattle.gufi_trace.specs.TraceText.{whole_lines, cut_line, trace_lines};
 ghost use Rattle.gufi_trace.specs.Progress.{lines_from, Stops};
 ghost use Rattle.gufi_trace.specs.Reader.{HasRead, answer_of, answer_so_far, GivesLines, stream_of, is_open};

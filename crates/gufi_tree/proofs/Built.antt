@@ -13,7 +13,7 @@ use Rattle.std.proofs.lemmas.List.Elements.{filter-append}
 use Rattle.std.proofs.lemmas.List.Sorted.{IsPermutation-map}
 use Rattle.gufi_base.specs.declared.record.Line.{Line}
 use Rattle.gufi_base.specs.declared.record.Row.{Row}
-use Rattle.gufi_base.specs.Words.{sort_by, ascends, last_of}
+use Rattle.gufi_base.specs.Basics.{sort_by, ascends, last_of}
 use Rattle.gufi_base.specs.Paths.{Components, path_cmp, path_eq, parent_path, base_name}
 use Rattle.gufi_base.specs.Kinds.{is_dir}
 use Rattle.gufi_base.specs.Rows.{is_dir_row}

@@ -7,7 +7,7 @@ use Rattle.std.proofs.lemmas.List.{append-nil}
 use Rattle.std.proofs.lemmas.List.Sorted.{IsPermutation-trans, IsPermutation-cons}
 use Rattle.std.specs.Prelude.{bytes_eq}
 use Rattle.std.proofs.lemmas.Slice.Eq.{bytes_eq-Decides}
-use Rattle.gufi_base.specs.Words.{is_empty}
+use Rattle.gufi_base.specs.Basics.{is_empty}
 use Rattle.gufi_base.specs.Paths.{Components, path_eq, parent_path, is_child_of}
 use Rattle.gufi_tree.specs.Tree.{Directory}
 use Rattle.gufi_tree.proofs.Built.{Has, All-Has, All-from_Has, path_eq-Decides, path_eq-refl, parent_path-child}

@@ -11,7 +11,7 @@ use Rattle.std.proofs.lemmas.List.Folds.{list_all-append, list_all-map}
 use Rattle.std.proofs.lemmas.List.Sorted.{IsPermutation-sym, IsPermutation-trans, IsPermutation-cons, IsPermutation-map, IsPermutation-append, IsPermutation-reverse, length_permutation}
 use Rattle.gufi_base.specs.declared.record.Line.{Line}
 use Rattle.gufi_base.specs.declared.record.Row.{Row}
-use Rattle.gufi_base.specs.Words.{ascends, sort_by}
+use Rattle.gufi_base.specs.Basics.{ascends, sort_by}
 use Rattle.gufi_base.specs.Kinds.{is_dir}
 use Rattle.gufi_base.specs.Paths.{Components, base_name, is_child_of}
 use Rattle.gufi_base.proofs.Sorting.{IsPermutation-sort_by}

@@ -6,7 +6,7 @@ use Rattle.std.specs.declared.cmp.Ordering.TheVariants.{Less}
 use Rattle.std.proofs.lemmas.Bool.{true≢false, false≢true, false_from_ne_true, and_parts, and_from, lt-ltb, le-ltb}
 use Rattle.std.proofs.lemmas.List.{append-nil}
 use Rattle.std.proofs.lemmas.Slice.Eq.{bytes_eq-Decides}
-use Rattle.gufi_base.specs.Words.{ascends}
+use Rattle.gufi_base.specs.Basics.{ascends}
 use Rattle.gufi_base.specs.Paths.{Components, path_eq, parent_path, is_prefix, is_proper_prefix}
 use Rattle.gufi_base.proofs.SortedOnce.{below_all, ascends-tail}
 use Rattle.gufi_access.specs.declared.class.Principal.{Principal}

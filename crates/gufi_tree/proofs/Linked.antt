@@ -12,7 +12,7 @@ use Rattle.std.proofs.lemmas.Bool.Decides.{same_from_decides}
 use Rattle.std.proofs.lemmas.List.{get_or-map, length-map, get_or_push, get_or_append_left}
 use Rattle.std.proofs.lemmas.List.Folds.{Any-from_list_any}
 use Rattle.std.proofs.lemmas.List.Quantifiers.{position-Some}
-use Rattle.gufi_base.specs.Words.{is_empty, ascends, insert_by, sort_by}
+use Rattle.gufi_base.specs.Basics.{is_empty, ascends, insert_by, sort_by}
 use Rattle.gufi_base.specs.Paths.{Components, path_cmp, path_eq, parent_path, is_child_of}
 use Rattle.gufi_tree.specs.declared.tree.DirId.{DirId}
 use Rattle.gufi_tree.specs.Tree.{Directory, dir_cmp, place_of, has_dir, is_at, HasTreeShape}

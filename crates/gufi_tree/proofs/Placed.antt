@@ -9,7 +9,7 @@ use Rattle.std.proofs.lemmas.List.Folds.{list_any-append, list_all-append, list_
 use Rattle.std.proofs.lemmas.List.Sorted.{list_any-IsPermutation}
 use Rattle.gufi_base.specs.declared.record.Line.{Line}
 use Rattle.gufi_base.specs.declared.record.Row.{Row}
-use Rattle.gufi_base.specs.Words.{is_empty, ascends}
+use Rattle.gufi_base.specs.Basics.{is_empty, ascends}
 use Rattle.gufi_base.specs.Paths.{Components, path_cmp, path_eq, parent_path}
 use Rattle.gufi_base.specs.Kinds.{is_dir}
 use Rattle.gufi_base.specs.Rows.{is_dir_row, row_cmp}

@@ -12,7 +12,7 @@ use Rattle.gufi_base.proofs.Names.{name_has_no, names-kept_text, IsText-kept_tex
 use Rattle.gufi_base.proofs.Texts.{kept_text_push}
 use Rattle.gufi_base.proofs.Below.{closed_names_cons}
 use Rattle.std.proofs.lemmas.List.Quantifiers.{position-Some}
-use Rattle.gufi_base.specs.Words.{is_empty, ascends}
+use Rattle.gufi_base.specs.Basics.{is_empty, ascends}
 use Rattle.gufi_base.specs.Paths.{Components, path_cmp, path_eq, parent_path, base_name}
 use Rattle.gufi_base.proofs.Cuts.{all_but_last_and_last}
 use Rattle.gufi_base.proofs.SortedOnce.{below_all, ascends-tail}

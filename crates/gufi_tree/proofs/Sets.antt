@@ -10,7 +10,7 @@ use Rattle.std.proofs.lemmas.List.{take_more, drop_more, drop_all, take-append-d
 use Rattle.std.proofs.lemmas.List.Folds.{list_any-append, list_all-append}
 use Rattle.std.proofs.lemmas.Slice.Eq.{bytes_eq-Decides}
 use Rattle.gufi_base.specs.declared.record.Line.{Line}
-use Rattle.gufi_base.specs.Words.{is_empty}
+use Rattle.gufi_base.specs.Basics.{is_empty}
 use Rattle.gufi_base.specs.Names.{is_name}
 use Rattle.gufi_base.specs.Paths.{Components, path_eq, parent_path}
 use Rattle.gufi_base.specs.PathTexts.{kept_text, names}

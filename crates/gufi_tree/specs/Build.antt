@@ -3,7 +3,7 @@ use Rattle.std.specs.Prelude.{Bool, not, ◌&&◌, List, [], ◌∷◌, filter, 
 use Rattle.std.specs.List.{list_any}
 use Rattle.std.specs.Option.{option_or}
 use Rattle.gufi_base.specs.declared.record.Line.{Line}
-use Rattle.gufi_base.specs.Words.{is_empty, sort_by}
+use Rattle.gufi_base.specs.Basics.{is_empty, sort_by}
 use Rattle.gufi_base.specs.Paths.{Components, path_eq, parent_path, base_name}
 use Rattle.gufi_base.specs.Kinds.{is_dir}
 use Rattle.gufi_tree.specs.declared.tree.Entry.{Entry}

@@ -3,7 +3,7 @@ use Rattle.std.specs.Prelude.{◌≡◌, ℕ, ◌-◌, ◌<◌, Bool, false, Lis
 use Rattle.std.specs.List.{list_all}
 use Rattle.std.specs.Ordering.{is_lt}
 use Rattle.std.specs.List.Sorted.{IsPermutation}
-use Rattle.gufi_base.specs.Words.{ascends}
+use Rattle.gufi_base.specs.Basics.{ascends}
 use Rattle.gufi_base.specs.Paths.{path_cmp, base_name, is_child_of}
 use Rattle.gufi_tree.specs.Tree.{Directory, entry_cmp, has_entry_named, HasTreeShape}
 use Rattle.gufi_tree.specs.Places.{path_at}

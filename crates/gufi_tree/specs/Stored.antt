@@ -1,6 +1,6 @@
 -- How the code keeps a directory.
 use Rattle.std.specs.Prelude.{List, map, IsTrue}
-use Rattle.gufi_base.specs.Words.{ascends}
+use Rattle.gufi_base.specs.Basics.{ascends}
 use Rattle.gufi_tree.specs.declared.tree.Stored.{Stored}
 use Rattle.gufi_tree.specs.Tree.{Directory, dir_cmp}
 

@@ -3,7 +3,7 @@
 ghost use Rattle.std.specs.Prelude.{◌≡◌, ◌++◌, List, [], map, reverse, IfOk, OnOk, IsTrue};
 ghost use Rattle.std.specs.List.Sorted.{IsPermutation};
 ghost use Rattle.gufi_base.specs.declared.record.Line.{Line};
-ghost use Rattle.gufi_base.specs.Words.{ascends};
+ghost use Rattle.gufi_base.specs.Basics.{ascends};
 ghost use Rattle.gufi_tree.specs.Tree.{entry_cmp};
 ghost use Rattle.gufi_tree.specs.StanzaLines.{HasEnded, HasTaken};
 

@@ -1,7 +1,7 @@
 //! A tree from the lines of a trace.
 
 ghost use Rattle.std.specs.Prelude.{◌≡◌, ◌≢◌, ◌<◌, ◌^◌, length, None, Some, IfOk, IfSome, IsTrue, MatchResult};
-ghost use Rattle.gufi_base.specs.Words.{GivesUnless};
+ghost use Rattle.gufi_base.specs.Basics.{GivesUnless};
 ghost use Rattle.gufi_tree.specs.Build.{tree_fault, tree_of};
 ghost use Rattle.gufi_tree.specs.Stored.{directories_of};
 ghost use Rattle.gufi_tree.specs.Gathered.{IsArranged};

@@ -3,7 +3,7 @@
 ghost use Rattle.std.specs.Prelude.{◌≡◌, ◌<◌, ◌++◌, ◌∷◌, [], not, ◌||◌, map, length, slice_index_or, IsTrue, MatchOption, OnOk};
 ghost use Rattle.std.specs.List.{list_all};
 ghost use Rattle.std.specs.List.Sorted.{IsPermutation};
-ghost use Rattle.gufi_base.specs.Words.{is_empty};
+ghost use Rattle.gufi_base.specs.Basics.{is_empty};
 ghost use Rattle.gufi_base.specs.Paths.{parent_path, is_child_of};
 ghost use Rattle.gufi_tree.specs.Tree.{has_dir, is_kinded};
 ghost use Rattle.gufi_tree.specs.Stored.{directories_of, AreInOrder};

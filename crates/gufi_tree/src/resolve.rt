@@ -4,7 +4,7 @@ ghost use Rattle.std.specs.Prelude.{◌≡◌, ◌<◌, ◌≤◌, ◌^◌, ◌=
 ghost use Rattle.std.specs.List.{list_all};
 ghost use Rattle.gufi_base.specs.Paths.{Components};
 ghost use Rattle.gufi_base.specs.PathTexts.{names, IsText};
-ghost use Rattle.gufi_base.specs.Words.{ascends};
+ghost use Rattle.gufi_base.specs.Basics.{ascends};
 ghost use Rattle.gufi_tree.specs.Tree.{HasTreeShape, rights_of, entry_cmp};
 ghost use Rattle.gufi_access.specs.Access.{rights};
 ghost use Rattle.gufi_tree.specs.Places.{path_at};

@@ -1,7 +1,7 @@
 //! Searches among directories and entries that stand in order.
 
 ghost use Rattle.std.specs.Prelude.{◌≡◌, ◌<◌, length, slice_index_or, IsTrue};
-ghost use Rattle.gufi_base.specs.Words.{ascends};
+ghost use Rattle.gufi_base.specs.Basics.{ascends};
 ghost use Rattle.gufi_base.specs.Paths.{path_cmp};
 ghost use Rattle.gufi_base.specs.PathTexts.{names, IsText};
 ghost use Rattle.std.specs.Ordering.{nat_cmp};

@@ -2,7 +2,7 @@
 
 ghost use Rattle.std.specs.Prelude.{◌≡◌, ◌+◌, ◌<◌, ◌≤◌, ◌^◌, length, take, drop, slice_index_or, option_map, IsTrue, IfOk};
 ghost use Rattle.std.specs.List.{flat_map};
-ghost use Rattle.gufi_base.specs.Words.{ascends};
+ghost use Rattle.gufi_base.specs.Basics.{ascends};
 ghost use Rattle.gufi_access.specs.Access.{rights};
 ghost use Rattle.gufi_tree.specs.Tree.{Directory, own_rows, rights_of, entry_cmp, place_of, HasTreeShape};
 ghost use Rattle.gufi_tree.specs.Kept.{HasParents};

@@ -1,7 +1,7 @@
 //! The four reports over six rows, worked by hand.
 ghost use Rattle.std.specs.Prelude.{◌≡◌, length, IfOk};
 ghost use Rattle.gufi_base.specs.Rows.{row_cmp};
-ghost use Rattle.gufi_base.specs.Words.{ascends};
+ghost use Rattle.gufi_base.specs.Basics.{ascends};
 
 use crate::lines::{meta, row_of};
 use gufi_access::Guard;

@@ -5,7 +5,7 @@ use Rattle.std.specs.List.{list_any}
 use Rattle.std.proofs.lemmas.Bool.{cases_Bool, eqb-true}
 use Rattle.std.proofs.lemmas.List.{drop_more, take_more}
 use Rattle.indexmap.specs.IndexSet.{insert_key}
-use Rattle.gufi_base.specs.Words.{distinct, without}
+use Rattle.gufi_base.specs.Basics.{distinct, without}
 use Rattle.gufi_users.specs.Places.{first_place}
 
 -- one number more before the others

@@ -4,7 +4,7 @@ use Rattle.std.specs.Prelude.{Result, Ok, Err, Vec, map, bytes_eq, ◌||◌}
 use Rattle.std.specs.List.{list_any}
 use Rattle.std.specs.declared.alloc.Global.{Global}
 use Rattle.std.proofs.lemmas.List.{map-append}
-use Rattle.gufi_base.specs.Words.{result_map_err, ◌>>=◌}
+use Rattle.gufi_base.specs.Basics.{result_map_err, ◌>>=◌}
 use Rattle.gufi_users.specs.declared.fault.UserKind.{UserKind}
 use Rattle.gufi_users.specs.declared.fault.UserKind.TheVariants.{DoubleName}
 use Rattle.gufi_users.specs.declared.fault.UserError.{UserError}

@@ -3,7 +3,7 @@ use Rattle.std.specs.Prelude.{ℕ, ◌+◌, Bool, true, not, ◌==◌, ◌||◌,
 use Rattle.std.specs.List.{list_any}
 use Rattle.std.specs.Option.{option_or, option_zip}
 use Rattle.gufi_base.specs.Limits.{max_user_lines}
-use Rattle.gufi_base.specs.Words.{is_empty, text_lines, distinct, split, result_map_err, ◌>>=◌}
+use Rattle.gufi_base.specs.Basics.{is_empty, text_lines, distinct, split, result_map_err, ◌>>=◌}
 use Rattle.gufi_base.specs.Numbers.{read_u32, all_numbers}
 use Rattle.gufi_access.specs.declared.class.Principal.{Principal}
 use Rattle.gufi_users.specs.declared.fault.UserKind.{UserKind}

@@ -3,7 +3,7 @@ ghost use Rattle.std.specs.Prelude.{◌≡◌, Ok, Err, Some, None, MatchOption,
 ghost use Rattle.std.specs.List.{list_any};
 ghost use Rattle.std.specs.Map.{lookup};
 ghost use Rattle.indexmap.specs.IndexMap.{values};
-ghost use Rattle.gufi_base.specs.Words.{GivesUnless, split};
+ghost use Rattle.gufi_base.specs.Basics.{GivesUnless, split};
 ghost use Rattle.gufi_users.specs.declared.group.Membership.{Membership};
 ghost use Rattle.gufi_users.specs.Rows.{is_named};
 ghost use Rattle.gufi_users.specs.Users.{group_texts, members_of, read_group_line, group_name, read_group};

@@ -2,7 +2,7 @@
 ghost use Rattle.std.specs.Prelude.{◌≡◌, Ok, Err, Some, None, MatchOption, MatchResult, IfOk, map};
 ghost use Rattle.std.specs.Map.{lookup};
 ghost use Rattle.indexmap.specs.IndexMap.{values};
-ghost use Rattle.gufi_base.specs.Words.{GivesUnless, split};
+ghost use Rattle.gufi_base.specs.Basics.{GivesUnless, split};
 ghost use Rattle.gufi_users.specs.declared.passwd.Account.{Account};
 ghost use Rattle.gufi_users.specs.Rows.{is_named};
 ghost use Rattle.gufi_users.specs.Users.{passwd_texts, read_passwd_line, user_name, read_passwd};

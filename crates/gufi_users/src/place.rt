@@ -1,7 +1,7 @@
 //! Where numbers stand first in a list.
 ghost use Rattle.std.specs.Prelude.{◌≡◌, ◌∷◌, nat_eq, IfOk};
 ghost use Rattle.std.specs.HashMap.{get};
-ghost use Rattle.gufi_base.specs.Words.{distinct};
+ghost use Rattle.gufi_base.specs.Basics.{distinct};
 ghost use Rattle.gufi_users.specs.Places.{AreFirst};
 
 use indexmap::IndexSet;

@@ -1,7 +1,7 @@
 //! Files whose lines add rows, each under a name.
 ghost use Rattle.std.specs.Prelude.{◌≡◌, ◌≢◌, ◌≤◌, ℕ, [], List, Vec, Result, Ok, Err, OnOk, IfOk, IfErr, MatchResult, map};
 ghost use Rattle.std.specs.declared.alloc.Global.{Global};
-ghost use Rattle.gufi_base.specs.Words.{result_map_err, text_lines};
+ghost use Rattle.gufi_base.specs.Basics.{result_map_err, text_lines};
 ghost use Rattle.gufi_users.specs.declared.fault.UserKind.{UserKind};
 ghost use Rattle.gufi_users.specs.Users.{new_row, with_line, read_rows};
 

@@ -2,7 +2,7 @@
 ghost use Rattle.std.specs.Prelude.{◌≡◌, None, option_map, IfOk, MatchOption, Vec, ℕ};
 ghost use Rattle.std.specs.declared.alloc.Global.{Global};
 ghost use Rattle.gufi_base.specs.Numbers.{read_u32};
-ghost use Rattle.gufi_base.specs.Words.{split};
+ghost use Rattle.gufi_base.specs.Basics.{split};
 ghost use Rattle.gufi_users.specs.Users.{group_numbers, numbered_principal, principal_from};
 
 use gufi_access::{GroupList, Principal};

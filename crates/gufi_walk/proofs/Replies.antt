@@ -3,7 +3,7 @@ use Rattle.std.proofs.Common.{◌≡◌, ℕ, true, List}
 use Rattle.std.specs.Prelude.{Bool}
 use Rattle.std.specs.List.Sorted.{IsPermutation}
 use Rattle.gufi_base.specs.declared.record.Row.{Row}
-use Rattle.gufi_base.specs.Words.{ascends}
+use Rattle.gufi_base.specs.Basics.{ascends}
 use Rattle.gufi_base.specs.Paths.{Components}
 use Rattle.gufi_base.specs.Rows.{row_cmp}
 use Rattle.gufi_rows.specs.PathLines.{path_lines, ArePathsOf}

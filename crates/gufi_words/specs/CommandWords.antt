@@ -2,7 +2,7 @@
 use Rattle.std.specs.Prelude.{ℕ, ◌+◌, List, length, drop, Result, Ok}
 use Rattle.std.specs.Option.{ok_or}
 use Rattle.gufi_base.specs.Delimiters.{default_delimiter}
-use Rattle.gufi_base.specs.Words.{◌>>=◌, ◌>>◌}
+use Rattle.gufi_base.specs.Basics.{◌>>=◌, ◌>>◌}
 use Rattle.gufi_base.specs.Numbers.{read_u32}
 use Rattle.gufi_words.specs.WordNumbers.{number_at, refused_at}
 use Rattle.gufi_words.specs.WordValues.{Word, read_delimiter, read_count, read_report, read_file, read_start, read_gids, read_any}

@@ -1,6 +1,6 @@
 -- Words by their places, from 0 on, and by their numbers, from 1 on.
 use Rattle.std.specs.Prelude.{ℕ, ◌+◌}
-use Rattle.gufi_base.specs.Words.{capped_number}
+use Rattle.gufi_base.specs.Basics.{capped_number}
 use Rattle.gufi_words.specs.declared.word.WordError.{WordError}
 use Rattle.gufi_words.specs.declared.word.WordError.TheVariants.{Refused}
 

@@ -3,7 +3,7 @@ use Rattle.std.specs.Prelude.{ℕ, ◌+◌, Bool, true, false, not, ◌==◌, �
 use Rattle.std.specs.Bool.{nat_eq}
 use Rattle.std.specs.List.{starts_with, position_or_len, before_first, after_first}
 use Rattle.gufi_base.specs.Delimiters.{default_delimiter}
-use Rattle.gufi_base.specs.Words.{refuse, ◌>>◌}
+use Rattle.gufi_base.specs.Basics.{refuse, ◌>>◌}
 use Rattle.gufi_base.specs.Numbers.{read_u64, read_i64}
 use Rattle.gufi_words.specs.WordNumbers.{refused_at}
 use Rattle.gufi_words.specs.WordValues.{Word, read_delimiter, read_workers, read_file}

@@ -2,7 +2,7 @@
 use Rattle.std.specs.Prelude.{ℕ, nat_lt, List, length, Option, Some, None, Result, Ok, Err}
 use Rattle.std.specs.List.{slice_get}
 use Rattle.std.specs.Option.{ok_or}
-use Rattle.gufi_base.specs.Words.{refuse}
+use Rattle.gufi_base.specs.Basics.{refuse}
 use Rattle.gufi_words.specs.WordNumbers.{refused_at}
 use Rattle.gufi_words.specs.WordValues.{Word}
 use Rattle.gufi_words.specs.declared.word.WordError.{WordError}

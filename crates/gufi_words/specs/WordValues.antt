@@ -3,7 +3,7 @@ use Rattle.std.specs.Prelude.{ℕ, ◌&&◌, nat_le, List, [], ◌∷◌, Option
 use Rattle.std.specs.Result.{result_ok}
 use Rattle.gufi_base.specs.Limits.{max_workers}
 use Rattle.gufi_base.specs.Delimiters.{is_delimiter}
-use Rattle.gufi_base.specs.Words.{is_empty, split}
+use Rattle.gufi_base.specs.Basics.{is_empty, split}
 use Rattle.gufi_base.specs.Numbers.{all_numbers, read_u32}
 use Rattle.gufi_base.specs.Paths.{Components, read_path}
 use Rattle.gufi_words.specs.declared.command.ReportWord.{ReportWord}

@@ -1,7 +1,7 @@
 //! The form of each command: its positionals, and what it is made of.
 
 ghost use Rattle.std.specs.Prelude.{◌≡◌, ◌≤◌, length};
-ghost use Rattle.gufi_base.specs.Words.{GivesUnless};
+ghost use Rattle.gufi_base.specs.Basics.{GivesUnless};
 ghost use Rattle.gufi_words.specs.WordTexts.{texts};
 ghost use Rattle.gufi_words.specs.CommandWords.{common_of, walk_of, trace2index_of, rollup_of, query_of, find_of, ls_of, stat_of, stats_of, session_of, gen_of, command_of, read_words};
 

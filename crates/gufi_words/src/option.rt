@@ -1,7 +1,7 @@
 //! The options of a command, in the order in which they come.
 
 ghost use Rattle.std.specs.Prelude.{◌≡◌, ◌<◌, ◌≤◌, IfOk, length, drop, option_map};
-ghost use Rattle.gufi_base.specs.Words.{GivesUnless};
+ghost use Rattle.gufi_base.specs.Basics.{GivesUnless};
 ghost use Rattle.gufi_words.specs.WordTexts.{texts};
 ghost use Rattle.gufi_words.specs.WordOptions.{no_options, has_option, put, delim_or_default, limit_or_default, workers_or_default, start, before_equals, after_equals, is_positional, step_with, step_named, step_free, step_at, read_options};
 

@@ -2,7 +2,7 @@
 
 ghost use Rattle.std.specs.Prelude.{◌≡◌, ◌<◌, IfOk, OnOk, length, MatchResult, Some, None, slice_get, drop};
 ghost use Rattle.gufi_base.specs.Numbers.{read_u32};
-ghost use Rattle.gufi_base.specs.Words.{GivesUnless};
+ghost use Rattle.gufi_base.specs.Basics.{GivesUnless};
 ghost use Rattle.gufi_base.specs.Delimiters.{default_delimiter};
 ghost use Rattle.gufi_words.specs.WordTexts.{texts};
 ghost use Rattle.gufi_words.specs.WordNumbers.{refused_at};

@@ -1,7 +1,7 @@
 use Rattle.std.proofs.Common.{◌≡◌, ◌++◌, List, ℕ}
 use Rattle.std.specs.Prelude.{option_map}
 use Rattle.gufi_base.specs.Numbers.{all_numbers}
-use Rattle.gufi_base.specs.Words.{split}
+use Rattle.gufi_base.specs.Basics.{split}
 use Rattle.gufi_base.proofs.number_list.read_numbers.Given as goal
 
 abbrev pub invariant-numbers : goal.invariant-numbers

@@ -1,6 +1,6 @@
 use Rattle.std.proofs.Common.{◌≤◌, length, arith}
 use Rattle.std.proofs.lemmas.Bool.{leb-true, ltb-true, OnTrue_from}
-use Rattle.gufi_base.specs.Words.{split}
+use Rattle.gufi_base.specs.Basics.{split}
 use Rattle.gufi_base.proofs.PlainTexts.{length-split, length-split_slashes}
 use Rattle.gufi_base.proofs.plain.is_within_limits.Goals as goal
 

@@ -1,5 +1,5 @@
 use Rattle.std.proofs.Common.{ap, ◌∙◌, sym}
-use Rattle.gufi_base.specs.Words.{is_empty}
+use Rattle.gufi_base.specs.Basics.{is_empty}
 use Rattle.gufi_base.specs.Paths.{Components}
 use Rattle.gufi_image.proofs.Written.{no_parent}
 use Rattle.gufi_image.proofs.writer.parent_number.Goals as goal

@@ -1,5 +1,5 @@
 use Rattle.std.proofs.Common.{sym, ◌∙◌}
-use Rattle.gufi_base.specs.Words.{split}
+use Rattle.gufi_base.specs.Basics.{split}
 use Rattle.gufi_trace.proofs.SoundLines.{placed_directory}
 use Rattle.gufi_trace.proofs.quick.add_directory.Goals as goal
 

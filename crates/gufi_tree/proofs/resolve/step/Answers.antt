@@ -1,6 +1,6 @@
 use Rattle.std.proofs.Common.{◌∙◌, sym, ap, arith}
 use Rattle.gufi_base.specs.Paths.{Components}
-use Rattle.gufi_base.specs.Words.{ascends}
+use Rattle.gufi_base.specs.Basics.{ascends}
 use Rattle.gufi_access.specs.Access.{is_granted}
 use Rattle.gufi_tree.specs.Tree.{Directory, entry_cmp, place_of}
 use Rattle.gufi_tree.specs.Resolve.{resolve_from}

@@ -3,7 +3,7 @@ use Rattle.std.specs.Prelude.{bytes_eq}
 use Rattle.std.specs.List.{list_any}
 use Rattle.std.specs.Ordering.{nat_cmp}
 use Rattle.std.specs.Cmp.Lexicographic.{slice_cmp}
-use Rattle.gufi_base.specs.Words.{ascends}
+use Rattle.gufi_base.specs.Basics.{ascends}
 use Rattle.gufi_tree.specs.declared.tree.Entry.{Entry}
 use Rattle.gufi_tree.specs.Tree.{entry_cmp}
 use Rattle.gufi_tree.proofs.Entries.{rising_names, found_entry}

@@ -1,6 +1,6 @@
 use Rattle.std.proofs.Common.{sym, ◌∙◌, arith}
 use Rattle.std.proofs.lemmas.List.Sorted.{IsPermutation-trans, length_permutation}
-use Rattle.gufi_base.specs.Words.{ascends}
+use Rattle.gufi_base.specs.Basics.{ascends}
 use Rattle.gufi_tree.specs.Tree.{Directory, entry_cmp, is_kinded}
 use Rattle.gufi_tree.proofs.Placed.{list_all-IsPermutation}
 use Rattle.gufi_tree.proofs.shape.order_tree.Goals as goal

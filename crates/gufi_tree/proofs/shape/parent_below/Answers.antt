@@ -1,6 +1,6 @@
 use Rattle.std.proofs.Common.{ℕ, List, sym, ap, ◌∙◌}
 use Rattle.std.specs.Ordering.{is_lt}
-use Rattle.gufi_base.specs.Words.{ascends}
+use Rattle.gufi_base.specs.Basics.{ascends}
 use Rattle.gufi_base.specs.Paths.{Components, path_cmp, base_name, is_child_of}
 use Rattle.gufi_tree.specs.Tree.{Directory, entry_cmp, has_entry_named}
 use Rattle.gufi_tree.proofs.Linked.{at_place}

@@ -1,5 +1,5 @@
 use Rattle.std.proofs.Common.{◌≡◌, ◌∷◌, take}
-use Rattle.gufi_base.specs.Words.{distinct}
+use Rattle.gufi_base.specs.Basics.{distinct}
 use Rattle.gufi_users.proofs.place.distinct_numbers.Given as goal
 
 abbrev pub invariant-others : goal.invariant-others

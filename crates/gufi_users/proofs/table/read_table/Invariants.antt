@@ -1,5 +1,5 @@
 use Rattle.std.proofs.Common.{◌≡◌, ◌+◌, ◌≤◌, [], map}
-use Rattle.gufi_base.specs.Words.{text_lines}
+use Rattle.gufi_base.specs.Basics.{text_lines}
 use Rattle.gufi_users.specs.Users.{read_rows}
 use Rattle.gufi_users.proofs.table.read_table.Given as goal
 

@@ -1,7 +1,7 @@
 use Rattle.std.proofs.Common.{List, ℕ, ◌∙◌, ap, sym, nat_eq, get_or, take}
 use Rattle.std.proofs.lemmas.List.{take_more}
 use Rattle.indexmap.specs.IndexSet.{insert_key}
-use Rattle.gufi_base.specs.Words.{distinct}
+use Rattle.gufi_base.specs.Basics.{distinct}
 use Rattle.gufi_users.proofs.PlaceLemmas.{distinct_more}
 use Rattle.gufi_find.proofs.numbers.NumberSet.of.Goals as goal
 

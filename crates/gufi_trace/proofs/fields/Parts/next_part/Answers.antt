@@ -1,5 +1,5 @@
 use Rattle.std.proofs.Common.{◌∷◌, [], take, List, ℕ, cond, ap, sym, ◌∙◌}
-use Rattle.gufi_base.specs.Words.{split}
+use Rattle.gufi_base.specs.Basics.{split}
 use Rattle.gufi_trace.proofs.FirstParts.{parts_left, part_left}
 use Rattle.gufi_trace.proofs.fields.Parts.next_part.Goals as goal
 

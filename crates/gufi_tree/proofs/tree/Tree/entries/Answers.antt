@@ -1,5 +1,5 @@
 use Rattle.std.proofs.Common.{◌∙◌, ap}
-use Rattle.gufi_base.specs.Words.{ascends}
+use Rattle.gufi_base.specs.Basics.{ascends}
 use Rattle.gufi_tree.specs.Tree.{Directory, entry_cmp}
 use Rattle.gufi_tree.proofs.Linked.{list_all-get}
 use Rattle.gufi_tree.proofs.tree.Tree.entries.Goals as goal
