@@ -5,14 +5,12 @@ use Rattle.std.specs.List.{flat_map, range_with_len}
 use Rattle.std.specs.List.Sorted.{IsPermutation}
 use Rattle.std.proofs.lemmas.Bool.{or_right, false≢true}
 use Rattle.std.proofs.lemmas.List.{length-map}
-use Rattle.std.proofs.lemmas.List.Folds.{flat_map-map}
 use Rattle.std.proofs.lemmas.List.Sums.{sum_by-cons}
 use Rattle.gufi_base.specs.declared.record.Line.{Line}
 use Rattle.gufi_base.specs.declared.record.Row.{Row}
 use Rattle.gufi_base.specs.Delimiters.{may_delimit}
 use Rattle.gufi_base.specs.Limits.{max_dirs}
 use Rattle.gufi_base.specs.Paths.{path_eq}
-use Rattle.gufi_base.specs.TraceRows.{row_line}
 use Rattle.gufi_base.specs.Basics.{result_map_err, ascends}
 use Rattle.gufi_base.proofs.Permutations.{IsPermutation-flat_map}
 use Rattle.gufi_access.specs.declared.class.Principal.{Principal}
@@ -31,32 +29,12 @@ use Rattle.gufi_trace.specs.TraceWriting.{trace_text}
 use Rattle.gufi_trace.proofs.RowsBack.{texts_of, taken, lines_back, rows-taken, tree_placed}
 use Rattle.gufi_trace.proofs.TraceBack.{root_back, text_lines_back}
 use Rattle.gufi_trace.proofs.TreeBack.{All_weaken}
-use Rattle.gufi_gen.specs.Generated.{directory_path, made_directory, made_stanza, made_root, gen_text}
-use Rattle.gufi_gen.specs.MadeTree.{made_file, made_dir, made_dirs, made_tree}
+use Rattle.gufi_gen.specs.Generated.{directory_path, made_file, made_dir, made_dirs, made_root, gen_text}
+use Rattle.gufi_gen.specs.MadeTree.{made_tree}
 use Rattle.gufi_gen.specs.Laws.{GeneratedTracesAreRead, GeneratedRootsAreListed}
 use Rattle.gufi_gen.proofs.MadeNames.{same_directory}
 use Rattle.gufi_gen.proofs.MadeRows.{rows_writable}
 use Rattle.gufi_gen.proofs.MadeTrees.{dirs_kinded, tree_moved, numbered, made_shape}
-
--- ---- the text is that of the directories' rows
-
-map-map : {X Y Z : Type 0} (f : X → Y) (g : Y → Z) (xs : List X) → map g (map f xs) ≡ map (λ x. g (f x)) xs
-map-map f g [] = refl
-map-map {X} {Y} {Z} f g (x ∷ xs) = ap (λ (ys : List Z). g (f x) ∷ ys) (map-map f g xs)
-
-flat_map-agree : {X Y : Type 0} (f g : X → List Y) → ((x : X) → f x ≡ g x) → (xs : List X) → flat_map f xs ≡ flat_map g xs
-flat_map-agree f g h [] = refl
-flat_map-agree {X} {Y} f g h (x ∷ xs) = ap (λ (ys : List Y). ys ++ flat_map f xs) (h x) ∙ ap (λ (ys : List Y). g x ++ ys) (flat_map-agree f g h xs)
-
-stanza_rows : (i : ℕ) → own_rows (made_dir i) ≡ made_stanza i
-stanza_rows i = ap (λ (rows : List Row). made_directory i ∷ rows) (map-map (made_file i) (entry_row (directory_path i)) (range_with_len 0 (i % 5)))
-
-made_text : (n delim : ℕ) → gen_text n delim ≡ trace_text (made_dirs n) made_root delim
-unfolding gen_text
-made_text n delim =
-    flat_map-agree (λ i. flat_map (row_line delim made_root) (made_stanza i)) (λ i. flat_map (row_line delim made_root) (own_rows (made_dir i)))
-    (λ i. ap (λ (rows : List Row). flat_map (row_line delim made_root) rows) (sym (stanza_rows i))) (range_with_len 0 n)
-    ∙ sym (flat_map-map (λ (d : Directory). flat_map (row_line delim made_root) (own_rows d)) made_dir (range_with_len 0 n))
 
 -- ---- how many there are
 
@@ -93,7 +71,7 @@ made_root_back (suc n) delim some few may =
     root_back made_root delim (dir_row (made_dir 0)) (map (entry_row []) (made_dir 0).entries ++ flat_map own_rows rest) may refl (rows_writable delim may (suc n) few).0
 
 pub generated_read : GeneratedTracesAreRead
-unfolding trace_means
+unfolding trace_means gen_text
 generated_read n delim some few may =
     let rows = flat_map own_rows (made_dirs n) in
     let h = rows_writable delim may n few in
@@ -103,8 +81,7 @@ generated_read n delim some few may =
     let placed = tree_placed (made_dirs n) [] (dirs_kinded n) (omega arith) (omega arith) in
     let lines = reverse (taken [] rows) in
     let read = text_lines_back (made_dirs n) made_root delim lines may h (made_root_back n delim some few may) (lines_back made_root delim may rows [] h placed) in
-    let whole : trace_lines delim (gen_text n delim) ≡ Ok lines = ap (trace_lines delim) (made_text n delim) ∙ read in
-    rw whole (ap (result_map_err of_tree) (made_lines n some few lines (rows-taken rows [])))
+    rw read (ap (result_map_err of_tree) (made_lines n some few lines (rows-taken rows [])))
 
 -- ---- the root
 

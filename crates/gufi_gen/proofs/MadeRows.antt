@@ -19,8 +19,7 @@ use Rattle.gufi_trace.specs.TraceWriting.{holds_byte}
 use Rattle.gufi_trace.proofs.FieldsBack.{is_plain, plain_field}
 use Rattle.gufi_trace.proofs.LinesBack.{IsWritable}
 use Rattle.gufi_trace.proofs.MetaRead.{fits_below}
-use Rattle.gufi_gen.specs.Generated.{directory_path, directory_mode, made_meta, made_root}
-use Rattle.gufi_gen.specs.MadeTree.{made_file, made_dir, made_dirs}
+use Rattle.gufi_gen.specs.Generated.{directory_path, directory_mode, made_meta, made_file, made_dir, made_dirs, made_root}
 use Rattle.gufi_gen.proofs.MadeNames.{is_made_name, entry_name, directory_named, path_depth, not_too_long}
 use Rattle.gufi_gen.proofs.MadeTrees.{range_found}
 

@@ -21,8 +21,8 @@ use Rattle.gufi_tree.proofs.Filters.{any-none}
 use Rattle.gufi_tree.proofs.Flat.{found-has_dir}
 use Rattle.gufi_tree.proofs.Placed.{list_all-from_Has}
 use Rattle.gufi_tree.proofs.RowHomes.{Has-IsPermutation}
-use Rattle.gufi_gen.specs.Generated.{directory_path}
-use Rattle.gufi_gen.specs.MadeTree.{made_file, made_dir, made_dirs, made_tree}
+use Rattle.gufi_gen.specs.Generated.{directory_path, made_file, made_dir, made_dirs}
+use Rattle.gufi_gen.specs.MadeTree.{made_tree}
 use Rattle.gufi_gen.proofs.MadeNames.{made_path, same_directory, not_an_entry}
 
 -- ---- what is made of numbers

@@ -1,12 +1,14 @@
 -- The generated trace of n directories.
 use Rattle.std.specs.Prelude.{ℕ, zero, suc, ◌+◌, ◌*◌, ◌/◌, ◌%◌, List, [], ◌∷◌, ◌++◌, map, slice_index, pos, ◌-ℤ◌, codes, decimal}
-use Rattle.std.specs.List.{flat_map, range_with_len}
+use Rattle.std.specs.List.{range_with_len}
 use Rattle.gufi_base.specs.declared.record.Kind.{Kind}
 use Rattle.gufi_base.specs.declared.record.Kind.TheVariants.{Dir, File}
 use Rattle.gufi_base.specs.declared.record.Meta.{Meta}
-use Rattle.gufi_base.specs.declared.record.Row.{Row}
+use Rattle.gufi_base.specs.declared.record.Rec.{Rec}
 use Rattle.gufi_base.specs.Paths.{Components}
-use Rattle.gufi_base.specs.TraceRows.{row_line}
+use Rattle.gufi_tree.specs.declared.tree.Entry.{Entry}
+use Rattle.gufi_tree.specs.Tree.{Directory}
+use Rattle.gufi_trace.specs.TraceWriting.{trace_text}
 
 -- `d` and the number, below the parent (i - 1) / 8; the fuel is at least the number
 abbrev pub path_within : ℕ → ℕ → Components
@@ -43,20 +45,24 @@ directory_meta i = made_meta Dir i (i + 1) (directory_mode i) 4096
 abbrev pub entry_meta : ℕ → ℕ → Meta
 entry_meta i j = made_meta File i (1000000 + 5 * i + j) 420 ((37 * i + 1001 * j) % 5000)
 
-abbrev pub made_directory : ℕ → Row
-made_directory i = record { path = directory_path i; rec = record { meta = directory_meta i; link = [] } }
+abbrev pub linkless : Meta → Rec
+linkless meta = record { meta = meta; link = [] }
 
-abbrev pub made_entry : ℕ → ℕ → Row
-made_entry i j = record { path = directory_path i ++ (102 ∷ decimal j) ∷ []; rec = record { meta = entry_meta i j; link = [] } }
+abbrev pub made_file : ℕ → ℕ → Entry
+made_file i j = record { name = 102 ∷ decimal j; rec = linkless (entry_meta i j) }
 
--- a directory and its i mod 5 entries
-abbrev pub made_stanza : ℕ → List Row
-made_stanza i = made_directory i ∷ map (made_entry i) (range_with_len 0 (i % 5))
+-- directory i with its i mod 5 entries
+abbrev pub made_dir : ℕ → Directory
+made_dir i = record { path = directory_path i; rec = linkless (directory_meta i); entries = map (made_file i) (range_with_len 0 (i % 5)) }
+
+-- n directories, in the order of their numbers
+abbrev pub made_dirs : ℕ → List Directory
+made_dirs n = map made_dir (range_with_len 0 n)
 
 -- the components of the root's path, `/g`
 abbrev pub made_root : Components
 made_root = codes "g" ∷ []
 
--- n stanzas, in the order of their numbers
+-- a stanza for each of n directories
 unfoldable pub gen_text : ℕ → ℕ → List ℕ
-gen_text n delim = flat_map (λ i. flat_map (row_line delim made_root) (made_stanza i)) (range_with_len 0 n)
+gen_text n delim = trace_text (made_dirs n) made_root delim
