@@ -1,6 +1,6 @@
 //! How the words of an expression are read.
-ghost use Rattle.std.specs.Prelude.{◌≡◌, ◌+◌};
-ghost use Rattle.gufi_base.specs.Basics.{GivesUnless, capped_number};
+ghost use Rattle.std.specs.Prelude.{◌≡◌};
+ghost use Rattle.gufi_base.specs.Basics.{GivesUnless};
 ghost use Rattle.gufi_find.specs.Reading.{read_find, first_state};
 ghost use Rattle.gufi_find.specs.WordFaults.{fault_of};
 ghost use Rattle.gufi_find.specs.States.{state_kept};
@@ -9,20 +9,10 @@ use crate::expression::FindExpr;
 use crate::fault::{FindError, WordFault};
 use crate::place::Place;
 use crate::state::State;
-use gufi_base::Bytes;
+use gufi_base::{Bytes, number_at};
 use gufi_formula::OpenLevels;
 use gufi_users::Users;
 use std::alloc::Global;
-
-/// The number of the word at a place, counted from 1, as far as it can be named.
-fn number_at(place: usize) -> u32
-    ensures { result ≡ capped_number (place + 1) }
-{
-    match u32::try_from(place) {
-        Ok(place) => place.saturating_add(1),
-        Err(_) => u32::MAX,
-    }
-}
 
 /// The fault of the word at a place.
 fn fault_at(place: usize, fault: WordFault) -> FindError

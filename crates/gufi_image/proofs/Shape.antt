@@ -16,7 +16,7 @@ use Rattle.gufi_base.specs.Paths.{Components, path_cmp, path_eq, parent_path, ba
 use Rattle.gufi_tree.specs.declared.tree.Entry.{Entry}
 use Rattle.gufi_tree.specs.Tree.{Directory, dir_cmp, entry_cmp, entry_count, entry_row, own_rows, has_dir, has_entry_named, is_at, is_kinded, HasTreeShape}
 use Rattle.gufi_tree.proofs.Built.{path_cmp-total, dir_cmp-total, path_eq-Decides, parent_path-child, base_name-child}
-use Rattle.gufi_image.specs.Placed.{IsPlaced, IsNext, IsFront, AreDirectories, IsWhole}
+use Rattle.gufi_image.specs.Placed.{IsPlaced, IsNext, IsFront, AreDirectories, IsWholeTree}
 use Rattle.gufi_image.proofs.Searches.{in_order, false_from}
 use Rattle.gufi_image.proofs.Fronts.{push_up, all_push, all_weaken, any_there, path_more, has_more, has_neither, not_true, one_path}
 
@@ -145,7 +145,7 @@ rows_count [] = refl
 rows_count (d ∷ ds) =
     omega (arith, rows_count ds, length-append (own_rows d) (flat_map own_rows ds), length-map d.entries (entry_row d.path), sum_by-cons (λ (x : Directory). length x.entries) d ds)
 
-pub whole_from : (number total : ℕ) (dirs : List Directory) → AreDirectories number total dirs → 0 < number → number ≤ 262144 → total ≤ 1048576 → IsWhole dirs
+pub whole_from : (number total : ℕ) (dirs : List Directory) → AreDirectories number total dirs → 0 < number → number ≤ 262144 → total ≤ 1048576 → IsWholeTree dirs
 whole_from number total dirs h some few entries = record {
   shape = shape_from dirs h.front (omega (arith, h.count, some));
   dirs_fit = omega (arith, h.count, few);

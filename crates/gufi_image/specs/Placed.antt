@@ -70,7 +70,7 @@ pub record AreDirectories (number total : ℕ) (dirs : List Directory) : Type 0 
   pub few : entry_count dirs ≤ total
 
 -- directories that are a whole tree, with fewer rows than a tree may have
-pub record IsWhole (dirs : List Directory) : Type 0 where
+pub record IsWholeTree (dirs : List Directory) : Type 0 where
   pub shape : HasTreeShape dirs
   pub dirs_fit : length dirs < 2 ^ 32
   pub rows_fit : length (flat_map own_rows dirs) < 2 ^ 32

@@ -5,15 +5,7 @@ ghost use Rattle.gufi_base.specs.Names.{is_name};
 ghost use Rattle.gufi_image.specs.Bytes.{u8_bytes, u16_bytes, u32_bytes, u64_bytes, owner_image, size_image, times_image, record_image, name_image};
 
 use byteorder::{ByteOrder, LittleEndian};
-use gufi_base::{Memory, Meta, RecRef};
-
-#[inline]
-pub(crate) fn put(out: &mut Vec<u8>, bytes: &[u8]) -> Result<(), Memory>
-    ensures { OnOk result (out.new.items ≡ out.old.items ++ bytes.now) }
-{
-    out.extend_from_slice(bytes)?;
-    Ok(())
-}
+use gufi_base::{Memory, Meta, RecRef, put};
 
 #[inline]
 pub(crate) fn put_u8(out: &mut Vec<u8>, number: u8) -> Result<(), Memory>

@@ -11,7 +11,7 @@ ghost use Rattle.gufi_roll.specs.CanRoll.{roll_flags};
 ghost use Rattle.gufi_image.specs.Bytes.{magic};
 ghost use Rattle.gufi_image.specs.Fields.{Gives};
 ghost use Rattle.gufi_image.specs.Reading.{version_at, counts_at, head_at, all_at, snapshot_at, image_means, differs, wrong_flag};
-ghost use Rattle.gufi_image.specs.Placed.{IsWhole};
+ghost use Rattle.gufi_image.specs.Placed.{IsWholeTree};
 ghost use Rattle.gufi_image.specs.Parts.{counts, flags_of};
 
 use crate::directory::{Directories, Flag, directories_at};
@@ -104,7 +104,7 @@ fn head_at(bytes: &[u8]) -> Result<(Head, &[u8]), Refused>
 #[tactic(auto, unfolding(crate::specs::Reading::all_at))]
 fn all_at(alloc: Global, bytes: &[u8]) -> Result<Parts, Refused>
     ensures gives { Gives flags_of result (all_at bytes.now) }
-    ensures whole { IfOk result (λ parts. IsWhole parts.directories.stored) }
+    ensures whole { IfOk result (λ parts. IsWholeTree parts.directories.stored) }
     ensures parents { IfOk result (λ parts. HasParents parts.directories.stored parts.directories.parents.items) }
 {
     let (head, rest) = head_at(bytes)?;

@@ -7,8 +7,8 @@ ghost use Rattle.gufi_tree.specs.Places.{path_at};
 ghost use Rattle.gufi_image.specs.Bytes.{name_image};
 ghost use Rattle.gufi_image.specs.Image.{entry_image, entries_image, parent_number, flag_byte, parts_image, directories_image, head_image, image_text};
 
-use crate::put::{put, put_count, put_name, put_record, put_u8, put_u16, put_u32, put_u64};
-use gufi_base::{Memory, PathRef, RecRef};
+use crate::put::{put_count, put_name, put_record, put_u8, put_u16, put_u32, put_u64};
+use gufi_base::{Memory, PathRef, RecRef, put};
 use gufi_snap::Snapshot;
 use gufi_tree::{DirId, EntriesRef, EntryRef, Tree};
 use std::alloc::Global;

@@ -45,7 +45,7 @@ pub trait Command<T: Drop>: Sync {
 
 /// What an ask wants of a published item. The reply from an item is made by a call beside it, which may start threads of its
 /// own, as a method of a trait may not.
-pub trait Question<T: Drop>: Sync {
+pub trait Wanted<T: Drop>: Sync {
     /// The reply to the ask of a number at the number of a publication, which is none at 0.
     ghost reply: { Self → ℕ → ℕ → Option T → List ℕ };
 

@@ -4,7 +4,7 @@ ghost use Rattle.gufi_phases.specs.Phases.{asks_in};
 ghost use Rattle.gufi_phases.specs.Lanes.{IsPlace, IsRow, IsServed, RepliesAt};
 ghost use Rattle.gufi_phases.specs.Replies.{RepliesBy};
 
-use crate::act::{Act, Question};
+use crate::act::{Act, Wanted};
 use crate::answer::{Answer, Served};
 use gufi_base::Memory;
 use gufi_hub::{Meaning, Visitor};
@@ -15,7 +15,7 @@ use std::alloc::Global;
 fn answer_ask<
     T: Drop,
     M: Meaning<T>,
-    Q: Question<T>,
+    Q: Wanted<T>,
     A: Fn(&Q, u32, u64, &T) -> Result<Vec<u8>, Memory>,
     G: Gate,
 >(
@@ -49,7 +49,7 @@ fn serve_act<
     T: Drop,
     M: Meaning<T>,
     C: Drop,
-    Q: Question<T> + Drop,
+    Q: Wanted<T> + Drop,
     A: Fn(&Q, u32, u64, &T) -> Result<Vec<u8>, Memory>,
     G: Gate,
 >(
@@ -89,7 +89,7 @@ fn serve_lane<
     T: Drop,
     M: Meaning<T>,
     C: Drop,
-    Q: Question<T> + Drop,
+    Q: Wanted<T> + Drop,
     A: Fn(&Q, u32, u64, &T) -> Result<Vec<u8>, Memory>,
     G: Gate,
 >(
@@ -121,7 +121,7 @@ pub(crate) fn serve<
     T: Drop,
     M: Meaning<T>,
     C: Drop,
-    Q: Question<T> + Drop,
+    Q: Wanted<T> + Drop,
     A: Fn(&Q, u32, u64, &T) -> Result<Vec<u8>, Memory>,
     G: Gate,
 >(

@@ -17,7 +17,7 @@ mod replies;
 mod session;
 mod visitors;
 
-pub use act::{Act, Command, Made, Question};
+pub use act::{Act, Command, Made, Wanted};
 pub use load::{Load, LoadFault, Stop};
 pub use phase::{Phase, run_phase};
 pub use session::{End, Ended, run_session};

@@ -6,7 +6,7 @@ ghost use Rattle.gufi_phases.specs.Phases.{EachMeans, NumbersFit, acts_text, com
 ghost use Rattle.gufi_phases.specs.Lanes.{HasMeant, IsServed};
 ghost use Rattle.gufi_phases.specs.Replies.{RepliesBy};
 
-use crate::act::{Act, Command, Question};
+use crate::act::{Act, Command, Wanted};
 use crate::answer::Served;
 use crate::lane::serve;
 use crate::publish::{Done, publish_all};
@@ -45,7 +45,7 @@ fn serve_all<
     T: Send + Sync + Drop,
     M: Meaning<T> + Sync,
     C: Sync + Drop,
-    Q: Question<T> + Drop,
+    Q: Wanted<T> + Drop,
     A: Fn(&Q, u32, u64, &T) -> Result<Vec<u8>, Memory> + Sync,
     G: Gate + Sync,
     R: Threads + Sync,
@@ -82,7 +82,7 @@ fn serve_all<
 }
 
 /// What all visitors' lanes answered, where each had memory.
-fn all_served<T: Drop, M: Meaning<T>, C: Drop, Q: Question<T> + Drop>(
+fn all_served<T: Drop, M: Meaning<T>, C: Drop, Q: Wanted<T> + Drop>(
     alloc: Global,
     all: Vec<Result<Served, Memory>>,
 ) -> Result<Vec<Served>, Memory>
@@ -98,7 +98,7 @@ fn all_served<T: Drop, M: Meaning<T>, C: Drop, Q: Question<T> + Drop>(
 }
 
 /// What is written after the joins, where no visitor saw more than the publisher's number.
-fn finish<T: Drop, M: Meaning<T>, C: Drop, Q: Question<T> + Drop>(
+fn finish<T: Drop, M: Meaning<T>, C: Drop, Q: Wanted<T> + Drop>(
     alloc: Global,
     acts: &[Act<C, Q>],
     number: u64,
@@ -127,7 +127,7 @@ fn side_by_side<
     T: Send + Sync + Drop,
     M: Meaning<T> + Sync,
     C: Command<T> + Drop,
-    Q: Question<T> + Drop,
+    Q: Wanted<T> + Drop,
     A: Fn(&Q, u32, u64, &T) -> Result<Vec<u8>, Memory> + Sync,
     G: Gate + Sync,
     R: Threads + Wait + Sync,
@@ -187,7 +187,7 @@ pub fn run_phase<
     T: Send + Sync + Drop,
     M: Meaning<T> + Sync,
     C: Command<T> + Drop,
-    Q: Question<T> + Drop,
+    Q: Wanted<T> + Drop,
     A: Fn(&Q, u32, u64, &T) -> Result<Vec<u8>, Memory> + Sync,
     G: Gate + Sync,
     R: Threads + Wait + Sync,

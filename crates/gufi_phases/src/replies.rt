@@ -2,7 +2,7 @@
 ghost use Rattle.std.specs.Prelude.{◌≡◌, ℕ, ◌<◌, List, [], ◌++◌, map, length, All, Some, None, IfOk, OnOk, IfSome, OnSome, slice_index_or};
 ghost use Rattle.gufi_phases.specs.Lanes.{IsInterleaved, IsInterleavedAct, IsRowWithin, IsServed, row_of};
 
-use crate::act::{Act, Question};
+use crate::act::{Act, Wanted};
 use crate::answer::{Answer, Served};
 use gufi_base::Memory;
 use gufi_hub::Meaning;
@@ -20,7 +20,7 @@ fn row_in(served: &Served, at: usize) -> Option<&[Option<Answer>]>
 }
 
 /// Each visitor's first row, where it saw no more than `number`.
-fn own_rows<'a, T: Drop, M: Meaning<T>, C: Drop, Q: Question<T> + Drop>(
+fn own_rows<'a, T: Drop, M: Meaning<T>, C: Drop, Q: Wanted<T> + Drop>(
     alloc: Global,
     served: &'a [Served],
     number: u64,
@@ -42,7 +42,7 @@ fn own_rows<'a, T: Drop, M: Meaning<T>, C: Drop, Q: Question<T> + Drop>(
 }
 
 /// The rows, and behind them those past the first of one visitor.
-fn with_further<'a, T: Drop, M: Meaning<T>, C: Drop, Q: Question<T> + Drop>(
+fn with_further<'a, T: Drop, M: Meaning<T>, C: Drop, Q: Wanted<T> + Drop>(
     rows: Vec<&'a [Option<Answer>]>,
     first: &'a Served,
     number: u64,
@@ -65,7 +65,7 @@ fn with_further<'a, T: Drop, M: Meaning<T>, C: Drop, Q: Question<T> + Drop>(
 }
 
 /// The row of each lane, where no visitor saw more than `number`. Lanes past the visitors have theirs behind the first one's own.
-pub(crate) fn rows_within<'a, T: Drop, M: Meaning<T>, C: Drop, Q: Question<T> + Drop>(
+pub(crate) fn rows_within<'a, T: Drop, M: Meaning<T>, C: Drop, Q: Wanted<T> + Drop>(
     alloc: Global,
     served: &'a [Served],
     number: u64,

@@ -1,6 +1,7 @@
 ghost use Rattle.gufi_base.specs.Rows.{StandsForSome};
 
-use gufi_base::{Bytes, Kind, Meta, Pred, RowRef, Tester};
+use crate::asking::{asked, opened};
+use gufi_base::{Bytes, Kind, Meta, RowRef};
 use gufi_find::{FindError, FindExpr, FindKind, read_find};
 use gufi_users::{Users, read_group, read_passwd};
 use std::alloc::{AllocError, Global};
@@ -153,11 +154,7 @@ fn the_first_faulty_word_is_named(rt: HostRuntime) -> Result<(), Fail> {
 fn at_most_64_constructs_are_open(rt: HostRuntime) -> Result<(), Fail> {
     let alloc = rt.alloc();
     let users = users(alloc)?;
-    let mut words = Vec::new(alloc);
-    for _ in 0..32 {
-        words.push(Bytes::from_slice(alloc, b"!")?)?;
-        words.push(Bytes::from_slice(alloc, b"(")?)?;
-    }
+    let mut words = words_of(alloc, &opened(alloc, "", "! ( ")?)?;
     let open = read_find(alloc, words.as_slice(), &users, None).err();
     assert_eq!(rt;
         open,
@@ -180,17 +177,10 @@ fn at_most_64_constructs_are_open(rt: HostRuntime) -> Result<(), Fail> {
     Ok(())
 }
 
-fn asked<P: Pred + Sync>(alloc: Global, question: &P, row: RowRef<'_>) -> Result<bool, Fail>
-    requires { StandsForSome row }
-{
-    let mut tester = question.tester(alloc)?;
-    Ok(tester.test(alloc, row, 1)?)
-}
-
 #[test]
 fn an_expression_is_a_question(rt: HostRuntime) -> Result<(), Fail> {
     let expression = expression(rt.alloc(), "-size 0")?;
     let meta = meta(0);
-    assert!(rt; asked(rt.alloc(), &expression.question(), run_file(&meta))?);
+    assert!(rt; asked(rt.alloc(), &expression.question(), run_file(&meta), 1)?);
     Ok(())
 }

@@ -1,6 +1,7 @@
 ghost use Rattle.gufi_base.specs.Rows.{StandsForSome};
 
-use gufi_base::{Bytes, Kind, Meta, Path, Pred, Rec, Row, RowRef, Tester};
+use crate::asking::{asked, opened};
+use gufi_base::{Bytes, Kind, Meta, Path, Rec, Row, RowRef};
 use gufi_select::{Select, SelectError, SelectKind, read_select, select_text};
 use std::alloc::Global;
 use std::test::Fail;
@@ -39,18 +40,6 @@ fn rows(alloc: Global) -> Result<Vec<Row>, Fail> {
     rows.push(row(alloc, b"/c", Kind::Dir, 4096, b"")?)?;
     rows.push(row(alloc, b"/c/x", Kind::File, 7, b"")?)?;
     Ok(rows)
-}
-
-fn asked<P: Pred + Sync>(
-    alloc: Global,
-    question: &P,
-    row: RowRef<'_>,
-    depth: u32,
-) -> Result<bool, Fail>
-    requires { StandsForSome row }
-{
-    let mut tester = question.tester(alloc)?;
-    Ok(tester.test(alloc, row, depth)?)
 }
 
 fn parts_of<'a>(path: &'a Path, rec: &'a Rec) -> RowRef<'a>
@@ -235,18 +224,15 @@ fn the_least_faulty_offset_is_named(rt: HostRuntime) -> Result<(), Fail> {
 #[test]
 fn at_most_64_constructs_are_open(rt: HostRuntime) -> Result<(), Fail> {
     let alloc = rt.alloc();
-    let mut text = Vec::from_slice(alloc, b"SELECT * FROM rows WHERE ")?;
-    for _ in 0..32 {
-        text.extend_from_slice(b"NOT(")?;
-    }
-    let open = read_select(alloc, text.as_slice()).err();
+    let mut text = opened(alloc, "SELECT * FROM rows WHERE ", "NOT(")?;
+    let open = read_select(alloc, text.as_bytes()).err();
     let ended = SelectError::Fault {
         at: 153,
         kind: SelectKind::Unexpected,
     };
     assert_eq!(rt; open, Some(ended));
-    text.extend_from_slice(b"(")?;
-    let deep = read_select(alloc, text.as_slice()).err();
+    text.push_str("(")?;
+    let deep = read_select(alloc, text.as_bytes()).err();
     let one_more = SelectError::Fault {
         at: 153,
         kind: SelectKind::TooDeep,

@@ -1,20 +1,13 @@
 //! What is printed of the rows that a SELECT chooses.
-ghost use Rattle.std.specs.Prelude.{◌≡◌, ◌∷◌, ◌++◌, ◌-◌, [], length, MatchOption, IfOk, OnOk};
+ghost use Rattle.std.specs.Prelude.{◌≡◌, ◌++◌, ◌-◌, length, IfOk, OnOk};
 ghost use Rattle.std.specs.List.{flat_map};
 ghost use Rattle.gufi_select.specs.Columns.{projected, select_lines};
 ghost use Rattle.gufi_select.specs.Lines.{column_text, tabbed_text, columns_text};
 
 use crate::column::Column;
 use crate::select::Select;
-use gufi_base::{Memory, Path, Row, put_i64, put_u64};
+use gufi_base::{Memory, Path, Row, put, put_i64, put_u64, split_first};
 use std::alloc::Global;
-
-fn put_bytes(out: &mut Vec<u8>, bytes: &[u8]) -> Result<(), Memory>
-    ensures { OnOk result (out.new.items ≡ out.old.items ++ bytes.now) }
-{
-    out.extend_from_slice(bytes)?;
-    Ok(())
-}
 
 /// The value of a column. Numbers are decimal.
 fn put_value(out: &mut Vec<u8>, column: Column, row: &Row, depth: u64) -> Result<(), Memory>
@@ -22,9 +15,9 @@ fn put_value(out: &mut Vec<u8>, column: Column, row: &Row, depth: u64) -> Result
 {
     let meta = &row.rec.meta;
     match column {
-        Column::Path => put_bytes(out, row.path.printed()),
-        Column::Name => put_bytes(out, row.path.base_name()),
-        Column::Kind => put_bytes(out, &[meta.kind.letter()]),
+        Column::Path => put(out, row.path.printed()),
+        Column::Name => put(out, row.path.base_name()),
+        Column::Kind => put(out, &[meta.kind.letter()]),
         Column::Inode => put_u64(out, meta.inode),
         Column::Mode => put_u64(out, u64::from(meta.mode)),
         Column::Nlink => put_u64(out, meta.nlink),
@@ -36,7 +29,7 @@ fn put_value(out: &mut Vec<u8>, column: Column, row: &Row, depth: u64) -> Result
         Column::Atime => put_i64(out, meta.atime),
         Column::Mtime => put_i64(out, meta.mtime),
         Column::Ctime => put_i64(out, meta.ctime),
-        Column::Linkname => put_bytes(out, row.rec.link.as_slice()),
+        Column::Linkname => put(out, row.rec.link.as_slice()),
         Column::Level => put_u64(out, depth),
     }
 }
@@ -44,7 +37,7 @@ fn put_value(out: &mut Vec<u8>, column: Column, row: &Row, depth: u64) -> Result
 fn put_tabbed(out: &mut Vec<u8>, column: Column, row: &Row, depth: u64) -> Result<(), Memory>
     ensures { OnOk result (out.new.items ≡ out.old.items ++ tabbed_text row.now depth column) }
 {
-    put_bytes(out, b"\t")?;
+    put(out, b"\t")?;
     put_value(out, column, row, depth)
 }
 
@@ -58,18 +51,6 @@ fn put_others(out: &mut Vec<u8>, columns: &[Column], row: &Row, depth: u64) -> R
     Ok(())
 }
 
-/// The first column, and the others.
-fn split_first(columns: &[Column]) -> Option<(Column, &[Column])>
-    ensures { MatchOption result
-        (columns.now ≡ [])
-        (λ cut. columns.now ≡ cut.0 ∷ cut.1.now) }
-{
-    match columns {
-        [first, others @ ..] => Some((*first, others)),
-        [] => None,
-    }
-}
-
 /// Columns with a tab between two.
 fn put_columns(out: &mut Vec<u8>, columns: &[Column], row: &Row, depth: u64) -> Result<(), Memory>
     ensures { OnOk result (out.new.items ≡ out.old.items ++ columns_text row.now depth columns.now) }
@@ -77,7 +58,7 @@ fn put_columns(out: &mut Vec<u8>, columns: &[Column], row: &Row, depth: u64) -> 
     let Some((first, others)) = split_first(columns) else {
         return Ok(());
     };
-    put_value(out, first, row, depth)?;
+    put_value(out, *first, row, depth)?;
     put_others(out, others, row, depth)?;
     Ok(())
 }
@@ -86,7 +67,7 @@ fn put_line(out: &mut Vec<u8>, select: &Select, row: &Row, depth: u64) -> Result
     ensures { OnOk result (out.new.items ≡ out.old.items ++ projected select.now row.now depth) }
 {
     put_columns(out, select.columns.as_slice(), row, depth)?;
-    put_bytes(out, b"\n")
+    put(out, b"\n")
 }
 
 /// The line of a row at its depth below a start of so many components.

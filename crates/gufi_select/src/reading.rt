@@ -1,6 +1,6 @@
 //! How the text of a SELECT is read.
-ghost use Rattle.std.specs.Prelude.{◌≡◌, ◌∷◌, [], drop, MatchOption};
-ghost use Rattle.gufi_base.specs.Basics.{GivesUnless, capped_number};
+ghost use Rattle.std.specs.Prelude.{◌≡◌};
+ghost use Rattle.gufi_base.specs.Basics.{GivesUnless};
 ghost use Rattle.gufi_select.specs.Reading.{read_token, read_placed, read_state, check_regexp, finished, wrong_negative, read_select};
 ghost use Rattle.gufi_select.specs.States.{state_kept};
 ghost use Rattle.gufi_select.specs.TokenFaults.{Gives, Tells, fault_of};
@@ -12,17 +12,8 @@ use crate::regexp::Regexp;
 use crate::select::Select;
 use crate::state::{Sought, State};
 use crate::token::{Token, front_token, is_blank};
+use gufi_base::{behind, capped_u32, split_first};
 use std::alloc::Global;
-
-/// An offset, as far as it can be named.
-fn named_offset(offset: usize) -> u32
-    ensures { result ≡ capped_number offset }
-{
-    match u32::try_from(offset) {
-        Ok(offset) => offset,
-        Err(_) => u32::MAX,
-    }
-}
 
 /// The fault of the token at an offset.
 fn fault_at(offset: usize, fault: TokenFault) -> SelectError
@@ -30,7 +21,7 @@ fn fault_at(offset: usize, fault: TokenFault) -> SelectError
 {
     match fault {
         TokenFault::Kind(kind) => SelectError::Fault {
-            at: named_offset(offset),
+            at: capped_u32(offset),
             kind,
         },
         TokenFault::Memory => SelectError::Memory,
@@ -120,28 +111,6 @@ fn built(alloc: Global, sought: Option<Sought>) -> Result<Option<Regexp>, Select
     }
 }
 
-/// The bytes behind so many.
-fn behind(bytes: &[u8], count: usize) -> &[u8]
-    ensures { result.now ≡ drop count bytes.now }
-{
-    if count > bytes.len() {
-        return &[];
-    }
-    &bytes[count..]
-}
-
-/// The first byte, and the others.
-fn split_first(bytes: &[u8]) -> Option<(u8, &[u8])>
-    ensures { MatchOption result
-        (bytes.now ≡ [])
-        (λ cut. bytes.now ≡ cut.0 ∷ cut.1.now) }
-{
-    match bytes {
-        [first, others @ ..] => Some((*first, others)),
-        [] => None,
-    }
-}
-
 /// What all tokens lead to.
 fn read_state(alloc: Global, text: &[u8]) -> Result<State, SelectError>
     ensures { Tells state_kept result (read_state text.now) }
@@ -149,11 +118,11 @@ fn read_state(alloc: Global, text: &[u8]) -> Result<State, SelectError>
     let mut state = State::new(alloc);
     let mut rest = text;
     'bytes: while let Some((first, others)) = split_first(rest) {
-        if is_blank(first) {
+        if is_blank(*first) {
             rest = others;
             continue 'bytes;
         }
-        let front = front_token(alloc, first, others, rest)?;
+        let front = front_token(alloc, *first, others, rest)?;
         let offset = text.len() - rest.len();
         state = match state.with_placed(alloc, offset, front.token) {
             Ok(next) => next,

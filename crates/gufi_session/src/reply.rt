@@ -14,7 +14,7 @@ use gufi_base::{Memory, Path, put_u64};
 use gufi_find::FindExpr;
 use gufi_io::Gate;
 use gufi_list::total_text;
-use gufi_phases::Question;
+use gufi_phases::Wanted;
 use gufi_plan::{Query, Search, SharedSearch};
 use gufi_select::{Select, select_text};
 use gufi_snap::Snapshot;
@@ -163,7 +163,7 @@ pub(crate) fn reply_from<R: Threads + Wait + Sync, G: Gate + Sync>(
     Ok(text)
 }
 
-impl Question<Snapshot> for Asking {
+impl Wanted<Snapshot> for Asking {
     ghost reply = { search_reply };
 
     fn reply_to_none(&self, alloc: Global, ask: u32) -> Result<Vec<u8>, Memory> {

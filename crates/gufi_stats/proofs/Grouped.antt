@@ -17,7 +17,7 @@ use Rattle.gufi_base.proofs.SortedOnce.{order_cases, ascends-tail, ascends-sort_
 use Rattle.gufi_sums.specs.declared.summary.Summary.{Summary}
 use Rattle.gufi_sums.specs.Total.{total, empty, add, rows_in, IsBounded}
 use Rattle.gufi_sums.specs.Laws.{total-add, total-counts}
-use Rattle.gufi_stats.specs.Groups.{group_sum, numbers, grouped, sum_in, group_lines}
+use Rattle.gufi_stats.specs.Grouped.{group_sum, numbers, grouped, sum_in, group_lines}
 use Rattle.gufi_stats.specs.Reports.{group_line, by_key}
 use Rattle.gufi_stats.proofs.Numbers.{nat_cmp-eqb, eqb-sym, Once-distinct, sorted-behind, any-sorted, AreAbove, above-apart, without-above, insert-below, rest-above, above-both}
 

@@ -1,3 +1,3 @@
 pub mod Numbers
-pub mod Groups
+pub mod Grouped
 pub mod LeafLemmas

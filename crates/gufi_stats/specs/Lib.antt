@@ -1,3 +1,3 @@
 pub mod Reports
-pub mod Groups
+pub mod Grouped
 pub mod Leaves

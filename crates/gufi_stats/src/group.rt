@@ -4,7 +4,7 @@ ghost use Rattle.std.specs.Prelude.{◌≡◌, ◌+◌, ◌^◌, ◌<◌, ◌++�
 ghost use Rattle.std.specs.Ordering.{nat_cmp};
 ghost use Rattle.std.specs.BTreeMap.{insert_entry};
 ghost use Rattle.gufi_sums.specs.Total.{add, rows_in, IsBounded};
-ghost use Rattle.gufi_stats.specs.Groups.{number_of, sum_in, grouped, group_lines, sum_line};
+ghost use Rattle.gufi_stats.specs.Grouped.{number_of, sum_in, grouped, group_lines, sum_line};
 ghost use Rattle.gufi_stats.specs.Reports.{by_key};
 
 use gufi_base::{Memory, Meta, Row, put_u64};

@@ -4,7 +4,7 @@ ghost use Rattle.gufi_phases.specs.declared.act.Act.TheVariants.{Publish, Ask};
 
 use gufi_base::{Memory, Text};
 use gufi_io::{MemShelf, MemSink, NoGate, ReadError, Shelf, names_differ, read_all};
-use gufi_phases::{Act, Command, End, Ended, Load, LoadFault, Made, Question, Stop, run_session};
+use gufi_phases::{Act, Command, End, Ended, Load, LoadFault, Made, Wanted, Stop, run_session};
 use std::alloc::Global;
 use std::process::Abort;
 use std::sync::{Arc, Wait};
@@ -41,7 +41,7 @@ struct Which {
     mark: u8,
 }
 
-impl Question<u64> for Which {
+impl Wanted<u64> for Which {
     ghost reply = { λ q _ n _. q.mark ∷ n % 256 ∷ [] };
 
     fn reply_to_none(&self, alloc: Global, _ask: u32) -> Result<Vec<u8>, Memory> {

@@ -12,7 +12,8 @@ use crate::positional::{
     command_at, count_at, delimiter_at, file_at, gids_at, no_more, report_at, start_at, text_at,
     u32_at, words_from,
 };
-use crate::word::{WordError, number_at, refused_at};
+use crate::word::{WordError, refused_at};
+use gufi_base::number_at;
 use std::alloc::Global;
 
 /// INDEX USER START, from a place on.

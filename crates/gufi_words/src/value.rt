@@ -7,7 +7,7 @@ ghost use Rattle.gufi_base.specs.Delimiters.{is_letter_or_digit, is_delimiter};
 ghost use Rattle.gufi_words.specs.WordValues.{read_delimiter, read_workers, read_count, read_report, read_file, read_start, read_gids};
 
 use crate::command::ReportWord;
-use gufi_base::{Nums, Path, PathFault, Text, pieces_of, read_u32};
+use gufi_base::{Nums, Path, PathFault, Text, read_numbers, read_u32};
 use std::alloc::{AllocError, Global};
 
 /// The byte between the fields of a trace where the words name none.
@@ -96,21 +96,6 @@ pub(crate) fn read_start(alloc: Global, word: &str) -> Result<Option<Path>, Allo
     }
 }
 
-/// The numbers between commas.
-#[tactic(auto, using(crate::proofs::Numbers::reading_numbers))]
-fn read_numbers(alloc: Global, word: &str) -> Result<Option<Vec<u32>>, AllocError>
-    ensures { IfOk result (λ numbers. option_map (λ v. v.items) numbers ≡ all_numbers (split 44 word.now)) }
-{
-    let mut numbers = Vec::new(alloc);
-    for piece in pieces_of(word.as_bytes(), b",") {
-        match read_u32(piece) {
-            Some(number) => numbers.push(number)?,
-            None => return Ok(None),
-        }
-    }
-    Ok(Some(numbers))
-}
-
 /// The ids of groups: `-` for none, or numbers between single commas.
 pub(crate) fn read_gids(alloc: Global, word: &str) -> Result<Option<Nums>, AllocError>
     ensures { IfOk result (λ gids. gids ≡ read_gids word.now) }
@@ -118,7 +103,7 @@ pub(crate) fn read_gids(alloc: Global, word: &str) -> Result<Option<Nums>, Alloc
     if word == "-" {
         return Ok(Some(Nums::of(Vec::new(alloc))));
     }
-    match read_numbers(alloc, word)? {
+    match read_numbers(alloc, word.as_bytes())? {
         Some(numbers) => Ok(Some(Nums::of(numbers))),
         None => Ok(None),
     }

@@ -1,8 +1,9 @@
 //! Words that can't be taken.
 
 ghost use Rattle.std.specs.Prelude.{◌≡◌};
-ghost use Rattle.gufi_words.specs.WordNumbers.{number_at, refused_at};
+ghost use Rattle.gufi_words.specs.WordNumbers.{refused_at};
 
+use gufi_base::number_at;
 use std::alloc::AllocError;
 
 /// Why words are no command.
@@ -21,16 +22,6 @@ impl From<AllocError> for WordError {
 
     fn from(_: AllocError) -> WordError {
         WordError::Memory
-    }
-}
-
-/// The number of the word at a place, counted from 1, as far as it can be named.
-pub(crate) fn number_at(place: usize) -> u32
-    ensures { result ≡ number_at place }
-{
-    match u32::try_from(place) {
-        Ok(place) => place.saturating_add(1),
-        Err(_) => u32::MAX,
     }
 }
 

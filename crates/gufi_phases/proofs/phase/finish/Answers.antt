@@ -8,7 +8,7 @@ use Rattle.gufi_phases.proofs.phase.finish.Goals as goal
 
 pub returns-clause-numbers : goal.returns-clause-numbers
 returns-clause-numbers g c = λ i low up are.
-    let means = g.M.Meaning.means in let reply = g.Q.Question.reply in let acts = c.args.acts.now in
+    let means = g.M.Meaning.means in let reply = g.Q.Wanted.reply in let acts = c.args.acts.now in
     let P = IsRowWithin means reply i low c.args.number acts in
     let all = c.in_ok-rows.ensures i low acts (subst (All (IsServed means reply i low acts)) (sym c.deref.ensures.value) (c.in_ok-served.ensures i low acts are)) in
     let seen = subst (All (λ row. P row.now)) (sym c.deref-2.ensures.value) all in
@@ -18,7 +18,7 @@ returns-clause-numbers g c = λ i low up are.
 
 pub returns-clause-text : goal.returns-clause-text
 returns-clause-text g c = λ i low up are every has.
-    let means = g.M.Meaning.means in let reply = g.Q.Question.reply in let acts = c.args.acts.now in
+    let means = g.M.Meaning.means in let reply = g.Q.Wanted.reply in let acts = c.args.acts.now in
     let P = IsRowWithin means reply i low c.args.number acts in
     let all = c.in_ok-rows.ensures i low acts (subst (All (IsServed means reply i low acts)) (sym c.deref.ensures.value) (c.in_ok-served.ensures i low acts are)) in
     let seen = subst (All (λ row. P row.now)) (sym c.deref-2.ensures.value) all in

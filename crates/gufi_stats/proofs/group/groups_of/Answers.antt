@@ -2,8 +2,8 @@ use Rattle.std.proofs.Common.{◌≡◌, ℕ, ◌+◌, ◌∷◌, [], ◌++◌, 
 use Rattle.std.proofs.lemmas.List.{take_more, length-take}
 use Rattle.gufi_base.specs.declared.record.Row.{Row}
 use Rattle.gufi_sums.specs.Total.{IsBounded}
-use Rattle.gufi_stats.specs.Groups.{number_of, group_sum, grouped}
-use Rattle.gufi_stats.proofs.Groups.{grouped-none, bounded-none, sum-few, sum-there, row-counted, row-bounded}
+use Rattle.gufi_stats.specs.Grouped.{number_of, group_sum, grouped}
+use Rattle.gufi_stats.proofs.Grouped.{grouped-none, bounded-none, sum-few, sum-there, row-counted, row-bounded}
 use Rattle.gufi_stats.proofs.group.groups_of.Goals as goal
 
 pub loop-row-init : goal.loop-row-init

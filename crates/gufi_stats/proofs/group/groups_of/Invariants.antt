@@ -1,6 +1,6 @@
 use Rattle.std.proofs.Common.{◌≡◌, ℕ, take}
 use Rattle.gufi_sums.specs.Total.{IsBounded}
-use Rattle.gufi_stats.specs.Groups.{number_of, group_sum, grouped}
+use Rattle.gufi_stats.specs.Grouped.{number_of, group_sum, grouped}
 use Rattle.gufi_stats.proofs.group.groups_of.Given as goal
 
 abbrev pub invariant-loop-row : goal.invariant-loop-row

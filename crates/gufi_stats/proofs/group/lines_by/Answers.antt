@@ -1,7 +1,7 @@
 use Rattle.std.proofs.Common.{◌∙◌}
 use Rattle.std.proofs.lemmas.Result.{IfOk-weaker}
-use Rattle.gufi_stats.specs.Groups.{number_of}
-use Rattle.gufi_stats.proofs.Groups.{lines-grouped}
+use Rattle.gufi_stats.specs.Grouped.{number_of}
+use Rattle.gufi_stats.proofs.Grouped.{lines-grouped}
 use Rattle.gufi_stats.proofs.group.lines_by.Goals as goal
 
 pub returns : goal.returns

@@ -1,5 +1,5 @@
 use Rattle.std.proofs.Common.{◌≡◌, ◌++◌}
-use Rattle.gufi_stats.specs.Groups.{group_lines}
+use Rattle.gufi_stats.specs.Grouped.{group_lines}
 use Rattle.gufi_stats.proofs.group.lines_of.Given as goal
 
 abbrev pub invariant-loop-number : goal.invariant-loop-number
