@@ -1,7 +1,7 @@
 ghost use Rattle.gufi_base.specs.Rows.{StandsForSome};
 
 use crate::asking::{asked, opened};
-use gufi_base::{Bytes, Kind, Meta, Path, Rec, Row, RowRef};
+use gufi_base::{Bytes, Kind, Meta, Path, Pred, Rec, Row, RowRef, Tester};
 use gufi_select::{Select, SelectError, SelectKind, read_select, select_text};
 use std::alloc::Global;
 use std::test::Fail;
