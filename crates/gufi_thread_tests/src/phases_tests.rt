@@ -4,7 +4,7 @@ ghost use Rattle.gufi_phases.specs.declared.act.Act.TheVariants.{Publish, Ask};
 
 use gufi_base::{Memory, Text};
 use gufi_io::{MemShelf, MemSink, NoGate, ReadError, Shelf, names_differ, read_all};
-use gufi_phases::{Act, Command, End, Ended, Load, LoadFault, Made, Wanted, Stop, run_session};
+use gufi_phases::{Act, Command, End, Ended, Load, LoadFault, Made, Stop, Wanted, run_session};
 use std::alloc::Global;
 use std::process::Abort;
 use std::sync::{Arc, Wait};
