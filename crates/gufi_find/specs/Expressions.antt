@@ -1,9 +1,9 @@
 -- find expressions (XCU find) and their truth at a row.
-use Rattle.std.specs.Prelude.{ℕ, Bool, true, ◌&&◌, nat_le, Option, Some, None}
+use Rattle.std.specs.Prelude.{ℕ, Bool, true, false, ◌==◌, ◌&&◌, nat_le, Option, Some, None, is_none}
 use Rattle.gufi_base.specs.declared.record.Row.{Row}
-use Rattle.gufi_formula.specs.Formulas.{Formula, holds}
+use Rattle.gufi_formula.specs.Formulas.{Formula, holds, only_test}
 use Rattle.gufi_find.specs.declared.test.Test.{Test}
-use Rattle.gufi_find.specs.Tests.{test_holds}
+use Rattle.gufi_find.specs.Tests.{test_holds, is_always}
 
 -- an expression with the bounds of depth
 pub record Find : Type 0 where
@@ -18,3 +18,11 @@ is_at_most (Some most) depth = nat_le depth most
 -- the expression is true and the depth within its bounds
 abbrev pub find_holds : Find → Row → ℕ → Bool
 find_holds f row depth = holds (λ t. test_holds t row) f.expr && nat_le f.least_depth depth && is_at_most f.most_depth depth
+
+-- an expression of no words
+abbrev pub is_wordless : Option Test → Bool
+is_wordless None = false
+is_wordless (Some t) = is_always t
+
+abbrev pub has_no_words : Find → Bool
+has_no_words f = is_wordless (only_test f.expr) && (f.least_depth == 0 && is_none f.most_depth)

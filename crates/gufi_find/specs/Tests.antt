@@ -1,5 +1,5 @@
 -- The tests of an expression, and their truth.
-use Rattle.std.specs.Prelude.{ℕ, Bool, true, not, ◌==◌, List, ℤ, pos, ◌-ℤ◌, int_lt, int_div, bit_and}
+use Rattle.std.specs.Prelude.{ℕ, Bool, true, false, not, ◌==◌, List, ℤ, pos, ◌-ℤ◌, int_lt, int_div, bit_and}
 use Rattle.std.specs.List.{list_any}
 use Rattle.std.specs.Int.{div_ceil}
 use Rattle.std.specs.Ordering.{int_eq}
@@ -32,6 +32,11 @@ unit_bytes Gibibytes = 1073741824
 -- whole days before the moment, rounded toward zero
 abbrev pub days_since : ℤ → ℤ → ℤ
 days_since now time = int_div (now -ℤ time) (pos 86400)
+
+-- the test that stands for no words at all
+abbrev pub is_always : Test → Bool
+is_always tests.Always = true
+is_always _ = false
 
 -- the truth of a test, of a path's text, its base name and a record
 abbrev pub is_true : Test → List ℕ → List ℕ → Meta → Bool

@@ -1,8 +1,8 @@
 //! Expressions, and their truth at a row.
-ghost use Rattle.std.specs.Prelude.{◌≡◌, ◌&&◌, nat_le};
+ghost use Rattle.std.specs.Prelude.{◌≡◌, ◌&&◌, nat_le, true, IsTrue};
 ghost use Rattle.gufi_base.specs.declared.record.Row.{Row};
 ghost use Rattle.gufi_base.specs.Rows.{Stands, StandsForSome};
-ghost use Rattle.gufi_find.specs.Expressions.{find_holds, is_at_most};
+ghost use Rattle.gufi_find.specs.Expressions.{find_holds, has_no_words, is_at_most};
 
 use crate::test::Test;
 use gufi_base::{Memory, Pred, RowRef, Tester};
@@ -50,6 +50,18 @@ impl FindExpr {
                 Some(most) => depth <= most,
                 None => true,
             }
+    }
+
+    /// Whether it has no words and no bounds of depth: then it is true of every row.
+    #[tactic(auto, using(crate::proofs::RowLemmas::wordless_test, crate::proofs::RowLemmas::wordless_none, crate::proofs::RowLemmas::every_row))]
+    pub fn has_no_words(&self) -> bool
+        ensures exact { result ≡ has_no_words self.now }
+        ensures every_row { IsTrue result → find_holds self.now ≡ (λ _ _. true) }
+    {
+        match self.formula.only_test() {
+            Some(test) => { test.is_always() && self.least_depth == 0 && self.most_depth.is_none() }
+            None => false,
+        }
     }
 
     /// Whether it is true of a row at that depth below the start, and the depth within its bounds. No memory.

@@ -1,6 +1,6 @@
 //! The tests of an expression.
-ghost use Rattle.std.specs.Prelude.{◌++◌};
-ghost use Rattle.gufi_find.specs.Tests.{is_true};
+ghost use Rattle.std.specs.Prelude.{◌≡◌, ◌++◌};
+ghost use Rattle.gufi_find.specs.Tests.{is_always, is_true};
 
 use crate::comparison::{Comparison, SizeUnit};
 use crate::numbers::NumberSet;
@@ -30,6 +30,15 @@ pub enum Test {
     GroupIs(u32),
     UserNotIn(NumberSet),
     GroupNotIn(NumberSet),
+}
+
+impl Test {
+    /// Whether it stands for no words at all.
+    pub(crate) fn is_always(&self) -> bool
+        ensures { result ≡ is_always self.now }
+    {
+        matches!(self, Test::Always)
+    }
 }
 
 /// A row in borrowed parts gives each test its truth.

@@ -1,7 +1,8 @@
 -- Steps of a formula give it back, and its truth.
-use Rattle.std.proofs.Common.{◌≡◌, ℕ, zero, suc, Bool, true, false, List, [], ◌∷◌, ◌++◌, length, drop, refl, sym, ap, ◌∙◌, append_assoc, append-nil}
+use Rattle.std.proofs.Common.{◌≡◌, ℕ, zero, suc, Bool, true, false, List, [], ◌∷◌, ◌++◌, length, drop, refl, sym, ap, ◌∙◌, append_assoc, append-nil, arith}
 use Rattle.std.specs.Prelude.{◌&&◌, ◌||◌}
-use Rattle.gufi_formula.specs.Formulas.{Formula, test, negation, both, either, holds}
+use Rattle.std.specs.Prelude.{Some, None}
+use Rattle.gufi_formula.specs.Formulas.{Formula, test, negation, both, either, holds, only_test}
 use Rattle.gufi_formula.specs.Steps.{first_of, steps_of, run, with_steps, newest_or, formula_in, IsKept}
 use Rattle.gufi_formula.specs.declared.step.Step.{Step}
 use Rattle.gufi_formula.specs.declared.step.Step.TheVariants.{Invert, IfTrue, IfFalse, BothEnd, EitherEnd}
@@ -68,6 +69,17 @@ module _ {A : Type 0} where
       → Keeps first (((steps ++ IfFalse second (length more) ∷ []) ++ more) ++ EitherEnd ∷ []) (either (formula_in first steps) (formula_in second more))
   kept_either first steps second more is others =
       keeps first _ (either (formula_in first steps) (formula_in second more)) is.test_is (joined steps second more (formula_in first steps) (formula_in second more) IfFalse EitherEnd is.steps_are others.test_is others.steps_are)
+
+  -- what is kept of one test, and of more
+  pub kept_alone : (first : A) (steps : List (Step A)) → length steps ≡ 0 → only_test (formula_in first steps) ≡ Some first
+  kept_alone first [] none = refl
+  kept_alone first (step ∷ rest) none = absurd (omega arith)
+
+  pub kept_more : (first : A) (steps : List (Step A)) → IsKept first steps → (length steps ≡ 0 → ⊥) → only_test (formula_in first steps) ≡ None
+  kept_more first steps is more = by (formula_in first steps) is.steps_are where
+    by : (f : Formula A) → steps_of f ≡ steps → only_test f ≡ None
+    by (test a) e = absurd (more (sym (ap length e)))
+    by _ e = refl
 
   module _ (truth : A → Bool) where
     run_skip : (now : Bool) (front rest : List (Step A)) → run truth now (length front) (front ++ rest) ≡ run truth now 0 rest

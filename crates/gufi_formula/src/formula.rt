@@ -85,8 +85,20 @@ impl<T: Drop> Formula<T> {
 }
 
 impl<T> Formula<T> {
-    ghost use Rattle.std.specs.Prelude.{◌≡◌};
-    ghost use Rattle.gufi_formula.specs.Formulas.{holds};
+    ghost use Rattle.std.specs.Prelude.{◌≡◌, Some, None, MatchOption};
+    ghost use Rattle.gufi_formula.specs.Formulas.{holds, only_test};
+
+    /// Its test, where it is no more than one.
+    #[tactic(auto, using(crate::proofs::Running::kept_alone, crate::proofs::Running::kept_more))]
+    pub fn only_test(&self) -> Option<&T>
+        ensures { MatchOption result (only_test self.now ≡ None) (λ test. only_test self.now ≡ Some test.now) }
+    {
+        if self.steps.is_empty() {
+            Some(&self.first)
+        } else {
+            None
+        }
+    }
 
     /// Whether it is true where its tests have these truths.
     #[tactic(auto, using(crate::proofs::Running::run_holds))]

@@ -1,9 +1,11 @@
 //! Replies to searches.
-ghost use Rattle.std.specs.Prelude.{◌≡◌, ◌≢◌, ◌++◌, Some, IfOk, OnOk, codes, decimal};
+ghost use Rattle.std.specs.Prelude.{◌≡◌, ◌≢◌, ◌++◌, None, Some, IfErr, IfOk, OnOk, codes, decimal};
 ghost use Rattle.gufi_base.specs.Basics.{line};
 ghost use Rattle.gufi_find.specs.Expressions.{find_holds};
 ghost use Rattle.gufi_select.specs.Columns.{select_holds};
-ghost use Rattle.gufi_walk.specs.Answer.{reply_rows};
+ghost use Rattle.gufi_sums.specs.Total.{total};
+ghost use Rattle.gufi_tree.specs.Resolve.{resolve};
+ghost use Rattle.gufi_walk.specs.Answer.{answer, refusal_of, reply_rows};
 ghost use Rattle.gufi_walk.specs.Refusals.{refusal_text};
 ghost use Rattle.gufi_plan.specs.declared.search.Query.TheVariants.{Finds, Totals, Selects};
 ghost use Rattle.gufi_session.specs.Loaded.{search_reply};
@@ -18,7 +20,10 @@ use gufi_phases::Wanted;
 use gufi_plan::{Query, Search, SharedSearch};
 use gufi_select::{Select, select_text};
 use gufi_snap::Snapshot;
-use gufi_walk::{Refusal, Walkers, answer_lines, answer_rows, answer_sum, put_refusal};
+use gufi_sums::Summary;
+use gufi_walk::{
+    Refusal, Walkers, answer_lines, answer_rows, answer_sum, answer_total, put_refusal,
+};
 use std::alloc::Global;
 use std::sync::Wait;
 use std::thread::Threads;
@@ -69,6 +74,27 @@ fn put_found<R: Threads + Wait + Sync, G: Gate + Sync>(
     }
 }
 
+/// The sum of the rows that a principal lists from a start and for which an expression is true.
+///
+/// Where it has no words, the sums that are kept give it, and no row is looked at.
+fn sum_found<R: Threads + Wait + Sync, G: Gate + Sync>(
+    walkers: &Walkers<'_, R, G>,
+    alloc: Global,
+    snap: &Snapshot,
+    who: &Principal,
+    start: &Path,
+    find: &FindExpr,
+) -> Result<Summary, Refusal>
+    ensures sum { IfOk result (λ sum. sum ≡ total (answer snap.now.tree who.now start.now (find_holds find.now))) }
+    ensures found { OnOk result (refusal_of (resolve snap.now.tree who.now start.now) ≡ None) }
+    ensures refusal { IfErr result (λ refusal. refusal ≢ Refusal.Memory → refusal_of (resolve snap.now.tree who.now start.now) ≡ Some refusal) }
+{
+    if find.has_no_words() {
+        return answer_total(alloc, snap, who, start);
+    }
+    answer_sum(walkers, alloc, snap, who, start, &find.question())
+}
+
 /// Appends the sum of the rows that a principal lists from a start and for which an expression is true.
 fn put_total<R: Threads + Wait + Sync, G: Gate + Sync>(
     walkers: &Walkers<'_, R, G>,
@@ -81,7 +107,7 @@ fn put_total<R: Threads + Wait + Sync, G: Gate + Sync>(
 ) -> Result<(), Memory>
     ensures { OnOk result (text.new.items ≡ text.old.items ++ answer_or (record { who = who.now; start = start.now; query = Totals find.now }) (reply_rows snap.now.tree who.now start.now (find_holds find.now))) }
 {
-    match answer_sum(walkers, alloc, snap, who, start, &find.question()) {
+    match sum_found(walkers, alloc, snap, who, start, find) {
         Ok(sum) => {
             let total = total_text(alloc, &sum)?;
             text.extend_from_slice(b" total ")?;

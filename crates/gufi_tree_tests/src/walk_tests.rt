@@ -4,7 +4,9 @@ use gufi_base::{Always, Kind, Path};
 use gufi_io::NoGate;
 use gufi_snap::Snapshot;
 use gufi_tree::build;
-use gufi_walk::{Refusal, Walkers, answer_lines, answer_rows, answer_sum, put_refusal};
+use gufi_walk::{
+    Refusal, Walkers, answer_lines, answer_rows, answer_sum, answer_total, put_refusal,
+};
 use std::alloc::Global;
 use std::test::Fail;
 
@@ -22,6 +24,7 @@ fn rows_come_from_listed_directories(rt: HostRuntime) -> Result<(), Fail> {
     ]?;
     let tree = build(alloc, lines)?;
     let snap = Snapshot::build_uncounted(alloc, tree, 0)?;
+    let rolled = snap.with_limit(alloc, 2)?;
     let all = b"/\n/a\n/a/x\n/p\n/p/q\n/p/q/y\n/z\n".as_slice();
     let rows = [
         (0u32, b"/".as_slice(), 4u64, 3u64, 7usize, all),
@@ -37,6 +40,11 @@ fn rows_come_from_listed_directories(rt: HostRuntime) -> Result<(), Fail> {
         let sum = answer_sum(&walkers, alloc, &snap, &who, &start, &Always)?;
         assert_eq!(rt; sum.dirs, dirs);
         assert_eq!(rt; sum.files, files);
+        for snap in [&snap, &rolled] {
+            let total = answer_total(alloc, snap, &who, &start)?;
+            assert_eq!(rt; total.dirs, dirs);
+            assert_eq!(rt; total.files, files);
+        }
         let lines = answer_lines(&walkers, alloc, &snap, &who, &start, &Always)?;
         assert_eq!(rt; lines.text.as_slice(), text);
         assert_eq!(rt; lines.count, count);
@@ -81,6 +89,8 @@ fn a_start_is_refused_as_it_resolves(rt: HostRuntime) -> Result<(), Fail> {
         let start = Path::read(alloc, start)?;
         let reply = answer_sum(&walkers, alloc, &snap, &who, &start, &Always);
         assert_eq!(rt; reply.err(), Some(refusal));
+        let total = answer_total(alloc, &snap, &who, &start);
+        assert_eq!(rt; total.err(), Some(refusal));
         let mut text = Vec::new(alloc);
         put_refusal(&mut text, refusal)?;
         assert_eq!(rt; text.as_slice(), words);

@@ -18,18 +18,21 @@ use Rattle.gufi_base.proofs.Permutations.{empty_from_length, IsPermutation-filte
 use Rattle.gufi_access.specs.declared.class.Principal.{Principal}
 use Rattle.gufi_access.specs.Access.{Rights, can_list}
 use Rattle.gufi_tree.specs.declared.tree.DirId.{DirId}
+use Rattle.gufi_tree.specs.declared.resolve.Resolved.TheVariants.{Found}
 use Rattle.gufi_tree.specs.Tree.{Directory, rights_of, all_rows, may_list, subdirs, HasTreeShape}
 use Rattle.gufi_tree.specs.Listed.{is_listed}
+use Rattle.gufi_tree.specs.Resolve.{resolve}
 use Rattle.gufi_tree.specs.Places.{dir_id, path_at, ids_from, child_ids}
 use Rattle.gufi_tree.proofs.Built.{Has, All-Has, All-from_Has}
 use Rattle.gufi_tree.proofs.Filters.{Has-filter, filter-none}
 use Rattle.gufi_tree.proofs.Descent.{child_name}
 use Rattle.gufi_tree.proofs.Flat.{lists_at-own, is_prefix-append, is_prefix-rest}
 use Rattle.gufi_tree.proofs.RowHomes.{Has-IsPermutation}
-use Rattle.gufi_tree.proofs.FoundStart.{IsFoundPlace}
+use Rattle.gufi_tree.proofs.FoundStart.{IsFoundPlace, found_place_of_start}
 use Rattle.gufi_tree.proofs.Linked.{path_at-get}
 use Rattle.gufi_tree.proofs.Resolving.{depth_within}
-use Rattle.gufi_sums.specs.Total.{NoneMeets}
+use Rattle.gufi_sums.specs.Total.{total, NoneMeets}
+use Rattle.gufi_sums.specs.Laws.{total-IsPermutation}
 use Rattle.gufi_roll.specs.CanRoll.{can_roll}
 use Rattle.gufi_snap.specs.Pieces.{front, piece, kids}
 use Rattle.gufi_walk.specs.Answer.{listed_rows, answer}
@@ -117,12 +120,24 @@ children_within tree path ids e =
     All-from_recursion (λ (id : DirId). id.0 < length tree) ids
     (subst (AllByRecursion (λ (id : DirId). id.0 < length tree)) (sym e) (ids_within (λ dir. is_child_of path dir.path) 0 (length tree) tree (omega arith)))
 
--- the rows that meet a question, of one piece more
+-- the rows of one piece more
+pub pieces-more : (tree : List Directory) (limit : ℕ) (done : List Components) (path : Components)
+    → flat_map (λ p. piece tree p limit) (done ++ path ∷ []) ≡ flat_map (λ p. piece tree p limit) done ++ piece tree path limit
+pieces-more tree limit done path =
+    let P : Components → List Row = λ p. piece tree p limit in
+    flat_map-append P done (path ∷ []) ∙ ap (λ l. flat_map P done ++ l) (append-nil (P path))
+
+-- those of them that meet a question
 pub rows-more : (tree : List Directory) (limit : ℕ) (met : Row → Bool) (done : List Components) (path : Components)
     → filter met (flat_map (λ p. piece tree p limit) (done ++ path ∷ [])) ≡ filter met (flat_map (λ p. piece tree p limit) done) ++ filter met (piece tree path limit)
 rows-more tree limit met done path =
     let P : Components → List Row = λ p. piece tree p limit in
-    ap (filter met) (flat_map-append P done (path ∷ []) ∙ ap (λ l. flat_map P done ++ l) (append-nil (P path))) ∙ filter-append met (flat_map P done) (P path)
+    ap (filter met) (pieces-more tree limit done path) ∙ filter-append met (flat_map P done) (P path)
+
+-- a test that all pass leaves out none
+filter-all : {X : Type 0} (xs : List X) → filter (λ x. true) xs ≡ xs
+filter-all [] = refl
+filter-all (x ∷ xs) = ap (λ l. x ∷ l) (filter-all xs)
 
 -- a directory has no more names than its place says
 pub depth_at-place : (tree : List Directory) → HasTreeShape tree → (k : ℕ) → k < length tree → length (path_at tree k) ≤ k
@@ -174,6 +189,12 @@ module _ (tree : List Directory) (who : Principal) (shape : HasTreeShape tree) w
       let P : Components → List Row = λ p. piece tree p limit in
       IsPermutation-filter (meets asks (length start)) _ _
       (IsPermutation-trans _ _ _ (IsPermutation-flat_map P _ _ (IsPermutation-sym _ _ all)) (IsPermutation-sym _ _ (listed_at_top limit start top)))
+
+  -- and all listed rows have their sum
+  pub total-by_pieces : (limit : ℕ) (start : Components) → IsOpenTop tree who start → (done : List Components) → IsPermutation (front tree who start limit) done
+      → total (flat_map (λ p. piece tree p limit) done) ≡ total (answer tree who start (λ row depth. true))
+  total-by_pieces limit start top done all =
+      ap total (sym (filter-all (flat_map (λ p. piece tree p limit) done))) ∙ total-IsPermutation _ _ (answer-by_pieces limit start top done all (λ row depth. true))
 
   module _ (limit : ℕ) where
     pub IsOpen-start : (k : ℕ) → k < length tree → lists_at tree who (path_at tree k) ≡ true → IsOpen tree who (path_at tree k) (dir_id k)
@@ -323,15 +344,14 @@ module _ (tree : List Directory) (who : Principal) (shape : HasTreeShape tree) w
       walk_deep = let r = is_prefix-rest start (path_at tree id.0) walk_last.below in omega (arith, ap length r.1, length-append start r.0)
 
       -- the rows of the directory are within what is left of all rows
-      pub walk_room : IsOpenTop tree who start → (met : Row → Bool)
-          → length (filter met (flat_map (λ p. piece tree p limit) done)) + length (piece tree (path_at tree id.0) limit) ≤ length (all_rows tree)
-      walk_room top met =
+      pub walk_room : IsOpenTop tree who start → length (flat_map (λ p. piece tree p limit) done) + length (piece tree (path_at tree id.0) limit) ≤ length (all_rows tree)
+      walk_room top =
           let P : Components → List Row = λ p. piece tree p limit in
           let x : Components = path_at tree id.0 in
           let later : List Components = fronts_at tree who limit (rest ++ reverse (kid_ids tree who x limit)) in
           let whole : IsPermutation (flat_map P (front tree who start limit)) (flat_map P ((done ++ x ∷ []) ++ later)) = IsPermutation-flat_map P _ _ next_split in
           let parts : flat_map P ((done ++ x ∷ []) ++ later) ≡ (flat_map P done ++ P x) ++ flat_map P later =
-          flat_map-append P (done ++ x ∷ []) later ∙ ap (λ l. l ++ flat_map P later) (flat_map-append P done (x ∷ []) ∙ ap (λ l. flat_map P done ++ l) (append-nil (P x))) in
+          flat_map-append P (done ++ x ∷ []) later ∙ ap (λ l. l ++ flat_map P later) (pieces-more tree limit done x) in
           omega (
             arith,
             length_permutation _ _ whole,
@@ -340,10 +360,13 @@ module _ (tree : List Directory) (who : Principal) (shape : HasTreeShape tree) w
             length-append (flat_map P done) (P x),
             length_permutation _ _ (listed_at_top limit start top),
             filtered_fewer (λ row. is_listed tree who start (home row)) (all_rows tree),
-            filtered_fewer met (flat_map P done),
           )
 
--- the same, as the code reads it
+-- a start that is found, as the code reads it
+pub start_place : (tree seen : List Directory) (who : Principal) (start : Components) (id : DirId) → HasTreeShape tree → seen ≡ tree → Found id ≡ resolve seen who start → IsFoundPlace tree who start id
+start_place tree seen who start id shape same is = found_place_of_start tree who start id shape (sym (is ∙ ap (λ (ds : List Directory). resolve ds who start) same))
+
+-- what guards a directory, as the code reads it
 pub lists_at-guard : (tree seen : List Directory) (who : Principal) → HasTreeShape tree → seen ≡ tree → (k : ℕ) → k < length tree → (rights : Rights)
     → ((d : Directory) → rights ≡ rights_of (get_or seen k d).rec) → (r : Bool) → r ≡ can_list who rights → r ≡ lists_at tree who (path_at tree k)
 lists_at-guard tree seen who shape same k within rights guard r e =

@@ -8,18 +8,19 @@ ghost use Rattle.gufi_tree.specs.Places.{path_at};
 ghost use Rattle.gufi_tree.specs.Resolve.{resolve};
 ghost use Rattle.gufi_tree.specs.Tree.{HasTreeShape};
 ghost use Rattle.gufi_sums.specs.declared.summary.Summary.{Summary as SeenSummary};
-ghost use Rattle.gufi_sums.specs.Total.{total};
+ghost use Rattle.gufi_sums.specs.Total.{IsTotal};
 ghost use Rattle.gufi_snap.specs.Pieces.{front, piece};
 ghost use Rattle.gufi_walk.specs.Answer.{answer, refusal_of};
 ghost use Rattle.gufi_walk.specs.Walk.{lists_at, open_ids, kid_ids, meets};
 
 use crate::refusal::Refusal;
+use crate::start::found_start;
 use gufi_access::{Principal, lists};
 use gufi_base::{Memory, Path, Pred, Steps, Tester, Yield};
 use gufi_io::{Gate, GateKind, NoGate};
 use gufi_snap::Snapshot;
 use gufi_sums::{Skip, Summary};
-use gufi_tree::{DirId, Resolved, Tree};
+use gufi_tree::{DirId, Tree};
 use std::alloc::{AllocError, Global};
 use std::sync::ledger::Ledger;
 
@@ -31,7 +32,7 @@ pub(crate) fn may_be_listed(snap: &Snapshot, who: &Principal, id: DirId) -> bool
     lists(who, &snap.tree().guard(id))
 }
 
-fn list_of(alloc: Global, id: DirId) -> Result<Vec<DirId>, AllocError>
+pub(crate) fn list_of(alloc: Global, id: DirId) -> Result<Vec<DirId>, AllocError>
     ensures { IfOk result (λ list. list.items ≡ id ∷ []) }
 {
     let mut list = Vec::new(alloc);
@@ -58,7 +59,7 @@ fn push_open(
 }
 
 /// Puts the directories where a walk goes on from a directory on the list, the last one first.
-fn push_kids(
+pub(crate) fn push_kids(
     todo: &mut Vec<DirId>,
     snap: &Snapshot,
     who: &Principal,
@@ -73,10 +74,10 @@ fn push_kids(
     push_open(todo, snap, who, snap.tree().subdirs(id))
 }
 
-/// The sum of a piece.
-fn sum_of_piece(snap: &Snapshot, id: DirId) -> &Summary
+/// The kept sum of a piece. It looks at no row.
+pub(crate) fn sum_of_piece(snap: &Snapshot, id: DirId) -> &Summary
     requires { id.0 < length snap.now.tree }
-    ensures { result.now ≡ total (piece snap.now.tree (path_at snap.now.tree id.0) snap.now.limit) }
+    ensures { IsTotal result.now (piece snap.now.tree (path_at snap.now.tree id.0) snap.now.limit) }
 {
     let is_whole = snap.rolled(id);
     if is_whole {
@@ -154,6 +155,7 @@ pub(crate) fn rows_below<T: Tester, Y: Yield, S: Skip, G: Gate, L: Ledger>(
     ensures exact { OnOk result (((sum : SeenSummary) → S.skips skip.now sum ≡ false)
         → steps.new ≡ steps.old + length (front snap.now.tree who.now (path_at snap.now.tree start.0) snap.now.limit)) }
 {
+    // The tree's shape tells that the walk ends.
     let _tree = snap.tree();
     let mut out = Y::none(alloc)?;
     let mut todo = list_of(alloc, start)?;
@@ -220,10 +222,6 @@ pub fn answer_alone<P: Pred, Y: Yield, S: Skip, L: Ledger>(
     ensures exact { OnOk result (((sum : SeenSummary) → S.skips skip.now sum ≡ false)
         → steps.new ≡ steps.old + length (front snap.now.tree who.now start.now snap.now.limit)) }
 {
-    match snap.tree().resolve(who, start) {
-        Resolved::Found(id) => Ok(answer_from(alloc, snap, who, id, pred, skip, steps)?),
-        Resolved::Denied { depth, class } => Err(Refusal::Denied { depth, class }),
-        Resolved::NoSuch { depth } => Err(Refusal::NoSuch { depth }),
-        Resolved::NotDir { depth } => Err(Refusal::NotDir { depth }),
-    }
+    let id = found_start(snap, who, start)?;
+    Ok(answer_from(alloc, snap, who, id, pred, skip, steps)?)
 }

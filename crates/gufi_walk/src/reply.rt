@@ -42,6 +42,7 @@ where
     ensures found { OnOk result (refusal_of (resolve snap.now.tree who.now start.now) ≡ None) }
     ensures refusal { IfErr result (λ refusal. refusal ≢ Refusal.Memory → refusal_of (resolve snap.now.tree who.now start.now) ≡ Some refusal) }
 {
+    // The tree's shape tells that the answer's paths ascend.
     let _tree = snap.tree();
     match answer::<R, P, PathList, NoSkip, G>(
         walkers.rt,
@@ -78,6 +79,7 @@ where
     ensures found { OnOk result (refusal_of (resolve snap.now.tree who.now start.now) ≡ None) }
     ensures refusal { IfErr result (λ refusal. refusal ≢ Refusal.Memory → refusal_of (resolve snap.now.tree who.now start.now) ≡ Some refusal) }
 {
+    // The tree's shape tells that the answer's paths ascend.
     let _tree = snap.tree();
     match answer::<R, P, RowList, NoSkip, G>(
         walkers.rt,

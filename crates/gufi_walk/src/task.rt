@@ -110,6 +110,7 @@ impl<P: Pred, Y: Yield, S: Skip> Walk<'_, P, Y, S> {
         requires given { Contains (open_places self.now.snap.now.tree self.now.who.now (path_at self.now.snap.now.tree self.now.start.0)) id.0 }
         ensures { IfOk result (λ y. Y.stands_for y (task_rows self.now.snap.now.tree self.now.who.now self.now.snap.now.limit self.now.grain (meets (P.sat self.now.pred.now) self.now.above) id.0)) }
     {
+        // The tree's shape tells how deep the directory of a task lies.
         let _tree = self.snap.tree();
         let mut steps = Steps::<L>::new(blank);
         let mut tester = self.pred.tester(alloc)?;
@@ -186,6 +187,7 @@ impl<'a, P: Pred + Sync, Y: Yield + Send + Sync, S: Skip + Sync> Job for Walk<'a
         piece: &mut Vec<Chunk<Y>>,
         kids: &mut Vec<u32>,
     ) -> Result<(), Memory> {
+        // The tree's shape tells that the directory of a task may be listed.
         let _tree = self.snap.tree();
         let id = DirId(task);
         let rows = self.settled_rows(alloc, gate, id)?;

@@ -10,6 +10,7 @@ ghost use Rattle.gufi_walk.specs.Walk.{lists_at};
 use crate::chunk::rows_of_pieces;
 use crate::descent::depth_of;
 use crate::refusal::Refusal;
+use crate::start::found_start;
 use crate::task::Walk;
 use gufi_access::Principal;
 use gufi_base::{Memory, Path, Pred, Yield};
@@ -17,7 +18,7 @@ use gufi_io::Gate;
 use gufi_pool::run_pool;
 use gufi_snap::Snapshot;
 use gufi_sums::Skip;
-use gufi_tree::{DirId, Resolved};
+use gufi_tree::DirId;
 use std::alloc::Global;
 use std::marker::PhantomData;
 use std::sync::Wait;
@@ -134,10 +135,6 @@ where
     ensures found { OnOk result (refusal_of (resolve snap.now.tree who.now start.now) ≡ None) }
     ensures refusal { IfErr result (λ refusal. refusal ≢ Refusal.Memory → refusal_of (resolve snap.now.tree who.now start.now) ≡ Some refusal) }
 {
-    match snap.tree().resolve(who, start) {
-        Resolved::Found(id) => Ok(answer_by(rt, alloc, snap, who, id, pred, skip, workers, gate)?),
-        Resolved::Denied { depth, class } => Err(Refusal::Denied { depth, class }),
-        Resolved::NoSuch { depth } => Err(Refusal::NoSuch { depth }),
-        Resolved::NotDir { depth } => Err(Refusal::NotDir { depth }),
-    }
+    let id = found_start(snap, who, start)?;
+    Ok(answer_by(rt, alloc, snap, who, id, pred, skip, workers, gate)?)
 }

@@ -6,7 +6,7 @@ use Rattle.gufi_base.specs.Paths.{Components}
 use Rattle.gufi_tree.specs.Places.{path_at}
 use Rattle.gufi_snap.specs.Pieces.{front, piece}
 use Rattle.gufi_walk.specs.Walk.{meets}
-use Rattle.gufi_walk.proofs.Walked.{IsWalk, IsWalk-start, IsWalk-more, IsWalk-all, IsOpenTop-at, walk_last, walk_deep, walk_room, walk_less, walk_left, rows-more, rows_of_all}
+use Rattle.gufi_walk.proofs.Walked.{IsWalk, IsWalk-start, IsWalk-more, IsWalk-all, IsOpenTop-at, walk_last, walk_deep, walk_room, walk_less, walk_left, rows-more, rows_of_all, filtered_fewer}
 use Rattle.gufi_walk.proofs.descent.rows_below.Goals as goal
 
 pub loop-id-init : goal.loop-id-init
@@ -34,12 +34,14 @@ visit-requires-clause-above g c =
 pub visit-requires-clause-room : goal.visit-requires-clause-room
 visit-requires-clause-room g c =
     let snap = c.args.snap.now in
+    let done : List Components = c.loop-id.invariant.0 in
     let law = g.met.Y.Yield.counted in
     let top = IsOpenTop-at snap.tree c.args.who.now c.tree-tree.ensures.shape c.args.start.0 c.requires.start c.requires.listed in
     omega (
       arith,
       law _ _ c.loop-id.invariant.1.rows,
-      walk_room snap.tree c.args.who.now c.tree-tree.ensures.shape snap.limit _ _ _ _ _ c.loop-id.invariant.1.walk c.in-Some.ensures.items top (meets (g.T.Tester.meets c.args.tester.now) c.args.above),
+      filtered_fewer (meets (g.T.Tester.meets c.args.tester.now) c.args.above) (flat_map (λ p. piece snap.tree p snap.limit) done),
+      walk_room snap.tree c.args.who.now c.tree-tree.ensures.shape snap.limit _ _ _ _ _ c.loop-id.invariant.1.walk c.in-Some.ensures.items top,
       c.tree-tree.ensures.few,
     )
 

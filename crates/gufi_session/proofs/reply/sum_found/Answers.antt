@@ -1,0 +1,11 @@
+use Rattle.std.proofs.Common.{◌≡◌, ℕ, sym, subst}
+use Rattle.std.specs.Prelude.{Bool, IfOk}
+use Rattle.gufi_base.specs.declared.record.Row.{Row}
+use Rattle.gufi_sums.specs.Total.{total}
+use Rattle.gufi_walk.specs.Answer.{answer}
+use Rattle.gufi_session.proofs.reply.sum_found.Goals as goal
+
+pub returns-then-has_no_words-clause-sum : goal.returns-then-has_no_words-clause-sum
+returns-then-has_no_words-clause-sum g c =
+    subst (λ (asks : Row → ℕ → Bool). IfOk c.answer_total.result (λ sum. sum ≡ total (answer c.args.snap.now.tree c.args.who.now c.args.start.now asks)))
+    (sym (c.has_no_words.ensures.every_row c.if-has_no_words.true)) c.answer_total.ensures.sum
