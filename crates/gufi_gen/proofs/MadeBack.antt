@@ -24,12 +24,11 @@ use Rattle.gufi_tree.specs.Tree.{Directory, dir_row, entry_row, own_rows, entry_
 use Rattle.gufi_tree.proofs.Built.{Has, path_eq-Decides, directories_are}
 use Rattle.gufi_tree.proofs.Faultless.{none_from_faultless}
 use Rattle.gufi_tree.proofs.Shaped.{faultless_from_shape}
-use Rattle.gufi_trace.specs.TraceText.{root_of, trace_lines, trace_means, of_tree}
-use Rattle.gufi_trace.specs.TraceWriting.{trace_text}
+use Rattle.gufi_trace.specs.TraceText.{root_of, trace_means, of_tree}
 use Rattle.gufi_trace.proofs.RowsBack.{texts_of, taken, lines_back, rows-taken, tree_placed}
 use Rattle.gufi_trace.proofs.TraceBack.{root_back, text_lines_back}
 use Rattle.gufi_trace.proofs.TreeBack.{All_weaken}
-use Rattle.gufi_gen.specs.Generated.{directory_path, made_file, made_dir, made_dirs, made_root, gen_text}
+use Rattle.gufi_gen.specs.Generated.{made_file, made_dir, made_dirs, made_root, gen_text}
 use Rattle.gufi_gen.specs.MadeTree.{made_tree}
 use Rattle.gufi_gen.specs.Laws.{GeneratedTracesAreRead, GeneratedRootsAreListed}
 use Rattle.gufi_gen.proofs.MadeNames.{same_directory}

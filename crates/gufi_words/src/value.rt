@@ -1,8 +1,6 @@
 //! What the value of an option, and a positional, must be.
 
-ghost use Rattle.std.specs.Prelude.{◌≡◌, IfOk, option_map};
-ghost use Rattle.gufi_base.specs.Basics.{split};
-ghost use Rattle.gufi_base.specs.Numbers.{all_numbers};
+ghost use Rattle.std.specs.Prelude.{◌≡◌, IfOk};
 ghost use Rattle.gufi_base.specs.Delimiters.{is_letter_or_digit, is_delimiter};
 ghost use Rattle.gufi_words.specs.WordValues.{read_delimiter, read_workers, read_count, read_report, read_file, read_start, read_gids};
 
