@@ -6,7 +6,6 @@ use Rattle.gufi_trace.specs.TraceText.{trace_means}
 use Rattle.gufi_phases.specs.declared.act.Act.{Act}
 use Rattle.gufi_phases.specs.declared.act.Act.TheVariants as acts
 use Rattle.gufi_phases.specs.declared.load.Stop.{Stop}
-use Rattle.gufi_plan.specs.declared.search.Search.{Search}
 use Rattle.gufi_plan.specs.declared.act.PlannedAct.{PlannedAct}
 use Rattle.gufi_plan.specs.declared.act.PlannedAct.TheVariants as planned
 use Rattle.gufi_session.specs.declared.publishing.Publishing.{Publishing}

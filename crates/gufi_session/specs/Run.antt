@@ -1,5 +1,5 @@
 -- How far the files let a session run.
-use Rattle.std.specs.Prelude.{ℕ, ◌+◌, nat_lt, List, [], ◌∷◌, length, take, Option, Some, None, Result, Ok, Err}
+use Rattle.std.specs.Prelude.{ℕ, ◌+◌, nat_lt, List, [], ◌∷◌, length, Option, Some, None, Result, Ok, Err}
 use Rattle.gufi_io.specs.Files.{Files}
 use Rattle.gufi_base.specs.Limits.{max_trace}
 use Rattle.gufi_base.specs.Basics.{◌>>=◌, ◌>>◌, refuse}

@@ -1,4 +1,4 @@
-use Rattle.std.proofs.Common.{◌≡◌, ◌≤◌, ◌+◌, [], ◌∷◌, length, length-append, ap, ◌∙◌, arith}
+use Rattle.std.proofs.Common.{[], ◌∷◌, length, length-append, ap, ◌∙◌, arith}
 use Rattle.gufi_session.proofs.Loads.{one_loaded, all_loaded, one_stops}
 use Rattle.gufi_session.proofs.loading.load_acts.Goals as goal
 
