@@ -36,7 +36,8 @@ fn a_directory_is_printed(rt: HostRuntime) -> Result<(), Fail> {
         uid: Some((101, 102)),
         gid: Some((100, 200)),
     };
-    assert_eq!(rt; stat_text(alloc, &row, &sum)?.as_slice(), STAT);
+    let text = stat_text(alloc, &row.path.as_path_ref(), &row.rec.as_rec_ref(), &sum)?;
+    assert_eq!(rt; text.as_slice(), STAT);
     Ok(())
 }
 

@@ -8,7 +8,7 @@ ghost use Rattle.gufi_list.specs.Texts.{octal_text, record_text, stat_text, tota
 
 use crate::put::put_signed;
 use crate::total::put_total;
-use gufi_base::{Memory, Meta, Path, Row, put, put_named};
+use gufi_base::{Memory, Meta, PathRef, RecRef, put, put_named};
 use gufi_sums::Summary;
 use std::alloc::Global;
 
@@ -63,7 +63,7 @@ fn put_times(out: &mut Vec<u8>, meta: &Meta) -> Result<(), Memory>
     put_signed(out, b" ctime ", meta.ctime)
 }
 
-fn put_path_line(out: &mut Vec<u8>, path: &Path) -> Result<(), Memory>
+fn put_path_line(out: &mut Vec<u8>, path: &PathRef<'_>) -> Result<(), Memory>
     ensures { OnOk result (out.new.items ≡ out.old.items ++ line (codes "path " ++ path_text path.now)) }
 {
     put(out, b"path ")?;
@@ -93,13 +93,13 @@ fn put_times_line(out: &mut Vec<u8>, meta: &Meta) -> Result<(), Memory>
     put(out, b"\n")
 }
 
-fn put_record(out: &mut Vec<u8>, row: &Row) -> Result<(), Memory>
-    ensures { OnOk result (out.new.items ≡ out.old.items ++ record_text row.now) }
+fn put_record(out: &mut Vec<u8>, path: &PathRef<'_>, meta: &Meta) -> Result<(), Memory>
+    ensures { OnOk result (out.new.items ≡ out.old.items ++ record_text path.now meta.now) }
 {
-    put_path_line(out, &row.path)?;
-    put_type_line(out, &row.rec.meta)?;
-    put_size_line(out, &row.rec.meta)?;
-    put_times_line(out, &row.rec.meta)
+    put_path_line(out, path)?;
+    put_type_line(out, meta)?;
+    put_size_line(out, meta)?;
+    put_times_line(out, meta)
 }
 
 fn put_total_line(out: &mut Vec<u8>, sum: &Summary) -> Result<(), Memory>
@@ -111,12 +111,17 @@ fn put_total_line(out: &mut Vec<u8>, sum: &Summary) -> Result<(), Memory>
 
 /// The record of a directory and the sum of its rows as they are printed: five lines, the last of them the sum.
 ///
-/// The mode is printed in four octal digits: its low twelve bits.
-pub fn stat_text(alloc: Global, row: &Row, sum: &Summary) -> Result<Vec<u8>, Memory>
-    ensures { IfOk result (λ text. text.items ≡ stat_text row.now sum.now) }
+/// The directory's path and record are borrowed. The mode is printed in four octal digits: its low twelve bits.
+pub fn stat_text(
+    alloc: Global,
+    path: &PathRef<'_>,
+    rec: &RecRef<'_>,
+    sum: &Summary,
+) -> Result<Vec<u8>, Memory>
+    ensures { IfOk result (λ text. text.items ≡ stat_text (record { path = path.now; rec = rec.now }) sum.now) }
 {
     let mut out = Vec::new(alloc);
-    put_record(&mut out, row)?;
+    put_record(&mut out, path, rec.meta())?;
     put_total_line(&mut out, sum)?;
     Ok(out)
 }

@@ -1,5 +1,5 @@
 -- Lemmas on what a command asks of one tree.
-use Rattle.std.proofs.Common.{◌≡◌, ◌≢◌, ℕ, ◌<◌, ◌≤◌, true, not, List, [], ◌∷◌, length, get_or, refl, sym, ap, ◌∙◌, subst, arith}
+use Rattle.std.proofs.Common.{◌≡◌, ◌≢◌, ℕ, ◌≤◌, true, not, List, [], ◌∷◌, length, get_or, refl, sym, ap, ◌∙◌, subst, arith}
 use Rattle.std.specs.Prelude.{Bool, Option, Some, None, Result, Ok, Err, filter, Vec}
 use Rattle.std.specs.declared.alloc.Global.{Global}
 use Rattle.std.specs.List.{flat_map}
@@ -50,19 +50,29 @@ pub reply_refused : (tree : List Directory) (who : Principal) (start : Component
 unfolding ask_reply
 reply_refused tree who start ask refusal is = ap (λ (o : Option Refusal). rows_or o (answer tree who start (ask_holds ask)) >>= λ rows. Ok (ask_text ask start rows)) is
 
--- the lines of the one row that has the start's path
-pub stat_found : (tree : List Directory) (who : Principal) (start : Components) (row : Row) (sum : Summary) → refusal_of (resolve tree who start) ≡ None
-    → filter (λ other. path_eq start other.path) (answer tree who start (λ row depth. true)) ≡ row ∷ [] → sum ≡ total (answer tree who start (λ row depth. true))
-    → ask_reply tree who start stat_ask ≡ Ok (stat_text row sum)
-stat_found tree who start row sum found one is =
-    reply_found tree who start stat_ask found
-    ∙ ap Ok (ap (flat_map (λ r. stat_text r (total (answer tree who start (λ row depth. true))))) one ∙ append-nil (stat_text row (total (answer tree who start (λ row depth. true)))) ∙ ap (stat_text row) (sym is))
-
 -- a directory's row is the one of its path
-pub start_row_at : (tree : List Directory) (shape : HasTreeShape tree) (who : Principal) (start : Components) (d : Directory) (row : Row) → Has tree d → may_list who d ≡ true → d.path ≡ start → row ≡ dir_row d
+start_row_at : (tree : List Directory) (shape : HasTreeShape tree) (who : Principal) (start : Components) (d : Directory) (row : Row) → Has tree d → may_list who d ≡ true → d.path ≡ start → row ≡ dir_row d
     → filter (λ other. path_eq start other.path) (answer tree who start (λ row depth. true)) ≡ row ∷ []
 start_row_at tree shape who start d row there on at is =
     subst (λ s. filter (λ other. path_eq s other.path) (answer tree who s (λ row depth. true)) ≡ row ∷ []) at (start_row tree shape who d there on ∙ ap (λ r. r ∷ []) (sym is))
+
+-- the row of the directory that is found at the start
+row_found : (tree : List Directory) (who : Principal) (start : Components) (id : DirId) (row : Row) → HasTreeShape tree → resolve tree who start ≡ Found id
+    → ((d : Directory) → row ≡ dir_row (get_or tree id.0 d)) → filter (λ other. path_eq start other.path) (answer tree who start (λ row depth. true)) ≡ row ∷ []
+row_found tree who start id row shape found is =
+    let w = found_place_of_start tree who start id shape found in
+    let own = get_or tree id.0 w.dir in
+    let same : own ≡ w.dir = same_from_paths tree own w.dir (distinct tree shape.order) (Has-get_or tree id.0 w.dir w.within) w.there (sym (path_at-get tree id.0 w.dir w.within) ∙ w.path ∙ sym w.at) in
+    start_row_at tree shape who start w.dir row w.there w.on w.at (is w.dir ∙ ap dir_row same)
+
+-- its lines, with the sum of all rows from there
+pub stat_found : (tree seen : List Directory) (who : Principal) (start : Components) (id : DirId) (dir : Directory) (sum : Summary) → HasTreeShape tree → seen ≡ tree → resolve tree who start ≡ Found id
+    → ((d : Directory) → dir ≡ get_or seen id.0 d) → sum ≡ total (answer tree who start (λ row depth. true)) → ask_reply tree who start stat_ask ≡ Ok (stat_text (dir_row dir) sum)
+stat_found tree seen who start id dir sum shape same found at is =
+    let rows : List Row = answer tree who start (λ row depth. true) in
+    let one = row_found tree who start id (dir_row dir) shape found (λ d. ap dir_row (at d ∙ ap (λ (ds : List Directory). get_or ds id.0 d) same)) in
+    reply_found tree who start stat_ask (ap refusal_of found)
+    ∙ ap Ok (ap (flat_map (λ r. stat_text r (total rows))) one ∙ append-nil (stat_text (dir_row dir) (total rows)) ∙ ap (stat_text (dir_row dir)) (sym is))
 
 -- ---- what a reply returned is the one that is given
 
@@ -84,19 +94,6 @@ answer-few tree who start asks =
     let listed = filter-few (λ row. is_listed tree who start (home row)) (all_rows tree) in
     let asked = filter-few (λ row. asks row (depth_below (length start) row)) (listed_rows tree who start) in
     omega (arith, listed, asked)
-
--- the start's place
-pub place_found : (tree : List Directory) (who : Principal) (start : Components) (id : DirId) → HasTreeShape tree → resolve tree who start ≡ Found id → id.0 < length tree
-place_found tree who start id shape found = (found_place_of_start tree who start id shape found).within
-
--- its row
-pub row_found : (tree : List Directory) (who : Principal) (start : Components) (id : DirId) (row : Row) → HasTreeShape tree → resolve tree who start ≡ Found id
-    → ((d : Directory) → row ≡ dir_row (get_or tree id.0 d)) → filter (λ other. path_eq start other.path) (answer tree who start (λ row depth. true)) ≡ row ∷ []
-row_found tree who start id row shape found is =
-    let w = found_place_of_start tree who start id shape found in
-    let own = get_or tree id.0 w.dir in
-    let same : own ≡ w.dir = same_from_paths tree own w.dir (distinct tree shape.order) (Has-get_or tree id.0 w.dir w.within) w.there (sym (path_at-get tree id.0 w.dir w.within) ∙ w.path ∙ sym w.at) in
-    start_row_at tree shape who start w.dir row w.there w.on w.at (is w.dir ∙ ap dir_row same)
 
 -- ---- what is written of it
 

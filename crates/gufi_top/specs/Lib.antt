@@ -7,5 +7,4 @@ pub mod Endings
 pub mod Calls
 pub mod Views
 pub mod Fed
-pub mod Starts
 pub mod Laws

@@ -116,7 +116,7 @@ pub(crate) fn answer_command<R: Threads + Wait + Sync, F: Shelf, G: Gate + Sync>
             delim,
             summary,
             ..
-        } => generate(walkers, alloc, *n, *delim, *summary),
+        } => generate(alloc, *n, *delim, *summary),
         Command::Session { .. } => unreachable!(),
     }
 }

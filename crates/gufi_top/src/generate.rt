@@ -17,13 +17,10 @@ use crate::walk::snapshot_of;
 use gufi_access::{GroupList, Principal};
 use gufi_base::{Memory, Path};
 use gufi_gen::gen_trace;
-use gufi_io::Gate;
 use gufi_snap::Snapshot;
 use gufi_tree::Tree;
-use gufi_walk::{Refusal, Walkers};
+use gufi_walk::Refusal;
 use std::alloc::Global;
-use std::sync::Wait;
-use std::thread::Threads;
 
 /// Under which limit a generated tree is rolled up.
 const LIMIT: u64 = 1000;
@@ -46,8 +43,7 @@ fn root(alloc: Global) -> Result<Path, Memory>
 }
 
 /// The total of a principal, behind his name.
-fn total_of<R: Threads + Wait + Sync, G: Gate + Sync>(
-    walkers: &Walkers<'_, R, G>,
+fn total_of(
     alloc: Global,
     snap: &Snapshot,
     name: &[u8],
@@ -58,7 +54,7 @@ fn total_of<R: Threads + Wait + Sync, G: Gate + Sync>(
 {
     let who = principal_of(alloc, uid, gids)?;
     let start = root(alloc)?;
-    total_for(walkers, alloc, snap, &who, &start, name)
+    total_for(alloc, snap, &who, &start, name)
 }
 
 fn append(out: &mut Vec<u8>, text: &[u8]) -> Result<(), Memory>
@@ -69,8 +65,7 @@ fn append(out: &mut Vec<u8>, text: &[u8]) -> Result<(), Memory>
 }
 
 /// Appends that total.
-fn put_total<R: Threads + Wait + Sync, G: Gate + Sync>(
-    walkers: &Walkers<'_, R, G>,
+fn put_total(
     alloc: Global,
     out: &mut Vec<u8>,
     snap: &Snapshot,
@@ -80,24 +75,19 @@ fn put_total<R: Threads + Wait + Sync, G: Gate + Sync>(
 ) -> Result<(), Refusal>
     ensures { AppendsReply result out.old.items out.new.items (total_for snap.now.tree name.now (principal uid gids.now)) }
 {
-    let text = total_of(walkers, alloc, snap, name, uid, gids)?;
+    let text = total_of(alloc, snap, name, uid, gids)?;
     append(out, &text)?;
     Ok(())
 }
 
 /// The totals of three principals behind a report.
-fn totals_behind<R: Threads + Wait + Sync, G: Gate + Sync>(
-    walkers: &Walkers<'_, R, G>,
-    alloc: Global,
-    snap: &Snapshot,
-    mut report: Vec<u8>,
-) -> Result<Vec<u8>, Refusal>
+fn totals_behind(alloc: Global, snap: &Snapshot, mut report: Vec<u8>) -> Result<Vec<u8>, Refusal>
     requires { report.items ≡ report_text (roll_report snap.now.tree (roll_flags snap.now.tree 1000)) }
     ensures { Replies result (summary_of snap.now.tree) }
 {
-    put_total(walkers, alloc, &mut report, snap, b"0", 0, &[])?;
-    put_total(walkers, alloc, &mut report, snap, b"1001:101", 1001, &[101])?;
-    put_total(walkers, alloc, &mut report, snap, b"1002", 1002, &[])?;
+    put_total(alloc, &mut report, snap, b"0", 0, &[])?;
+    put_total(alloc, &mut report, snap, b"1001:101", 1001, &[101])?;
+    put_total(alloc, &mut report, snap, b"1002", 1002, &[])?;
     Ok(report)
 }
 
@@ -111,18 +101,14 @@ fn report_line(alloc: Global, tree: &Tree) -> Result<Vec<u8>, Memory>
 }
 
 /// What is written of a tree: the report of its roll-up, and the totals of three principals.
-fn summary_of<R: Threads + Wait + Sync, G: Gate + Sync>(
-    walkers: &Walkers<'_, R, G>,
-    alloc: Global,
-    tree: Tree,
-) -> Result<Output, Halt>
+fn summary_of(alloc: Global, tree: Tree) -> Result<Output, Halt>
     ensures text { Gives text_view result (replied (summary_of tree)) }
     ensures of_bytes { IfErr result IsOfBytes }
     ensures past_words { IfErr result IsPastWords }
 {
     let report = report_line(alloc, &tree)?;
     let snap = snapshot_of(alloc, tree, LIMIT)?;
-    let reply = totals_behind(walkers, alloc, &snap, report);
+    let reply = totals_behind(alloc, &snap, report);
     written(alloc, snap, reply)
 }
 
@@ -138,18 +124,13 @@ fn tree_of(alloc: Global, n: u32, delim: u8) -> Result<Tree, Halt>
 
 /// What a run over a generated tree comes to.
 #[tactic(auto, using(crate::proofs::SummaryLemmas::summaries))]
-fn summary<R: Threads + Wait + Sync, G: Gate + Sync>(
-    walkers: &Walkers<'_, R, G>,
-    alloc: Global,
-    n: u32,
-    delim: u8,
-) -> Result<Output, Halt>
+fn summary(alloc: Global, n: u32, delim: u8) -> Result<Output, Halt>
     ensures text { Gives text_view result (summary_over n delim) }
     ensures of_bytes { IfErr result IsOfBytes }
     ensures past_words { IfErr result IsPastWords }
 {
     match tree_of(alloc, n, delim) {
-        Ok(tree) => summary_of(walkers, alloc, tree),
+        Ok(tree) => summary_of(alloc, tree),
         Err(halt) => Err(halt),
     }
 }
@@ -168,19 +149,13 @@ fn trace(alloc: Global, n: u32, delim: u8) -> Result<Output, Halt>
 }
 
 /// What `gen` writes of so many directories: their trace, or, for a summary, what a run over it comes to.
-pub(crate) fn generate<R: Threads + Wait + Sync, G: Gate + Sync>(
-    walkers: &Walkers<'_, R, G>,
-    alloc: Global,
-    n: u32,
-    delim: u8,
-    whole: bool,
-) -> Result<Output, Halt>
+pub(crate) fn generate(alloc: Global, n: u32, delim: u8, whole: bool) -> Result<Output, Halt>
     ensures text { Gives text_view result (gen_verdict n delim whole) }
     ensures of_bytes { IfErr result IsOfBytes }
     ensures past_words { IfErr result IsPastWords }
 {
     if whole {
-        summary(walkers, alloc, n, delim)
+        summary(alloc, n, delim)
     } else {
         trace(alloc, n, delim)
     }

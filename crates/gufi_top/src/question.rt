@@ -195,7 +195,7 @@ impl<'a> Question<'a> {
                 Ok(select) => query_text(walkers, alloc, &snap, who, start, &select),
                 Err(halt) => return Err(halt),
             },
-            Question::Stat => record_text(walkers, alloc, &snap, who, start),
+            Question::Stat => record_text(alloc, &snap, who, start),
             Question::Ls { long, all } => {
                 listing_text(walkers, alloc, &snap, who, start, users, *long, *all)
             }
