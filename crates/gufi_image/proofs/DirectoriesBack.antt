@@ -3,7 +3,7 @@ use Rattle.std.proofs.Common.{◌≡◌, ℕ, zero, suc, ◌+◌, ◌<◌, ◌�
 use Rattle.std.proofs.lemmas.Bool.{ltb-false}
 use Rattle.gufi_base.specs.declared.record.Kind.TheVariants.{Dir}
 use Rattle.gufi_base.specs.declared.record.Rec.{Rec}
-use Rattle.gufi_base.specs.Basics.{last_of}
+use Rattle.gufi_base.specs.Basics.{last_of, ◌>>=◌}
 use Rattle.gufi_base.specs.Paths.{Components}
 use Rattle.gufi_base.specs.Rows.{are_bytes}
 use Rattle.gufi_tree.specs.declared.tree.Entry.{Entry}
@@ -11,7 +11,9 @@ use Rattle.gufi_tree.specs.Tree.{Directory, entry_count}
 use Rattle.gufi_image.specs.declared.directory.Flag.{Flag}
 use Rattle.gufi_image.specs.Bytes.{u8_bytes, u32_bytes, name_image, record_image}
 use Rattle.gufi_image.specs.Image.{parent_number, flag_byte, entries_image, parts_image}
-use Rattle.gufi_image.specs.Directories.{flag_at, Flagged, directory_at}
+use Rattle.gufi_image.specs.Entries.{entries_at}
+use Rattle.gufi_image.specs.Directories.{flag_at, Heading, heading_at, Flagged, with_entries, directory_at}
+use Rattle.gufi_image.proofs.Repeats.{bind_ok}
 use Rattle.gufi_image.proofs.FieldsBack.{refused_ok, ok_same, step, step_by, Reads, reads_from, u8_reader, u32_reader}
 use Rattle.gufi_image.proofs.RecordsBack.{IsRecord, record_reader}
 use Rattle.gufi_image.proofs.EntriesBack.{AreNextEntries, all_entries_reader}
@@ -62,7 +64,7 @@ parts_apart dirs flag path rec entries rest = by (parent_number dirs path) (name
 
 pub directory_back : (total : ℕ) (dirs : List Directory) (dir : Directory) (flag : Bool) (rest : List ℕ) → total < 2 ^ 32 → AreSound dirs → IsNextDirectory total dirs dir
     → (left : ℕ) × (directory_at total dirs (parts_image (parent_number dirs dir.path) flag dir.path dir.rec dir.entries ++ rest) ≡ Ok (record { dir = dir; flag = record { set = flag; left = left } }, rest))
-unfolding directory_at
+unfolding directory_at heading_at
 directory_back total dirs dir flag rest small all h =
     let entries_text = entries_image dir.entries ++ rest in
     let count_text = u32_bytes (length dir.entries) ++ entries_text in
@@ -79,14 +81,17 @@ directory_back total dirs dir flag rest small all h =
 
 pub directory_once : (total : ℕ) (dirs : List Directory) (bytes : List ℕ) (found : Flagged × List ℕ) → AreSound dirs → are_bytes bytes ≡ true → directory_at total dirs bytes ≡ Ok found
     → Reads (λ (f : Flagged). IsNextDirectory total dirs f.dir) (flagged_image dirs) bytes found
-unfolding directory_at
+unfolding directory_at heading_at
 directory_once total dirs bytes found all are e =
-    step (path_reader dirs all) bytes _ found are e (λ path r1 i1 b1 a1 e1.
-    step_by flag_once r1 _ found a1 e1 (λ flag r2 i2 b2 a2 e2.
-    step (record_reader Dir) r2 _ found a2 e2 (λ rec r3 i3 b3 a3 e3.
-    step u32_reader r3 _ found a3 e3 (λ count r4 i4 b4 a4 e4.
-    let few = refused_ok (ltb total (entry_count dirs + count)) _ _ found e4 in
-    step (all_entries_reader path count) r4 _ found a4 few.1 (λ entries rest i5 b5 a5 e5.
+    let head = bind_ok (heading_at total dirs bytes) _ found e in
+    step (path_reader dirs all) bytes _ head.0 are head.1 (λ path r1 i1 b1 a1 e1.
+    step_by flag_once r1 _ head.0 a1 e1 (λ flag r2 i2 b2 a2 e2.
+    step (record_reader Dir) r2 _ head.0 a2 e2 (λ rec r3 i3 b3 a3 e3.
+    step u32_reader r3 _ head.0 a3 e3 (λ count r4 i4 b4 a4 e4.
+    let few = refused_ok (ltb total (entry_count dirs + count)) _ _ head.0 e4 in
+    let own : (record { path = path; rec = rec; flag = flag; count = count }, r4) ≡ head.0 = ok_same _ _ few.1 in
+    let on = subst (λ (h : Heading × List ℕ). (entries_at h.0.count h.0.path h.1 >>= λ es. Ok (with_entries h.0 es.0, es.1)) ≡ Ok found) (sym own) head.2 in
+    step (all_entries_reader path count) r4 _ found a4 on (λ entries rest i5 b5 a5 e5.
     let dir : Directory = record { path = path; rec = rec; entries = entries } in
     let same : (record { dir = dir; flag = flag }, rest) ≡ found = ok_same _ _ e5 in
     let enough = ltb-false total (entry_count dirs + count) few.0 in

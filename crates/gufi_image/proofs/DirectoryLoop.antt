@@ -1,40 +1,146 @@
--- Directories read one after the other.
-use Rattle.std.proofs.Common.{◌≡◌, ℕ, ◌+◌, ◌-◌, ◌<◌, List, [], ◌∷◌, ◌++◌, length, Result, Ok, refl, sym, ap, subst, ◌∙◌, arith}
-use Rattle.gufi_tree.specs.declared.tree.Stored.{Stored}
-use Rattle.gufi_tree.specs.Stored.{directory_of}
+-- Directories read one after the other, from bytes that come in pieces.
+use Rattle.std.proofs.Common.{◌≡◌, ℕ, suc, ◌+◌, ◌-◌, ◌<◌, ◌≤◌, List, [], ◌∷◌, ◌++◌, length, map, length-append, Result, Ok, Err, refl, sym, ap, ◌∙◌, arith}
+use Rattle.std.specs.Prelude.{Option, Some, None}
+use Rattle.std.proofs.lemmas.List.{map-append}
+use Rattle.gufi_base.specs.Basics.{◌>>=◌}
+use Rattle.gufi_tree.specs.declared.tree.Entry.{Entry}
 use Rattle.gufi_tree.specs.Tree.{Directory, entry_count}
 use Rattle.gufi_image.specs.declared.fault.Flaw.{Flaw}
 use Rattle.gufi_image.specs.declared.fault.Refused.{Refused}
+use Rattle.gufi_image.specs.declared.fault.Refused.TheVariants as refusals
 use Rattle.gufi_image.specs.declared.directory.Flag.{Flag}
-use Rattle.gufi_image.specs.declared.directory.Found.{Found}
+use Rattle.gufi_image.specs.declared.directory.Open.{Open}
+use Rattle.gufi_image.specs.declared.head.Head.{Head}
+use Rattle.gufi_image.specs.declared.progress.Directories.{Directories as Kept}
+use Rattle.gufi_image.specs.declared.progress.Progress.{Progress}
 use Rattle.gufi_image.specs.Fields.{Refuses}
-use Rattle.gufi_image.specs.Directories.{Flagged, Front, with_one, one_directory, directory_at}
+use Rattle.gufi_image.specs.Entries.{entries_at, one_entry}
+use Rattle.gufi_image.specs.Directories.{Heading, Flagged, Front, with_entries, with_one, one_directory, directory_at, heading_at}
 use Rattle.gufi_image.specs.Repeated.{repeated}
-use Rattle.gufi_image.specs.Views.{flagged}
-use Rattle.gufi_image.proofs.Repeats.{goes_on, stops, refuses_then}
-use Rattle.gufi_image.proofs.Shape.{count_push}
+use Rattle.gufi_image.specs.Views.{directory_in, heading, headed, nearer, front_near}
+use Rattle.gufi_image.specs.Placed.{IsNext, IsOpen}
+use Rattle.gufi_image.specs.Pieces.{Stops, OnFlaw, UnlessMemory, entries_from, rest_from, rest_with, rest_behind, rest_of, IsRead, IsNextOpen}
+use Rattle.gufi_image.proofs.Longer.{heading_goes}
+use Rattle.gufi_image.proofs.Parents.{parents_push}
+use Rattle.gufi_image.proofs.Shape.{count_push, directories_push}
 
-abbrev pub front_of : List Directory → List Flag → Front
-front_of dirs flags = record { dirs = dirs; flags = flags }
+-- ---- the heading of the next one
 
-pub directory_goes_on : (total : ℕ) (dirs pushed : List Directory) (flags more : List Flag) (found : Found) (count i : ℕ) (bytes after : List ℕ) (whole : Result (Front × List ℕ) Flaw)
-    → pushed ≡ dirs ++ directory_of found.stored ∷ [] → more ≡ flags ++ found.flag ∷ []
-    → i < count → directory_at total dirs bytes ≡ Ok (flagged found, after)
-    → repeated (one_directory total) (count - i) (front_of dirs flags) bytes ≡ whole → repeated (one_directory total) (count - (i + 1)) (front_of pushed more) after ≡ whole
-directory_goes_on total dirs pushed flags more found count i bytes after whole push flag lt h so_far =
-    let next = with_one (front_of dirs flags) (flagged found) in
-    let step : one_directory total (front_of dirs flags) bytes ≡ Ok (next, after) = rw h refl in
-    let is : front_of pushed more ≡ next = ap (λ (ds : List Directory). front_of ds more) push ∙ ap (λ (fs : List Flag). front_of (dirs ++ directory_of found.stored ∷ []) fs) flag in
-    subst (λ (f : Front). repeated (one_directory total) (count - (i + 1)) f after ≡ whole) (sym is) (goes_on (one_directory total) count i (front_of dirs flags) next bytes after whole lt step so_far)
+pub heading_had : (total room : ℕ) (dirs : List Directory) (bytes after : List ℕ) (part kept : Open) → heading_at total dirs bytes ≡ Ok (heading part, after)
+    → kept ≡ record part { flag = record { set = part.flag.set; left = part.flag.left + room } }
+    → (more : List ℕ) → length more ≤ room → heading_at total dirs (bytes ++ more) ≡ Ok (headed (room - length more) kept, after ++ more)
+heading_had total room dirs bytes after part kept h is more within =
+    let left : part.flag.left + length more ≡ part.flag.left + room - (room - length more) = omega (arith, within) in
+    (heading_goes more total dirs bytes).ok (heading part, after) h
+    ∙ ap (λ n. let g : Heading = record { path = part.path; rec = part.rec; flag = record { set = part.flag.set; left = n }; count = part.count } in Ok (g, after ++ more)) left
+    ∙ ap (λ (o : Open). Ok (headed (room - length more) o, after ++ more)) (sym is)
 
-pub directory_stops : (total : ℕ) (e : Refused) (dirs : List Directory) (flags : List Flag) (count i : ℕ) (bytes : List ℕ) (whole : Result (Front × List ℕ) Flaw)
-    → i < count → Refuses e (directory_at total dirs bytes)
-    → repeated (one_directory total) (count - i) (front_of dirs flags) bytes ≡ whole → Refuses e whole
-directory_stops total e dirs flags count i bytes whole lt h so_far =
-    let here : Refuses e (one_directory total (front_of dirs flags) bytes) = refuses_then e (directory_at total dirs bytes) (λ (x : Flagged × List ℕ). Ok (with_one (front_of dirs flags) x.0, x.1)) h in
-    stops (one_directory total) e count i (front_of dirs flags) bytes whole lt here so_far
+pub heading_refused : (total : ℕ) (dirs : List Directory) (bytes : List ℕ) (e : Refused) → Refuses e (heading_at total dirs bytes)
+    → OnFlaw e (λ f. (more : List ℕ) → Stops f more (heading_at total dirs (bytes ++ more)))
+heading_refused total dirs bytes refusals.Memory h = tt
+heading_refused total dirs bytes (refusals.Flaw f) h = λ more only. (heading_goes more total dirs bytes).err f h only
 
-pub counted_more : (dirs pushed : List Directory) (stored : Stored) (so_far len : ℕ) → pushed ≡ dirs ++ directory_of stored ∷ [] → so_far ≡ entry_count dirs → len ≡ length stored.entries.items → so_far + len ≡ entry_count pushed
-counted_more dirs pushed stored so_far len push e f =
-    let more : entry_count pushed ≡ entry_count (dirs ++ directory_of stored ∷ []) = ap (λ (ds : List Directory). entry_count ds) push in
-    omega (arith, more, count_push dirs (directory_of stored), e, f)
+-- ---- what is still to come
+
+module _ (k : ℕ) (head : Head) (before : Kept) where
+  -- behind a heading its entries come
+  pub rest_opened : (part : Open) (bytes after : List ℕ) → length before.stored < head.dirs → heading_at head.entries before.stored bytes ≡ Ok (headed k part, after) → part.entries.items ≡ []
+      → rest_behind k head before None bytes ≡ rest_behind k head before (Some part) after
+  unfolding directory_at entries_at
+  rest_opened part bytes after lt h none =
+      let n = head.dirs - (length before.stored + 1) in
+      let left : head.dirs - length before.stored ≡ suc n = omega arith in
+      let none_yet : part.count - 0 ≡ part.count = omega arith in
+      let own : entries_from part.path part.count part.entries.items after ≡ entries_at part.count part.path after =
+      ap (λ (es : List Entry). entries_from part.path part.count es after) none ∙ ap (λ m. repeated (one_entry part.path) m [] after) none_yet
+      in
+      let all : rest_with head.entries head.dirs k (front_near k before) part (entries_at part.count part.path after) ≡ rest_behind k head before (Some part) after = ap (rest_with head.entries head.dirs k (front_near k before) part) (sym own) in
+      rw (left, h) (by n (entries_at part.count part.path after) (λ es. omega (arith, length-append before.stored ((with_entries (headed k part) es).dir ∷ []))) ∙ all)
+    where
+      closing : List Entry × List ℕ → Result (Flagged × List ℕ) Flaw
+      closing es = Ok (with_entries (headed k part) es.0, es.1)
+
+      pushing : Flagged × List ℕ → Result (Front × List ℕ) Flaw
+      pushing found = Ok (with_one (front_near k before) found.0, found.1)
+
+      going : ℕ → Front × List ℕ → Result (Front × List ℕ) Flaw
+      going n more = repeated (one_directory head.entries) n more.0 more.1
+
+      by : (n : ℕ) (r : Result (List Entry × List ℕ) Flaw) → ((es : List Entry) → n ≡ head.dirs - length (before.stored ++ (with_entries (headed k part) es).dir ∷ []))
+          → (((r >>= closing) >>= pushing) >>= going n) ≡ rest_with head.entries head.dirs k (front_near k before) part r
+      by n (Ok es) count = ap (λ m. repeated (one_directory head.entries) m (with_one (front_near k before) (with_entries (headed k part) es.0)) es.1) (count es.0)
+      by n (Err f) count = refl
+
+  pub unopened_stops : (f : Flaw) (bytes more : List ℕ) → length before.stored < head.dirs → Stops f more (heading_at head.entries before.stored bytes) → Stops f more (rest_behind k head before None bytes)
+  unfolding directory_at
+  unopened_stops f bytes more lt h only =
+      let left : head.dirs - length before.stored ≡ suc (head.dirs - (length before.stored + 1)) = omega arith in
+      let fault = h only in
+      rw (left, fault) refl
+
+  -- behind its last entry the next directory comes
+  pub rest_closed : (part : Open) (pushed : Kept) (bytes : List ℕ) → part.count ≤ length part.entries.items → pushed.stored ≡ before.stored ++ directory_in part ∷ [] → pushed.flags.items ≡ before.flags.items ++ part.flag ∷ []
+      → rest_behind k head before (Some part) bytes ≡ rest_behind k head pushed None bytes
+  rest_closed part pushed bytes whole push flag =
+      let none : part.count - length part.entries.items ≡ 0 = omega arith in
+      let own : entries_from part.path part.count part.entries.items bytes ≡ Ok (part.entries.items, bytes) = rw none refl in
+      let flags : map (nearer k) pushed.flags.items ≡ map (nearer k) before.flags.items ++ nearer k part.flag ∷ [] = ap (map (nearer k)) flag ∙ map-append (nearer k) before.flags.items (part.flag ∷ []) in
+      let more : front_near k pushed ≡ with_one (front_near k before) (with_entries (headed k part) part.entries.items) =
+      ap (λ (ds : List Directory). front_of ds (map (nearer k) pushed.flags.items)) push ∙ ap (front_of (before.stored ++ directory_in part ∷ [])) flags in
+      ap (rest_with head.entries head.dirs k (front_near k before) part) own ∙ ap (λ (f : Front). rest_from head.entries head.dirs f bytes) (sym more)
+    where
+      front_of : List Directory → List Flag → Front
+      front_of dirs flags = record { dirs = dirs; flags = flags }
+
+-- all are read
+pub rest_none : (k : ℕ) (p : Progress) (bytes : List ℕ) → IsRead p → p.head.dirs ≤ length p.directories.stored → rest_of k p bytes ≡ Ok (front_near k p.directories, bytes)
+rest_none k p bytes h whole = by p.part h.part where
+  by : (part : Option Open) → IsNextOpen p.head.dirs p.head.entries p.directories.stored part → rest_behind k p.head p.directories part bytes ≡ Ok (front_near k p.directories, bytes)
+  by None is = let none : p.head.dirs - length p.directories.stored ≡ 0 = omega arith in rw none refl
+  by (Some part) is = absurd (omega (arith, is.0))
+
+-- ---- what was read
+
+pub next_of : (total : ℕ) (dirs : List Directory) (part : Open) → IsOpen total dirs part → IsNext total dirs (directory_in part)
+next_of total dirs part h = record { few = omega (arith, h.few, h.within); kind = h.kind; entries = h.entries; placed = h.placed }
+
+pub closed_read : (p closed : Progress) (part : Open) → IsRead p → IsOpen p.head.entries p.directories.stored part → length p.directories.stored < p.head.dirs
+    → closed.head ≡ p.head → closed.part ≡ None
+    → closed.directories.stored ≡ p.directories.stored ++ directory_in part ∷ [] → closed.directories.parents.items ≡ p.directories.parents.items ++ part.parent ∷ []
+    → closed.directories.entries ≡ p.directories.entries + length part.entries.items → IsRead closed
+closed_read p closed part h o lt same none push grown more =
+    let dirs = p.directories.stored in
+    let dir = directory_in part in
+    let len : length closed.directories.stored ≡ length dirs + 1 = omega (arith, ap (λ (ds : List Directory). length ds) push, length-append dirs (dir ∷ [])) in
+    let next = next_of p.head.entries dirs part o in
+    let counted : entry_count closed.directories.stored ≡ entry_count (dirs ++ dir ∷ []) = ap (λ (ds : List Directory). entry_count ds) push in
+    let all = directories_push (length dirs) p.head.entries dirs closed.directories.stored dir push h.directories next in
+    record {
+      head = rw same h.head;
+      directories = rw (same, len) all;
+      parents = parents_push dirs closed.directories.stored p.directories.parents.items closed.directories.parents.items dir part.parent push grown h.parents next.placed o.parent;
+      count = omega (arith, more, counted, count_push dirs dir, h.count);
+      part = rw (none, same, len) (omega arith);
+    }
+
+-- ---- one reading behind the other
+
+pub unless_map : (r : Result (Unit {0}) Refused) (P Q : Type 0) → (P → Q) → UnlessMemory r P → UnlessMemory r Q
+unless_map (Ok u) P Q f h = f h
+unless_map (Err refusals.Memory) P Q f h = tt
+unless_map (Err (refusals.Flaw d)) P Q f h = f h
+
+pub refusal_map : (e : Refused) (P Q : Flaw → Type 0) → ((f : Flaw) → P f → Q f) → OnFlaw e P → OnFlaw e Q
+refusal_map refusals.Memory P Q then h = tt
+refusal_map (refusals.Flaw f) P Q then h = then f h
+
+-- ---- the directory whose entries are being read
+
+pub few_read : (p : Progress) → IsRead p → length p.directories.stored ≤ p.head.dirs
+few_read p h = by p.part h.part where
+  by : (part : Option Open) → IsNextOpen p.head.dirs p.head.entries p.directories.stored part → length p.directories.stored ≤ p.head.dirs
+  by None is = is
+  by (Some part) is = omega (arith, is.0)
+
+pub rest_at : (k : ℕ) (p : Progress) (part : Option Open) (bytes : List ℕ) → p.part ≡ part → rest_of k p bytes ≡ rest_behind k p.head p.directories part bytes
+rest_at k p part bytes is = ap (λ (o : Option Open). rest_behind k p.head p.directories o bytes) is

@@ -1,33 +1,44 @@
 -- Entries read one after the other.
-use Rattle.std.proofs.Common.{◌≡◌, ℕ, ◌+◌, ◌-◌, ◌<◌, true, false, not, List, [], ◌∷◌, ◌++◌, length, length-append, Result, Ok, refl, sym, ap, subst, ◌∙◌, arith}
+use Rattle.std.proofs.Common.{◌≡◌, ℕ, ◌+◌, ◌-◌, ◌<◌, true, false, not, List, [], ◌∷◌, ◌++◌, length, length-append, Ok, Err, refl, sym, ap, subst, ◌∙◌, arith}
 use Rattle.gufi_base.specs.Basics.{ascends}
+use Rattle.gufi_base.specs.Kinds.{is_dir}
 use Rattle.gufi_base.specs.Paths.{Components}
 use Rattle.gufi_tree.specs.declared.tree.Entry.{Entry}
 use Rattle.gufi_tree.specs.Tree.{entry_cmp}
 use Rattle.gufi_image.specs.declared.fault.Flaw.{Flaw}
 use Rattle.gufi_image.specs.declared.fault.Refused.{Refused}
+use Rattle.gufi_image.specs.declared.fault.Refused.TheVariants as refusals
 use Rattle.gufi_image.specs.Fields.{Refuses}
-use Rattle.gufi_base.specs.Kinds.{is_dir}
-use Rattle.gufi_image.specs.Entries.{follows, entry_at, one_entry, entries_at}
+use Rattle.gufi_image.specs.Entries.{follows, entry_at, one_entry}
 use Rattle.gufi_image.specs.Placed.{AreEntries}
-use Rattle.gufi_image.proofs.Fronts.{push_up, all_push}
+use Rattle.gufi_image.specs.Pieces.{later, Stops, OnFlaw, entries_from}
 use Rattle.gufi_image.specs.Repeated.{repeated}
-use Rattle.gufi_image.proofs.Repeats.{goes_on, stops, refuses_then, counts, bind_ok, pair_first}
+use Rattle.gufi_image.proofs.Fronts.{push_up, all_push}
+use Rattle.gufi_image.proofs.Repeats.{goes_on, stops}
+use Rattle.gufi_image.proofs.Longer.{entry_goes}
 
-pub entry_goes_on : (path : Components) (before seen pushed : List Entry) (count i : ℕ) (bytes after : List ℕ) (entry : Entry) (whole : Result (List Entry × List ℕ) Flaw)
-    → seen ≡ before → i < count → entry_at path seen bytes ≡ Ok (entry, after) → pushed ≡ before ++ entry ∷ []
-    → repeated (one_entry path) (count - i) before bytes ≡ whole → repeated (one_entry path) (count - (i + 1)) pushed after ≡ whole
-entry_goes_on path before seen pushed count i bytes after entry whole same lt h push so_far =
+pub entry_goes_on : (path : Components) (count : ℕ) (before seen pushed : List Entry) (bytes after more : List ℕ) (entry : Entry) → seen ≡ before → length before < count → entry_at path seen bytes ≡ Ok (entry, after) → pushed ≡ before ++ entry ∷ []
+    → entries_from path count before (bytes ++ more) ≡ entries_from path count pushed (after ++ more)
+entry_goes_on path count before seen pushed bytes after more entry same lt h push =
     let own : entry_at path before bytes ≡ Ok (entry, after) = subst (λ (es : List Entry). entry_at path es bytes ≡ Ok (entry, after)) same h in
-    let one : one_entry path before bytes ≡ Ok (before ++ entry ∷ [], after) = rw own refl in
-    rw push (goes_on (one_entry path) count i before (before ++ entry ∷ []) bytes after whole lt one so_far)
+    let longer : entry_at path before (bytes ++ more) ≡ Ok (entry, after ++ more) = (entry_goes more path before bytes).ok (entry, after) own in
+    let one : one_entry path before (bytes ++ more) ≡ Ok (before ++ entry ∷ [], after ++ more) = rw longer refl in
+    let left : count - length pushed ≡ count - (length before + 1) = omega (arith, ap (λ (es : List Entry). length es) push, length-append before (entry ∷ [])) in
+    sym (goes_on (one_entry path) count (length before) before (before ++ entry ∷ []) (bytes ++ more) (after ++ more) _ lt one refl)
+    ∙ ap (λ n. repeated (one_entry path) n (before ++ entry ∷ []) (after ++ more)) (sym left)
+    ∙ ap (λ (es : List Entry). repeated (one_entry path) (count - length pushed) es (after ++ more)) (sym push)
 
-pub entry_stops : (path : Components) (e : Refused) (before seen : List Entry) (count i : ℕ) (bytes : List ℕ) (whole : Result (List Entry × List ℕ) Flaw)
-    → seen ≡ before → i < count → Refuses e (entry_at path seen bytes) → repeated (one_entry path) (count - i) before bytes ≡ whole → Refuses e whole
-entry_stops path e before seen count i bytes whole same lt h so_far =
-    let own : Refuses e (entry_at path before bytes) = subst (λ (es : List Entry). Refuses e (entry_at path es bytes)) same h in
-    let here : Refuses e (one_entry path before bytes) = refuses_then e (entry_at path before bytes) (λ (x : Entry × List ℕ). Ok (before ++ x.0 ∷ [], x.1)) own in
-    stops (one_entry path) e count i before bytes whole lt here so_far
+pub entry_halts : (path : Components) (count : ℕ) (before seen : List Entry) (bytes more : List ℕ) (f : Flaw) → seen ≡ before → length before < count → entry_at path seen bytes ≡ Err f → Stops f more (entries_from path count before (bytes ++ more))
+entry_halts path count before seen bytes more f same lt h only =
+    let own : entry_at path before bytes ≡ Err f = subst (λ (es : List Entry). entry_at path es bytes ≡ Err f) same h in
+    let longer : entry_at path before (bytes ++ more) ≡ Err (later (length more) f) = (entry_goes more path before bytes).err f own only in
+    let one : one_entry path before (bytes ++ more) ≡ Err (later (length more) f) = rw longer refl in
+    stops (one_entry path) (refusals.Flaw (later (length more) f)) count (length before) before (bytes ++ more) _ lt one refl
+
+pub entry_refused : (path : Components) (count : ℕ) (before seen : List Entry) (bytes : List ℕ) (e : Refused) → seen ≡ before → length before < count → Refuses e (entry_at path seen bytes)
+    → OnFlaw e (λ f. (more : List ℕ) → Stops f more (entries_from path count before (bytes ++ more)))
+entry_refused path count before seen bytes refusals.Memory same lt h = tt
+entry_refused path count before seen bytes (refusals.Flaw f) same lt h = λ more. entry_halts path count before seen bytes more f same lt h
 
 -- one entry more
 pub entries_push : (before : List Entry) (entry : Entry) → AreEntries before → follows before entry.name ≡ true → is_dir entry.rec.meta.kind ≡ false → AreEntries (before ++ entry ∷ [])
@@ -42,13 +53,3 @@ entries_push before entry h above kind = record {
 pub one_more : (before seen pushed : List Entry) (entry : Entry) → seen ≡ before → pushed ≡ before ++ entry ∷ [] → AreEntries before → follows seen entry.name ≡ true → is_dir entry.rec.meta.kind ≡ false → AreEntries pushed
 one_more before seen pushed entry same push h above kind =
     subst AreEntries (sym push) (entries_push before entry h (subst (λ (es : List Entry). follows es entry.name ≡ true) same above) kind)
-
--- as many entries as were to be read
-pub entries_count : (count : ℕ) (path : Components) (bytes : List ℕ) (found : List Entry × List ℕ) → entries_at count path bytes ≡ Ok found → length found.0 ≡ count
-unfolding entries_at
-entries_count count path bytes found e = let h = counts (one_entry path) (λ (es : List Entry). length es) each count [] bytes found e in omega (arith, h) where
-  each : (front : List Entry) (rest : List ℕ) (more : List Entry × List ℕ) → one_entry path front rest ≡ Ok more → length more.0 ≡ length front + 1
-  each front rest more h =
-      let one = bind_ok (entry_at path front rest) (λ (x : Entry × List ℕ). Ok (front ++ x.0 ∷ [], x.1)) more h in
-      let same : front ++ one.0.0 ∷ [] ≡ more.0 = pair_first (front ++ one.0.0 ∷ []) one.0.1 more one.2 in
-      ap (λ (es : List Entry). length es) (sym same) ∙ length-append front (one.0.0 ∷ [])

@@ -1,7 +1,7 @@
 -- Flags looked at one after the other.
 use Rattle.std.proofs.Common.{◌≡◌, ℕ, zero, suc, ◌+◌, ◌<◌, ◌≤◌, Bool, true, false, List, [], ◌∷◌, length, map, drop, get_or, Result, Ok, Err, refl, sym, ap, ◌∙◌, arith}
 use Rattle.std.proofs.Math.Seq.{drop-cons}
-use Rattle.std.proofs.lemmas.List.{length-map}
+use Rattle.std.proofs.lemmas.List.{length-map, get_or-map}
 use Rattle.std.proofs.Math.ListN.{drop_of_length-le}
 use Rattle.gufi_base.specs.Basics.{◌>>◌, refuse}
 use Rattle.gufi_tree.specs.Tree.{Directory}
@@ -10,6 +10,7 @@ use Rattle.gufi_roll.specs.CanRoll.{can_roll, roll_flags}
 use Rattle.gufi_image.specs.declared.fault.Flaw.{Flaw}
 use Rattle.gufi_image.specs.declared.fault.ImageKind.TheVariants as kinds
 use Rattle.gufi_image.specs.declared.directory.Flag.{Flag}
+use Rattle.gufi_image.specs.Views.{nearer}
 use Rattle.gufi_image.specs.Reading.{differs, wrong_flag}
 
 rolled_there : (tree : List Directory) (limit : ℕ) (dirs : List Directory) (i : ℕ) (b : Bool) → i < length dirs → get_or (map (λ (d : Directory). can_roll tree limit d.path) dirs) i b ≡ can_roll tree limit (path_at dirs i)
@@ -25,10 +26,13 @@ pub flags_end : (rolls : List Bool) (flags : List Flag) (i : ℕ) (whole : Resul
 flags_end rolls flags i whole le so_far = sym so_far ∙ ap (λ (fs : List Flag). wrong_flag (drop i rolls) fs) (drop_of_length-le flags le) ∙ no_flags (drop i rolls)
 
 -- one flag more
-module _ (tree : List Directory) (limit : ℕ) (flags : List Flag) (i : ℕ) (rolled : Bool) (d : Flag) (whole : Result (Unit {0}) Flaw) (within : i < length tree) (flagged : i < length flags)
-    (rule : rolled ≡ can_roll tree limit (path_at tree i)) (so_far : wrong_flag (drop i (roll_flags tree limit)) (drop i flags) ≡ whole) where
+module _ (k : ℕ) (tree : List Directory) (limit : ℕ) (kept : List Flag) (i : ℕ) (rolled : Bool) (d : Flag) (whole : Result (Unit {0}) Flaw) (within : i < length tree) (flagged : i < length kept)
+    (rule : rolled ≡ can_roll tree limit (path_at tree i)) (so_far : wrong_flag (drop i (roll_flags tree limit)) (drop i (map (nearer k) kept)) ≡ whole) where
+  abbrev flags : List Flag
+  flags = map (nearer k) kept
+
   abbrev flag : Flag
-  flag = get_or flags i d
+  flag = nearer k (get_or kept i d)
 
   next : (refuse (differs flag.set rolled) (record { left = flag.left; kind = kinds.Roll }) >> wrong_flag (drop (i + 1) (roll_flags tree limit)) (drop (i + 1) flags)) ≡ whole
   next =
@@ -40,7 +44,11 @@ module _ (tree : List Directory) (limit : ℕ) (flags : List Flag) (i : ℕ) (ro
       ∙ ap (λ b. b ∷ drop (suc i) rolls) here
       ∙ ap (λ n. rolled ∷ drop n rolls) one
       in
-      let second : drop i flags ≡ flag ∷ drop (i + 1) flags = drop-cons flags i d flagged ∙ ap (λ n. flag ∷ drop n flags) one in
+      let second : drop i flags ≡ flag ∷ drop (i + 1) flags =
+      drop-cons flags i (nearer k d) (omega (arith, flagged, length-map kept (nearer k)))
+      ∙ ap (λ (f : Flag). f ∷ drop (suc i) flags) (get_or-map (nearer k) kept i d (nearer k d) flagged)
+      ∙ ap (λ n. flag ∷ drop n flags) one
+      in
       let both : wrong_flag (drop i rolls) (drop i flags) ≡ wrong_flag (rolled ∷ drop (i + 1) rolls) (flag ∷ drop (i + 1) flags) =
       ap (λ (rs : List Bool). wrong_flag rs (drop i flags)) first ∙ ap (λ (fs : List Flag). wrong_flag (rolled ∷ drop (i + 1) rolls) fs) second
       in

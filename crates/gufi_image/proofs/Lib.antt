@@ -13,10 +13,12 @@ mod ImageBack
 mod Writable
 mod ReadSound
 mod Searches
-mod EntryLoop
 mod Fronts
+mod Longer
+mod EntryLoop
 mod Shape
-mod DirectoryLoop
 mod Parents
+mod DirectoryLoop
+mod ImagePieces
 mod Flags
 mod Worked

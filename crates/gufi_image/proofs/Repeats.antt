@@ -1,5 +1,5 @@
 -- Reading parts one after the other, as a loop does.
-use Rattle.std.proofs.Common.{◌≡◌, ℕ, zero, suc, ◌-◌, ◌+◌, ◌≤◌, ◌<◌, List, Result, Ok, Err, refl, sym, ap, ◌∙◌, arith}
+use Rattle.std.proofs.Common.{◌≡◌, ℕ, suc, ◌-◌, ◌+◌, ◌<◌, List, Result, Ok, Err, refl, sym, ap, ◌∙◌, arith}
 use Rattle.gufi_base.specs.Basics.{◌>>=◌}
 use Rattle.gufi_image.specs.declared.fault.Flaw.{Flaw}
 use Rattle.gufi_image.specs.declared.fault.Refused.{Refused}
@@ -12,16 +12,10 @@ pub bind_ok : {A B : Type 0} (r : Result A Flaw) (f : A → Result B Flaw) (y : 
 bind_ok (Ok x) f y e = (x, refl, e)
 bind_ok (Err d) f y e = absurd cc
 
-abbrev done : {A : Type 0} → A → Result A Flaw
-done x = Ok x
-
 -- a step that was refused, and one that wasn't
 pub refuses_then : {A B : Type 0} (e : Refused) (r : Result A Flaw) (f : A → Result B Flaw) → Refuses e r → Refuses e (r >>= f)
 refuses_then refusals.Memory r f h = tt
 refuses_then {A} (refusals.Flaw d) r f h = ap (λ (x : Result A Flaw). x >>= f) h
-
-pub pair_first : {A B : Type 0} (a : A) (b : B) (p : A × B) → done (a, b) ≡ done p → a ≡ p.0
-pair_first {A} {B} a b p e = let same : (a, b) ≡ p = cc in ap (λ (x : A × B). x.0) same
 
 module _ {S : Type 0} (step : S → List ℕ → Result (S × List ℕ) Flaw) where
   pub goes_on : (count i : ℕ) (front more : S) (bytes after : List ℕ) (whole : Result (S × List ℕ) Flaw) → i < count → step front bytes ≡ Ok (more, after)
@@ -38,19 +32,3 @@ module _ {S : Type 0} (step : S → List ℕ → Result (S × List ℕ) Flaw) wh
       let k : count - i ≡ suc (count - (i + 1)) = omega arith in
       let one : repeated step (count - i) front bytes ≡ Err f = rw (k, h) refl in
       sym so_far ∙ one
-
-  pub is_done : (count i : ℕ) (front : S) (bytes : List ℕ) (whole : Result (S × List ℕ) Flaw) → count ≤ i → repeated step (count - i) front bytes ≡ whole → whole ≡ Ok (front, bytes)
-  is_done count i front bytes whole le so_far =
-      let k : count - i ≡ 0 = omega arith in
-      let one : repeated step (count - i) front bytes ≡ Ok (front, bytes) = rw k refl in
-      sym so_far ∙ one
-
-  -- what each step makes one more is so many more in the end
-  pub counts : (f : S → ℕ) → ((front : S) (bytes : List ℕ) (more : S × List ℕ) → step front bytes ≡ Ok more → f more.0 ≡ f front + 1)
-      → (count : ℕ) (front : S) (bytes : List ℕ) (found : S × List ℕ) → repeated step count front bytes ≡ Ok found → f found.0 ≡ f front + count
-  counts f each zero front bytes found e = let same : found ≡ (front, bytes) = cc in ap (λ (x : S × List ℕ). f x.0) same ∙ omega arith
-  counts f each (suc count) front bytes found e =
-      let one = bind_ok (step front bytes) (λ more. repeated step count more.0 more.1) found e in
-      let here = each front bytes one.0 one.1 in
-      let rest = counts f each count one.0.0 one.0.1 found one.2 in
-      omega (arith, here, rest)

@@ -14,7 +14,7 @@ use Rattle.gufi_image.specs.Image.{entry_image, parts_image, head_image, image_t
 use Rattle.gufi_image.specs.Fields.{meta_at, link_at, record_at}
 use Rattle.gufi_image.specs.Names.{name_at}
 use Rattle.gufi_image.specs.Entries.{entry_at, entries_at}
-use Rattle.gufi_image.specs.Directories.{root_at, below_at, first_at, other_at, path_at, flag_at, directory_at, directories_at}
+use Rattle.gufi_image.specs.Directories.{root_at, below_at, first_at, other_at, path_at, flag_at, heading_at, directory_at, directories_at}
 use Rattle.gufi_image.specs.Reading.{counts_at, version_at, head_at, all_at, snapshot_at, image_means}
 
 abbrev rec : Kind → ℕ → ℕ → ℕ → ℕ → Rec
@@ -44,9 +44,9 @@ folded =
     ∷ []
 
 read_again : image_means (image_text folded 100) ≡ Ok (record { tree = folded; limit = 100 })
-unfolding folded image_text head_image parts_image record_image owner_image size_image times_image u16_bytes u32_bytes u64_bytes entry_image covers keeps_for fresh_uid can_list is_granted class_for image_means snapshot_at all_at head_at version_at counts_at directories_at directory_at path_at first_at other_at below_at root_at flag_at entries_at entry_at name_at record_at meta_at link_at
+unfolding folded image_text head_image parts_image record_image owner_image size_image times_image u16_bytes u32_bytes u64_bytes entry_image covers keeps_for fresh_uid can_list is_granted class_for image_means snapshot_at all_at head_at version_at counts_at directories_at directory_at heading_at path_at first_at other_at below_at root_at flag_at entries_at entry_at name_at record_at meta_at link_at
 read_again = refl
 
 other_flag : image_means (slice_set (image_text folded 100) 29 1) ≡ Err (Fault 29 kinds.Roll)
-unfolding folded image_text head_image parts_image record_image owner_image size_image times_image u16_bytes u32_bytes u64_bytes entry_image covers keeps_for fresh_uid can_list is_granted class_for image_means snapshot_at all_at head_at version_at counts_at directories_at directory_at path_at first_at other_at below_at root_at flag_at entries_at entry_at name_at record_at meta_at link_at
+unfolding folded image_text head_image parts_image record_image owner_image size_image times_image u16_bytes u32_bytes u64_bytes entry_image covers keeps_for fresh_uid can_list is_granted class_for image_means snapshot_at all_at head_at version_at counts_at directories_at directory_at heading_at path_at first_at other_at below_at root_at flag_at entries_at entry_at name_at record_at meta_at link_at
 other_flag = refl

@@ -3,8 +3,10 @@ use Rattle.std.specs.Prelude.{ℕ, ◌+◌, ◌-◌, ◌^◌, Bool, true, not, �
 use Rattle.std.specs.Int.{w8, w32}
 use Rattle.std.specs.Ordering.{is_lt}
 use Rattle.gufi_base.specs.declared.record.Kind.TheVariants.{Dir}
+use Rattle.gufi_base.specs.declared.record.Rec.{Rec}
 use Rattle.gufi_base.specs.Basics.{is_empty, last_of, ◌>>=◌, ◌>>◌}
 use Rattle.gufi_base.specs.Paths.{Components, path_cmp}
+use Rattle.gufi_tree.specs.declared.tree.Entry.{Entry}
 use Rattle.gufi_tree.specs.Tree.{Directory, has_entry_named, entry_count}
 use Rattle.gufi_image.specs.declared.fault.Flaw.{Flaw}
 use Rattle.gufi_image.specs.declared.fault.ImageKind.TheVariants as kinds
@@ -57,21 +59,36 @@ flag_at bytes = do
   wrong (nat_lt 1 byte.0) bytes kinds.Number
   Ok (record { set = byte.0 == 1; left = length bytes }, byte.1)
 
--- a directory with its flag
-pub record Flagged : Type 0 where
-  pub dir : Directory
+-- what stands before the entries of a directory
+pub record Heading : Type 0 where
+  pub path : Components
+  pub rec : Rec
   pub flag : Flag
+  pub count : ℕ
 
--- A directory behind those before it, of which all entries together may be so many.
-unfoldable pub directory_at : ℕ → List Directory → List ℕ → Result (Flagged × List ℕ) Flaw
-directory_at total dirs bytes = do
+-- that of a directory behind those before it, of which all entries together may be so many
+unfoldable pub heading_at : ℕ → List Directory → List ℕ → Result (Heading × List ℕ) Flaw
+heading_at total dirs bytes = do
   path ← path_at dirs bytes
   flag ← flag_at path.1
   rec ← record_at Dir flag.1
   count ← number_at w32 rec.1
   wrong (nat_lt total (entry_count dirs + count.0)) rec.1 kinds.Number
-  entries ← entries_at count.0 path.0 count.1
-  Ok (record { dir = record { path = path.0; rec = rec.0; entries = entries.0 }; flag = flag.0 }, entries.1)
+  Ok (record { path = path.0; rec = rec.0; flag = flag.0; count = count.0 }, count.1)
+
+-- a directory with its flag
+pub record Flagged : Type 0 where
+  pub dir : Directory
+  pub flag : Flag
+
+abbrev pub with_entries : Heading → List Entry → Flagged
+with_entries h entries = record { dir = record { path = h.path; rec = h.rec; entries = entries }; flag = h.flag }
+
+unfoldable pub directory_at : ℕ → List Directory → List ℕ → Result (Flagged × List ℕ) Flaw
+directory_at total dirs bytes = do
+  heading ← heading_at total dirs bytes
+  entries ← entries_at heading.0.count heading.0.path heading.1
+  Ok (with_entries heading.0 entries.0, entries.1)
 
 -- directories with their flags
 pub record Front : Type 0 where

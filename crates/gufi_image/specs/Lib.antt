@@ -12,4 +12,6 @@ pub mod Sorted
 pub mod Views
 pub mod Placed
 pub mod Parts
+pub mod Pieces
+pub mod Reader
 pub mod Laws

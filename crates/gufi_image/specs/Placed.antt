@@ -7,6 +7,7 @@ use Rattle.gufi_base.specs.Paths.{Components, parent_path}
 use Rattle.gufi_tree.specs.declared.tree.Entry.{Entry}
 use Rattle.gufi_tree.specs.Tree.{Directory, dir_cmp, entry_cmp, entry_count, has_dir, has_entry_named, is_kinded, own_rows, HasTreeShape}
 use Rattle.gufi_tree.specs.Places.{path_at}
+use Rattle.gufi_image.specs.declared.directory.Open.{Open}
 use Rattle.gufi_image.specs.Directories.{follows}
 
 -- entries in name order, of which none is a directory
@@ -74,3 +75,12 @@ pub record IsWholeTree (dirs : List Directory) : Type 0 where
   pub shape : HasTreeShape dirs
   pub dirs_fit : length dirs < 2 ^ 32
   pub rows_fit : length (flat_map own_rows dirs) < 2 ^ 32
+
+-- a directory that comes next, of which some entries are read
+pub record IsOpen (total : ℕ) (dirs : List Directory) (part : Open) : Type 0 where
+  pub few : entry_count dirs + part.count ≤ total
+  pub kind : IsTrue (is_dir part.rec.meta.kind)
+  pub placed : IsPlaced dirs part.path
+  pub parent : LiesIn dirs part.path part.parent
+  pub entries : AreEntries part.entries.items
+  pub within : length part.entries.items ≤ part.count

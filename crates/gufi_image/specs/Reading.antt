@@ -52,13 +52,18 @@ pub record Flags : Type 0 where
   pub limit : ℕ
   pub front : Front
 
+-- those of directories that were read behind these counts
+abbrev pub all_from : Counts → Result (Front × List ℕ) Flaw → Result Flags Flaw
+all_from head read = do
+  found ← read
+  refuse (not (entry_count (found.0.dirs) == head.entries)) (record { left = head.left; kind = kinds.Number })
+  wrong (not (is_empty found.1)) found.1 kinds.Trailing
+  Ok (record { limit = head.limit; front = found.0 })
+
 unfoldable pub all_at : List ℕ → Result Flags Flaw
 all_at bytes = do
   head ← head_at bytes
-  found ← directories_at head.0.dirs head.0.entries head.1
-  refuse (not (entry_count (found.0.dirs) == head.0.entries)) (record { left = head.0.left; kind = kinds.Number })
-  wrong (not (is_empty found.1)) found.1 kinds.Trailing
-  Ok (record { limit = head.0.limit; front = found.0 })
+  all_from head.0 (directories_at head.0.dirs head.0.entries head.1)
 
 abbrev pub differs : Bool → Bool → Bool
 differs true rolled = not rolled
@@ -70,11 +75,12 @@ wrong_flag [] flags = Ok tt
 wrong_flag (rolled ∷ rest) [] = Ok tt
 wrong_flag (rolled ∷ rest) (flag ∷ flags) = refuse (differs flag.set rolled) (record { left = flag.left; kind = kinds.Roll }) >> wrong_flag rest flags
 
+-- the snapshot of directories whose flags are those of the rule
+abbrev pub rolled : Flags → Result Snap Flaw
+rolled all = wrong_flag (roll_flags all.front.dirs all.limit) all.front.flags >> Ok (record { tree = all.front.dirs; limit = all.limit })
+
 unfoldable pub snapshot_at : List ℕ → Result Snap Flaw
-snapshot_at bytes = do
-  all ← all_at bytes
-  wrong_flag (roll_flags all.front.dirs all.limit) all.front.flags
-  Ok (record { tree = all.front.dirs; limit = all.limit })
+snapshot_at bytes = all_at bytes >>= rolled
 
 -- the offset of a fault
 abbrev pub fault_in : List ℕ → Flaw → ImageError

@@ -1,25 +1,21 @@
 //! The directories of an image.
 
-ghost use Rattle.std.specs.Prelude.{◌≡◌, ◌++◌, ◌∷◌, [], length, slice_get, None, IsTrue, IfOk, MatchOption};
+ghost use Rattle.std.specs.Prelude.{◌≡◌, ◌<◌, ◌^◌, ◌++◌, ◌∷◌, [], slice_get, None, IsTrue, IfOk, MatchOption};
 ghost use Rattle.gufi_base.specs.Basics.{ascends};
 ghost use Rattle.gufi_tree.specs.Tree.{entry_cmp, entry_count};
-ghost use Rattle.gufi_tree.specs.Stored.{directory_of};
 ghost use Rattle.gufi_image.specs.Fields.{Gives};
-ghost use Rattle.gufi_image.specs.Directories.{root_at, below_at, follows, first_at, other_at, path_at, flag_at, directory_at, directories_at};
+ghost use Rattle.gufi_image.specs.Directories.{root_at, below_at, follows, first_at, other_at, path_at, flag_at, heading_at};
 ghost use Rattle.gufi_image.specs.Sorted.{AreSorted, IsParent};
-ghost use Rattle.gufi_image.specs.Placed.{IsBelow, IsChild, IsPlaced, IsNext, IsAbove, LiesIn, AreDirectories, AreParents};
-ghost use Rattle.gufi_image.specs.Views.{flagged, front};
+ghost use Rattle.gufi_image.specs.Placed.{IsBelow, IsChild, IsPlaced, IsAbove, LiesIn, IsOpen};
+ghost use Rattle.gufi_image.specs.Views.{heading};
 
-use crate::entry::entries_at;
+use crate::entry::room_for;
 use crate::fault::{ImageKind, Refused};
 use crate::fields::{flaw, record_at, u8_at, u32_at};
 use crate::name::{Above, name_at};
-use gufi_base::{Kind, Name, Path, PathRef, text_cmp};
-use gufi_tree::{DirRef, Dirs, Stored, has_entry};
+use gufi_base::{Kind, Name, Path, PathRef, Rec, text_cmp};
+use gufi_tree::{DirRef, Dirs, Entry, has_entry};
 use std::alloc::{AllocError, Global};
-
-/// The fewest bytes of a directory.
-const LEAST_DIRECTORY: usize = 86;
 
 /// A flag, with how many bytes are left from it on.
 #[derive(Clone, Copy)]
@@ -35,21 +31,15 @@ pub(crate) struct Located {
     pub parent: u32,
 }
 
-/// A directory with the place of its parent and its flag.
+/// A directory of which some entries may still be to come, with the place of its parent, its flag and how many entries it has.
 #[derive(Drop)]
-pub(crate) struct Found {
-    pub stored: Stored,
+pub(crate) struct Open {
+    pub path: Path,
+    pub rec: Rec,
+    pub entries: Vec<Entry>,
     pub parent: u32,
     pub flag: Flag,
-}
-
-/// Directories with the places of their parents and their flags, and how many entries they have.
-#[derive(Drop)]
-pub(crate) struct Directories {
-    pub stored: Dirs,
-    pub parents: Vec<u32>,
-    pub flags: Vec<Flag>,
-    pub entries: u32,
+    pub count: u32,
 }
 
 /// The root's empty name.
@@ -182,7 +172,8 @@ fn path_at<'a>(
 
 #[tactic(auto, unfolding(crate::specs::Directories::flag_at))]
 fn flag_at(bytes: &[u8]) -> Result<(Flag, &[u8]), Refused>
-    ensures { Gives (λ x. (x.0, x.1.now)) result (flag_at bytes.now) }
+    ensures gives { Gives (λ x. (x.0, x.1.now)) result (flag_at bytes.now) }
+    ensures left { IfOk result (λ x. x.0.left < 2 ^ 63) }
 {
     let (byte, rest) = u8_at(bytes)?;
     if byte > 1 {
@@ -195,20 +186,21 @@ fn flag_at(bytes: &[u8]) -> Result<(Flag, &[u8]), Refused>
     Ok((flag, rest))
 }
 
-/// A directory behind those before it, which have so many entries of so many in all.
-#[tactic(auto, unfolding(crate::specs::Directories::directory_at))]
-fn directory_at<'a>(
+/// What stands before the entries of a directory behind those before it, which have so many entries of so many in all.
+#[tactic(auto, unfolding(crate::specs::Directories::heading_at))]
+pub(crate) fn heading_at<'a>(
     alloc: Global,
     bytes: &'a [u8],
     before: &Dirs,
     so_far: u32,
     total: u32,
-) -> Result<(Found, &'a [u8]), Refused>
+) -> Result<(Open, &'a [u8]), Refused>
     requires sorted { AreSorted before.now }
     requires so_far { so_far ≡ entry_count before.now }
-    ensures gives { Gives (λ x. (flagged x.0, x.1.now)) result (directory_at total before.now bytes.now) }
-    ensures next { IfOk result (λ x. IsNext total before.now (directory_of x.0.stored)) }
-    ensures parent { IfOk result (λ x. LiesIn before.now x.0.stored.path x.0.parent) }
+    ensures gives { Gives (λ x. (heading x.0, x.1.now)) result (heading_at total before.now bytes.now) }
+    ensures part { IfOk result (λ x. IsOpen total before.now x.0) }
+    ensures none { IfOk result (λ x. x.0.entries.items ≡ []) }
+    ensures left { IfOk result (λ x. x.0.flag.left < 2 ^ 63) }
 {
     let (located, rest) = path_at(alloc, bytes, before)?;
     let Located { path, parent } = located;
@@ -218,57 +210,14 @@ fn directory_at<'a>(
     if count as u64 + so_far as u64 > total as u64 {
         return Err(flaw(counts, ImageKind::Number));
     }
-    let above = Above::of(path.as_path_ref());
-    let (entries, rest) = entries_at(alloc, rest, &above, count)?;
-    let stored = Stored { path, rec, entries };
-    let found = Found {
-        stored,
+    let entries = room_for(alloc, count, rest)?;
+    let part = Open {
+        path,
+        rec,
+        entries,
         parent,
         flag,
+        count,
     };
-    Ok((found, rest))
-}
-
-fn entries_in(dir: &Stored) -> usize
-    ensures { result ≡ length dir.now.entries.items }
-{
-    dir.entries.len()
-}
-
-/// So many directories, in path order, with so many entries in all at most.
-pub(crate) fn directories_at(
-    alloc: Global,
-    bytes: &[u8],
-    count: u32,
-    total: u32,
-) -> Result<(Directories, &[u8]), Refused>
-    ensures gives { Gives (λ x. (front x.0, x.1.now)) result (directories_at count total bytes.now) }
-    ensures entries { IfOk result (λ x. x.0.entries ≡ entry_count x.0.stored) }
-    ensures directories { IfOk result (λ x. AreDirectories count total x.0.stored) }
-    ensures parents { IfOk result (λ x. AreParents x.0.stored x.0.parents.items) }
-{
-    let few = (count as usize).min(bytes.len() / LEAST_DIRECTORY);
-    let mut stored = Dirs::new(alloc);
-    let mut parents = Vec::with_capacity(alloc, few)?;
-    let mut flags = Vec::with_capacity(alloc, few)?;
-    let mut so_far = 0u32;
-    let mut rest = bytes;
-    for _ in 0..count {
-        let (found, after) = directory_at(alloc, rest, &stored, so_far, total)?;
-        so_far += entries_in(&found.stored) as u32;
-        parents.push(found.parent)?;
-        flags.push(found.flag)?;
-        stored.push(alloc, found.stored)?;
-        rest = after;
-    }
-    let entries = so_far;
-    Ok((
-        Directories {
-            stored,
-            parents,
-            flags,
-            entries,
-        },
-        rest,
-    ))
+    Ok((part, rest))
 }

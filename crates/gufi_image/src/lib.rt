@@ -8,13 +8,15 @@ mod directory;
 mod entry;
 mod fault;
 mod fields;
+mod head;
 mod laws;
 mod name;
+mod progress;
 mod put;
 mod reader;
 mod writer;
 
 pub use fault::{ImageError, ImageKind};
 pub use laws::{images_have_one_spelling, written_images_read_back};
-pub use reader::read_image;
+pub use reader::{ImageReader, read_image};
 pub use writer::write_image;

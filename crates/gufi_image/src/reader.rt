@@ -1,38 +1,34 @@
-//! A snapshot from the bytes of its image.
+//! A snapshot from the bytes of its image, which come whole or in pieces.
 
-ghost use Rattle.std.specs.Prelude.{◌≡◌, ◌<◌, ◌≤◌, length, IfOk};
-ghost use Rattle.std.specs.Int.{w16};
-ghost use Rattle.std.specs.Bool.{nat_eq};
-ghost use Rattle.std.specs.List.{starts_with};
-ghost use Rattle.gufi_base.specs.Limits.{max_dirs, max_entries, max_image};
+ghost use Rattle.std.specs.Prelude.{◌≡◌, ◌≤◌, ◌-◌, ◌++◌, [], ℕ, List, length, map, Some, Ok, IfOk, IfErr, OnOk};
+ghost use Rattle.gufi_base.specs.Limits.{max_image};
 ghost use Rattle.gufi_base.specs.Basics.{GivesUnless};
 ghost use Rattle.gufi_tree.specs.Kept.{HasParents};
 ghost use Rattle.gufi_roll.specs.CanRoll.{roll_flags};
-ghost use Rattle.gufi_image.specs.Bytes.{magic};
 ghost use Rattle.gufi_image.specs.Fields.{Gives};
-ghost use Rattle.gufi_image.specs.Reading.{version_at, counts_at, head_at, all_at, snapshot_at, image_means, differs, wrong_flag};
+ghost use Rattle.gufi_image.specs.Reading.{head_at, all_from, rolled, image_means, differs, wrong_flag};
 ghost use Rattle.gufi_image.specs.Placed.{IsWholeTree};
-ghost use Rattle.gufi_image.specs.Parts.{counts, flags_of};
+ghost use Rattle.gufi_image.specs.Parts.{flags_of, counted};
+ghost use Rattle.gufi_image.specs.Views.{nearer, front_near};
+ghost use Rattle.gufi_image.specs.Pieces.{OnFlaw, UnlessMemory, Stops, Alike, Halts, Tells, Fails, IsRead, IsReadBy, IsBegun, rest_of, judged, resume, resumed};
+ghost use Rattle.gufi_image.specs.Reader.{HasRead};
 
-use crate::directory::{Directories, Flag, directories_at};
+use crate::directory::Flag;
 use crate::fault::{Flaw, ImageError, ImageKind, Refused};
-use crate::fields::{flaw, u16_at, u32_at, u64_at};
+use crate::fields::flaw;
+use crate::head::head_at;
+use crate::progress::{Directories, Progress};
 use gufi_snap::Snapshot;
 use gufi_tree::{DirId, tree_of_directories};
 use std::alloc::Global;
+use std::marker::Model;
+use std::mem;
 
-const MAX_DIRS: u32 = 262144;
+/// How many bytes an image may have.
+const MAX_IMAGE: usize = 1_073_741_824;
 
-const MAX_ENTRIES: u32 = 1048576;
-
-/// The counts of the head, and how many bytes are left from the count of entries on.
-#[derive(Clone, Copy)]
-pub(crate) struct Head {
-    pub limit: u64,
-    pub dirs: u32,
-    pub entries: u32,
-    pub left: usize,
-}
+/// How many bytes tell whether an image begins as one does.
+const MARK: usize = 6;
 
 /// All directories with their flags, and the limit.
 #[derive(Drop)]
@@ -41,79 +37,187 @@ pub(crate) struct Parts {
     pub directories: Directories,
 }
 
-fn begins_with_mark(bytes: &[u8]) -> bool
-    ensures { result ≡ starts_with nat_eq bytes.now magic }
+/// The first directory is still to come. So many bytes may still come behind those at hand.
+fn begin<'a>(alloc: Global, rest: &mut &'a [u8], room: usize) -> Result<Progress, Refused>
+    requires room { room ≤ max_image }
+    ensures read { IfOk result IsRead }
+    ensures none { IfOk result IsBegun }
+    ensures head { IfOk result (λ p. (more : List ℕ) → length more ≤ room → Tells rest.old.now more → head_at (rest.old.now ++ more) ≡ Ok (counted (room - length more) p.head, rest.new.now ++ more)) }
+    ensures halts { IfErr result (λ e. OnFlaw e (λ f. (more : List ℕ) → Tells rest.old.now more → Stops f more (head_at (rest.old.now ++ more)))) }
+    ensures rest { IfErr result (λ e. rest.new.now ≡ rest.old.now) }
 {
-    bytes.starts_with(b"GUFIX\0")
+    let (mut head, after) = head_at(*rest)?;
+    head.left += room;
+    *rest = after;
+    Ok(Progress::new(alloc, head))
 }
 
-#[tactic(auto, unfolding(crate::specs::Reading::version_at))]
-fn version_at(bytes: &[u8]) -> Result<(u16, &[u8]), Refused>
-    ensures { Gives (λ x. (x.0, x.1.now)) result (version_at bytes.now) }
+/// Nothing may stand behind the last directory. Where the entries aren't as many as the head says, that comes first, at the end.
+fn end<'a>(progress: &Progress, rest: &mut &'a [u8]) -> Result<(), Refused>
+    requires read { IsRead progress.now }
+    requires whole { progress.now.head.dirs ≤ length progress.now.directories.stored }
+    ensures same { (k : ℕ) (more : List ℕ) → resume k (Some progress.now) (rest.old.now ++ more) ≡ resume k (Some progress.now) (rest.new.now ++ more) }
+    ensures halts { IfErr result (λ e. OnFlaw e (λ f. (k : ℕ) (more : List ℕ) → Stops f more (resume k (Some progress.now) (rest.new.now ++ more)))) }
 {
-    let (version, rest) = u16_at(bytes)?;
-    if version != 1 {
-        return Err(flaw(bytes, ImageKind::Magic));
+    if rest.is_empty() {
+        return Ok(());
     }
-    Ok((version, rest))
+    if progress.directories.entries == progress.head.entries {
+        return Err(flaw(*rest, ImageKind::Trailing));
+    }
+    *rest = &[];
+    Ok(())
 }
 
-#[tactic(auto, unfolding(crate::specs::Reading::counts_at))]
-fn counts_at(bytes: &[u8]) -> Result<(Head, &[u8]), Refused>
-    ensures gives { Gives (λ x. (counts x.0, x.1.now)) result (counts_at bytes.now) }
-    ensures some { IfOk result (λ x. 0 < x.0.dirs) }
-    ensures few { IfOk result (λ x. x.0.dirs ≤ max_dirs) }
-    ensures entries { IfOk result (λ x. x.0.entries ≤ max_entries) }
+/// Reads on to the end of the directories, as far as the bytes go. So many bytes may still come behind those at hand.
+fn read_all<'a>(
+    alloc: Global,
+    room: usize,
+    progress: &mut Progress,
+    rest: &mut &'a [u8],
+) -> Result<(), Refused>
+    requires room { room ≤ max_image }
+    requires read { IsRead progress.old }
+    ensures read { UnlessMemory result (IsRead progress.new) }
+    ensures same { UnlessMemory result (Alike room (resumed (Some progress.old) rest.old.now) (resumed (Some progress.new) rest.new.now)) }
+    ensures halts { IfErr result (λ e. OnFlaw e (Halts room (resumed (Some progress.new) rest.new.now))) }
 {
-    let (limit, from_dirs) = u64_at(bytes)?;
-    let (dirs, from_entries) = u32_at(from_dirs)?;
-    if dirs > MAX_DIRS {
-        return Err(flaw(from_dirs, ImageKind::TooMany { limit: 262144 }));
-    }
-    if dirs == 0 {
-        return Err(flaw(from_dirs, ImageKind::Number));
-    }
-    let (entries, rest) = u32_at(from_entries)?;
-    if entries > MAX_ENTRIES {
-        return Err(flaw(from_entries, ImageKind::TooMany { limit: 1048576 }));
-    }
-    let head = Head {
-        limit,
-        dirs,
-        entries,
-        left: from_entries.len(),
-    };
-    Ok((head, rest))
+    progress.take_directories(alloc, rest, room)?;
+    end(progress, rest)
 }
 
-#[tactic(auto, unfolding(crate::specs::Reading::head_at))]
-fn head_at(bytes: &[u8]) -> Result<(Head, &[u8]), Refused>
-    ensures gives { Gives (λ x. (counts x.0, x.1.now)) result (head_at bytes.now) }
-    ensures some { IfOk result (λ x. 0 < x.0.dirs) }
-    ensures few { IfOk result (λ x. x.0.dirs ≤ max_dirs) }
-    ensures entries { IfOk result (λ x. x.0.entries ≤ max_entries) }
+/// Reads on behind what was read.
+fn read_behind<'a>(
+    alloc: Global,
+    room: usize,
+    mut begun: Progress,
+    progress: &mut Option<Progress>,
+    rest: &mut &'a [u8],
+) -> Result<(), Refused>
+    requires room { room ≤ max_image }
+    requires read { IsRead begun }
+    ensures read { UnlessMemory result (IsReadBy progress.new) }
+    ensures same { UnlessMemory result (Alike room (resumed (Some begun) rest.old.now) (resumed progress.new rest.new.now)) }
+    ensures halts { IfErr result (λ e. OnFlaw e (Halts room (resumed progress.new rest.new.now))) }
 {
-    if !begins_with_mark(bytes) {
-        return Err(flaw(bytes, ImageKind::Magic));
-    }
-    let (_version, rest) = version_at(&bytes[6..])?;
-    counts_at(rest)
+    let taken = read_all(alloc, room, &mut begun, rest);
+    *progress = Some(begun);
+    taken
 }
 
-/// All directories of an image, before their flags are looked at.
-#[tactic(auto, unfolding(crate::specs::Reading::all_at))]
-fn all_at(alloc: Global, bytes: &[u8]) -> Result<Parts, Refused>
-    ensures gives { Gives flags_of result (all_at bytes.now) }
+/// Reads on as far as the bytes go. So many bytes may still come behind those at hand.
+fn read_on<'a>(
+    alloc: Global,
+    room: usize,
+    progress: &mut Option<Progress>,
+    rest: &mut &'a [u8],
+) -> Result<(), Refused>
+    requires room { room ≤ max_image }
+    requires read { IsReadBy progress.old }
+    ensures read { UnlessMemory result (IsReadBy progress.new) }
+    ensures same { UnlessMemory result (Alike room (resumed progress.old rest.old.now) (resumed progress.new rest.new.now)) }
+    ensures halts { IfErr result (λ e. OnFlaw e (Halts room (resumed progress.new rest.new.now))) }
+{
+    match progress.take() {
+        Some(begun) => read_behind(alloc, room, begun, progress, rest),
+        None => {
+            if rest.len() < MARK {
+                return Ok(());
+            }
+            let begun = begin(alloc, rest, room)?;
+            read_behind(alloc, room, begun, progress, rest)
+        }
+    }
+}
+
+/// The offset of a fault, where so many bytes may still come.
+fn fault_at(room: usize, flaw: Flaw) -> ImageError
+    ensures { result ≡ ImageError.Fault (max_image - room - flaw.left) flaw.kind }
+{
+    let offset = MAX_IMAGE.saturating_sub(room).saturating_sub(flaw.left) as u32;
+    let kind = flaw.kind;
+    ImageError::Fault { offset, kind }
+}
+
+/// Keeps the bytes of a field that is cut off.
+fn keep(kept: &mut Vec<u8>, rest: &[u8]) -> Result<(), ImageError>
+    requires { kept.old.items ≡ [] }
+    ensures kept { OnOk result (kept.new.items ≡ rest.now) }
+    ensures err { IfErr result (λ e. e ≡ ImageError.Memory) }
+{
+    match kept.extend_from_slice(rest) {
+        Ok(()) => Ok(()),
+        Err(_) => Err(ImageError::Memory),
+    }
+}
+
+/// Reads on as far as the bytes go, and keeps those of the field that is cut off by their end.
+fn take_bytes(
+    alloc: Global,
+    room: usize,
+    progress: &mut Option<Progress>,
+    kept: &mut Vec<u8>,
+    bytes: &[u8],
+) -> Result<(), ImageError>
+    requires room { room ≤ max_image }
+    requires read { IsReadBy progress.old }
+    requires none { kept.old.items ≡ [] }
+    ensures read { OnOk result (IsReadBy progress.new) }
+    ensures same { OnOk result (Alike room (resumed progress.old bytes.now) (resumed progress.new kept.new.items)) }
+    ensures err { IfErr result (Fails room (resumed progress.old bytes.now)) }
+{
+    let mut rest = bytes;
+    match read_on(alloc, room, progress, &mut rest) {
+        Ok(()) => keep(kept, rest),
+        Err(Refused::Memory) => Err(ImageError::Memory),
+        Err(Refused::Flaw(flaw)) => match flaw.kind {
+            ImageKind::Cut => keep(kept, rest),
+            _ => Err(fault_at(room, flaw)),
+        },
+    }
+}
+
+/// Reads on behind the bytes that are kept. Most pieces are copied behind them, and are then in the processor's caches.
+fn take_piece(
+    alloc: Global,
+    room: usize,
+    progress: &mut Option<Progress>,
+    kept: &mut Vec<u8>,
+    piece: &[u8],
+) -> Result<(), ImageError>
+    requires room { room ≤ max_image }
+    requires read { IsReadBy progress.old }
+    ensures read { OnOk result (IsReadBy progress.new) }
+    ensures same { OnOk result (Alike room (resumed progress.old (kept.old.items ++ piece.now)) (resumed progress.new kept.new.items)) }
+    ensures err { IfErr result (Fails room (resumed progress.old (kept.old.items ++ piece.now))) }
+{
+    if kept.is_empty() {
+        return take_bytes(alloc, room, progress, kept, piece);
+    }
+    let mut bytes = mem::replace(kept, Vec::new(alloc));
+    match bytes.extend_from_slice(piece) {
+        Ok(()) => take_bytes(alloc, room, progress, kept, bytes.as_slice()),
+        Err(_) => Err(ImageError::Memory),
+    }
+}
+
+/// The directories of a whole image, before their flags are looked at.
+fn all_of(progress: Progress, rest: &[u8], room: usize) -> Result<Parts, Refused>
+    requires read { IsRead progress }
+    requires whole { progress.head.dirs ≤ length progress.directories.stored }
+    ensures gives { Gives (flags_of room) result (all_from (counted room progress.head) (Ok (front_near room progress.directories, rest.now))) }
     ensures whole { IfOk result (λ parts. IsWholeTree parts.directories.stored) }
     ensures parents { IfOk result (λ parts. HasParents parts.directories.stored parts.directories.parents.items) }
 {
-    let (head, rest) = head_at(bytes)?;
-    let (directories, rest) = directories_at(alloc, rest, head.dirs, head.entries)?;
+    let Progress {
+        head,
+        directories,
+        ..
+    } = progress;
     if directories.entries != head.entries {
-        return Err(Refused::Flaw(Flaw {
-            left: head.left,
-            kind: ImageKind::Number,
-        }));
+        let left = head.left.saturating_sub(room);
+        let kind = ImageKind::Number;
+        return Err(Refused::Flaw(Flaw { left, kind }));
     }
     if !rest.is_empty() {
         return Err(flaw(rest, ImageKind::Trailing));
@@ -128,9 +232,9 @@ fn differs(flag: bool, rolled: bool) -> bool
     flag != rolled
 }
 
-/// Whether the flags are those of the rule of roll-up.
-fn flags_hold(snap: &Snapshot, flags: &[Flag]) -> Result<(), Refused>
-    ensures { Gives (λ u. u) result (wrong_flag (roll_flags snap.now.tree snap.now.limit) flags.now) }
+/// Whether the flags are those of the rule of roll-up, where the image has so many bytes fewer than one may have.
+fn flags_hold(snap: &Snapshot, flags: &[Flag], room: usize) -> Result<(), Refused>
+    ensures { Gives (λ u. u) result (wrong_flag (roll_flags snap.now.tree snap.now.limit) (map (nearer room) flags.now)) }
 {
     for number in 0..snap.tree().dirs() {
         let place = number as usize;
@@ -139,7 +243,7 @@ fn flags_hold(snap: &Snapshot, flags: &[Flag]) -> Result<(), Refused>
         }
         let flag = flags[place];
         if differs(flag.set, snap.rolled(DirId(number))) {
-            let left = flag.left;
+            let left = flag.left.saturating_sub(room);
             let kind = ImageKind::Roll;
             return Err(Refused::Flaw(Flaw { left, kind }));
         }
@@ -147,37 +251,145 @@ fn flags_hold(snap: &Snapshot, flags: &[Flag]) -> Result<(), Refused>
     Ok(())
 }
 
-/// The snapshot of the image.
-#[tactic(auto, unfolding(crate::specs::Reading::snapshot_at))]
-fn snapshot_at(alloc: Global, bytes: &[u8]) -> Result<Snapshot, Refused>
-    ensures { Gives (λ snap. snap) result (snapshot_at bytes.now) }
+/// The snapshot of directories whose flags are those of the rule.
+fn roll(alloc: Global, parts: Parts, room: usize) -> Result<Snapshot, Refused>
+    requires whole { IsWholeTree parts.directories.stored }
+    requires parents { HasParents parts.directories.stored parts.directories.parents.items }
+    ensures { Gives (λ snap. snap) result (rolled (flags_of room parts)) }
 {
-    let parts = all_at(alloc, bytes)?;
     let limit = parts.limit;
     let directories = parts.directories;
     let flags = directories.flags;
     let tree = tree_of_directories(alloc, directories.stored, directories.parents)?;
     let snap = Snapshot::build_uncounted(alloc, tree, limit)?;
-    flags_hold(&snap, flags.as_slice())?;
+    flags_hold(&snap, flags.as_slice(), room)?;
     Ok(snap)
+}
+
+/// The snapshot of an image that ends with these bytes.
+fn finish_with(
+    alloc: Global,
+    room: usize,
+    mut progress: Progress,
+    bytes: &[u8],
+) -> Result<Snapshot, Refused>
+    requires room { room ≤ max_image }
+    requires read { IsRead progress }
+    ensures { Gives (λ snap. snap) result (judged (counted room progress.head) (rest_of room progress bytes.now)) }
+{
+    let mut rest = bytes;
+    progress.take_directories(alloc, &mut rest, room)?;
+    let parts = all_of(progress, rest, room)?;
+    roll(alloc, parts, room)
+}
+
+/// The snapshot of an image that ends with these bytes, of which nothing or something was read.
+fn finish_from(
+    alloc: Global,
+    room: usize,
+    progress: Option<Progress>,
+    bytes: &[u8],
+) -> Result<Snapshot, Refused>
+    requires room { room ≤ max_image }
+    requires read { IsReadBy progress }
+    ensures { Gives (λ snap. snap) result (resume room progress bytes.now) }
+{
+    match progress {
+        Some(begun) => finish_with(alloc, room, begun, bytes),
+        None => {
+            let mut rest = bytes;
+            let begun = begin(alloc, &mut rest, room)?;
+            finish_with(alloc, room, begun, rest)
+        }
+    }
+}
+
+/// An image that is read in pieces.
+///
+/// Of its bytes it keeps those of the field that is cut off by the end of the last piece. Besides them it takes no more memory than
+/// the snapshot, sixteen bytes for each directory, and what the entries of the directory at hand take.
+#[derive(Drop)]
+pub struct ImageReader {
+    progress: Option<Progress>,
+    kept: Vec<u8>,
+    room: usize,
+    failed: Option<ImageError>,
+}
+
+impl Model for ImageReader {
+    ghost use Rattle.gufi_image.specs.Reader.{Reading};
+
+    ghost Value = { Reading };
+
+    ghost use Rattle.std.specs.Prelude.{◌≤◌};
+    ghost use Rattle.gufi_base.specs.Limits.{max_image};
+    ghost use Rattle.gufi_image.specs.Pieces.{IsReadBy};
+
+    ghost view = { λ r. record { progress = r.progress; kept = r.kept.items; room = r.room; failed = r.failed } };
+
+    ghost invariant = { λ r. (r.room ≤ max_image) × IsReadBy r.progress };
+}
+
+impl ImageReader {
+    /// A reader of an image of which nothing has come.
+    pub fn new(alloc: Global) -> ImageReader
+        ensures { HasRead result [] }
+    {
+        ImageReader {
+            progress: None,
+            kept: Vec::new(alloc),
+            room: MAX_IMAGE,
+            failed: None,
+        }
+    }
+
+    /// Takes the next bytes. After a fault they aren't looked at.
+    pub fn feed(&mut self, alloc: Global, piece: &[u8])
+        // The reader has read the bytes and the piece.
+        ensures { (bytes : List ℕ) → HasRead self.old bytes → HasRead self.new (bytes ++ piece.now) }
+    {
+        if let Some(_) = self.failed {
+            return;
+        }
+        let room = self.room.saturating_sub(piece.len());
+        self.room = room;
+        let taken = take_piece(alloc, room, &mut self.progress, &mut self.kept, piece);
+        if let Err(error) = taken {
+            self.progress = None;
+            self.kept.clear();
+            self.failed = Some(error);
+        }
+    }
+
+    /// The snapshot whose image the bytes are, or the first fault from the left, with its offset.
+    pub fn finish(self, alloc: Global) -> Result<Snapshot, ImageError>
+        ensures { (bytes : List ℕ) → HasRead self bytes → length bytes ≤ max_image → GivesUnless ImageError.Memory result (image_means bytes) }
+    {
+        let ImageReader {
+            progress,
+            kept,
+            room,
+            failed,
+        } = self;
+        if let Some(error) = failed {
+            return Err(error);
+        }
+        match finish_from(alloc, room, progress, kept.as_slice()) {
+            Ok(snap) => Ok(snap),
+            Err(Refused::Memory) => Err(ImageError::Memory),
+            Err(Refused::Flaw(flaw)) => Err(fault_at(room, flaw)),
+        }
+    }
 }
 
 /// The snapshot whose image the bytes are, or the first fault from the left, with its offset.
 ///
-/// One pass over the bytes. No more memory is taken than the snapshot's, sixteen bytes for each directory, and what the entries of
-/// the directory at hand take.
-#[tactic(auto, unfolding(crate::specs::Reading::image_means))]
+/// One pass over the bytes.
 pub fn read_image(alloc: Global, bytes: &[u8]) -> Result<Snapshot, ImageError>
     requires { length bytes.now ≤ max_image }
     ensures { GivesUnless ImageError.Memory result (image_means bytes.now) }
 {
-    match snapshot_at(alloc, bytes) {
-        Ok(snap) => Ok(snap),
-        Err(Refused::Memory) => Err(ImageError::Memory),
-        Err(Refused::Flaw(flaw)) => {
-            let offset = bytes.len().saturating_sub(flaw.left) as u32;
-            let kind = flaw.kind;
-            Err(ImageError::Fault { offset, kind })
-        }
-    }
+    let mut reader = ImageReader::new(alloc);
+    reader.feed(alloc, bytes);
+    reader.finish(alloc)
 }

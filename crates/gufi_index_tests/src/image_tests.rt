@@ -1,4 +1,4 @@
-use gufi_image::{ImageError, ImageKind, read_image, write_image};
+use gufi_image::{ImageError, ImageKind, ImageReader, read_image, write_image};
 use gufi_snap::Snapshot;
 use gufi_trace::read_trace;
 use gufi_tree::build_stanzas;
@@ -183,5 +183,43 @@ fn bytes_that_are_missing_or_left_are_named(rt: HostRuntime) -> Result<(), Fail>
     let mut longer = Vec::from_slice(alloc, lone_image())?;
     longer.push(0)?;
     assert!(rt; fault_in(alloc, longer.as_slice()) == Some((110, ImageKind::Trailing)));
+    Ok(())
+}
+
+/// What an image means that comes in two pieces: its directories, or its fault.
+fn read_in_two(alloc: Global, image: &[u8], place: usize) -> Result<u32, ImageError> {
+    let (front, back) = image.split_at(place.min(image.len()));
+    let mut reader = ImageReader::new(alloc);
+    reader.feed(alloc, front);
+    reader.feed(alloc, back);
+    Ok(reader.finish(alloc)?.tree().dirs())
+}
+
+/// The first place where an image may be cut so that it means something else.
+fn cut_shows(alloc: Global, image: &[u8], means: Result<u32, ImageError>) -> Option<usize> {
+    for place in 0..=image.len() {
+        if read_in_two(alloc, image, place) != means {
+            return Some(place);
+        }
+    }
+    None
+}
+
+#[test]
+fn an_image_may_be_cut_anywhere(rt: HostRuntime) -> Result<(), Fail> {
+    let alloc = rt.alloc();
+    let mut image = wide_image(alloc)?;
+    assert!(rt; cut_shows(alloc, image.as_slice(), Ok(3)) == None);
+    let (offset, kind) = (189, ImageKind::Order);
+    if image.len() > 191 {
+        image[191] = b'c';
+    }
+    assert!(rt;
+        cut_shows(
+            alloc,
+            image.as_slice(),
+            Err(ImageError::Fault { offset, kind })
+        ) == None
+    );
     Ok(())
 }

@@ -5,20 +5,21 @@ use Rattle.std.specs.declared.alloc.Global.{Global}
 use Rattle.std.specs.Io.KnownBytes.{Consumes, IsAtEnd}
 use Rattle.std.proofs.lemmas.List.{take-append-le}
 use Rattle.gufi_io.specs.Files.{Files, IsReadUpTo}
-use Rattle.gufi_base.specs.Basics.{result_map_err, GivesUnless}
+use Rattle.gufi_base.specs.Basics.{◌>>=◌, result_map_err, GivesUnless}
 use Rattle.gufi_base.specs.Limits.{max_image}
 use Rattle.gufi_tree.specs.Tree.{Directory}
 use Rattle.gufi_snap.specs.Snap.{Snap}
 use Rattle.gufi_image.specs.Reading.{image_means}
+use Rattle.gufi_image.specs.Reader.{Reading, HasRead}
 use Rattle.gufi_image.specs.declared.fault.ImageKind.{ImageKind}
 use Rattle.gufi_image.specs.declared.fault.ImageError.TheVariants as errors
 use Rattle.gufi_top.specs.declared.halt.Halt.{Halt}
-use Rattle.gufi_top.specs.Reasons.{held, file_in, trace_in, image_reason, image_within, image_in, rolled_under, traced_in, is_image, index_by, index_in}
+use Rattle.gufi_top.specs.Reasons.{Reason, held, file_in, trace_in, image_reason, image_within, image_in, rolled_under, traced_in, is_image, index_by, index_in}
 use Rattle.gufi_top.specs.Calls.{Gives, GivesOver}
 use Rattle.gufi_top.specs.Views.{bytes_view}
-use Rattle.gufi_top.specs.Fed.{BeginsAs}
+use Rattle.gufi_top.specs.Fed.{BeginsAs, HasReadImage, IsImageFedUpTo}
 use Rattle.gufi_io.proofs.Fronts.{upto_more}
-use Rattle.gufi_top.proofs.ReadingLemmas.{given_as, stays}
+use Rattle.gufi_top.proofs.ReadingLemmas.{held_bytes, given_as, stays}
 use Rattle.gufi_top.proofs.StepLemmas.{over_ok, over_err, given_over}
 
 -- ---- what a file begins with
@@ -51,27 +52,31 @@ pub ruleset fronts = (front_more, begins_long, begins_whole)
 
 -- ---- an image
 
-pub within_ok : (name bytes : List ℕ) (snap : Snap) → GivesUnless errors.Memory (Ok snap) (image_means bytes) → Gives (λ (s : Snap). s) (Ok snap) (image_within name bytes)
-unfolding image_within
-within_ok name bytes snap read = ap (result_map_err (image_reason name)) read
+pub image_from_front : (told : Option Files) (name front : List ℕ) (left : Option (List ℕ)) (reader : Reading) → HasRead reader front → IsReadUpTo told name front left → IsImageFedUpTo told name left reader (length front)
+image_from_front told name front left reader read upto = record { bytes = front; taken = read; count = refl; upto = upto }
 
-pub within_refused : (name bytes : List ℕ) (offset : ℕ) (kind : ImageKind) (r : Result Snap Halt) → GivesUnless errors.Memory (Err (errors.Fault offset kind)) (image_means bytes)
-    → Gives (λ x. x) r (Err (image_reason name (errors.Fault offset kind))) → Gives (λ (s : Snap). s) r (image_within name bytes)
-unfolding image_within
-within_refused name bytes offset kind r read told = given_as (λ s. s) r (image_reason name (errors.Fault offset kind)) _ told (ap (result_map_err (image_reason name)) (read (λ e. absurd cc)))
+-- the file's bytes are within the limit
+image_is : (files : Files) (name bytes : List ℕ) → files name ≡ Some bytes → length bytes ≤ max_image → image_in name files ≡ result_map_err (image_reason name) (image_means bytes)
+unfolding image_in image_within
+image_is files name bytes held short = ap (λ (r : Result (List ℕ) Reason). r >>= image_within name) (held_bytes max_image files name bytes held short)
 
-pub ruleset images = (within_ok, within_refused)
+pub image_ok : (told : Option Files) (name : List ℕ) (reader : Reading) (snap : Snap) → HasReadImage told name reader
+    → ((bytes : List ℕ) → HasRead reader bytes → length bytes ≤ max_image → GivesUnless errors.Memory (Ok snap) (image_means bytes)) → GivesOver told (λ (s : Snap). s) (Ok snap) (image_in name)
+image_ok None name reader snap file read = tt
+image_ok (Some files) name reader snap file read = image_is files name file.0 file.1 file.2 ∙ ap (result_map_err (image_reason name)) (read file.0 file.3 file.2)
 
-pub image_ok : (told : Option Files) (name : List ℕ) (bytes : Vec ℕ Global) (r : Result Snap Halt)
-    → GivesOver told bytes_view (Ok bytes) (file_in max_image name) → Gives (λ (s : Snap). s) r (image_within name bytes.items) → GivesOver told (λ (s : Snap). s) r (image_in name)
-unfolding image_in
-image_ok told name bytes r read given = over_ok told bytes_view (λ s. s) bytes r (file_in max_image name) (λ b files. image_within name b) read (given_over told (λ s. s) r _ given)
+pub image_refused : (told : Option Files) (name : List ℕ) (reader : Reading) (offset : ℕ) (kind : ImageKind) (r : Result Snap Halt) → HasReadImage told name reader
+    → ((bytes : List ℕ) → HasRead reader bytes → length bytes ≤ max_image → GivesUnless errors.Memory (Err (errors.Fault offset kind)) (image_means bytes))
+    → Gives (λ x. x) r (Err (image_reason name (errors.Fault offset kind))) → GivesOver told (λ (s : Snap). s) r (image_in name)
+image_refused None name reader offset kind r file read told = tt
+image_refused (Some files) name reader offset kind r file read told =
+    given_as (λ s. s) r (image_reason name (errors.Fault offset kind)) _ told (image_is files name file.0 file.1 file.2 ∙ ap (result_map_err (image_reason name)) (read file.0 file.3 file.2 (λ e. absurd cc)))
 
 pub image_err : (told : Option Files) (name : List ℕ) (e : Halt) → GivesOver told bytes_view (Err e) (file_in max_image name) → GivesOver told (λ (s : Snap). s) (Err e) (image_in name)
 unfolding image_in
 image_err told name e read = over_err told bytes_view (λ s. s) e (file_in max_image name) (λ b files. image_within name b) read
 
-pub ruleset image_files = (image_ok, image_err)
+pub ruleset images = (image_from_front, image_ok, image_refused, image_err)
 
 -- ---- a trace that is rolled up
 

@@ -72,13 +72,13 @@ abbrev line_reason : List ℕ → TraceError → Reason
 line_reason name e = trace_reason name (of_line e)
 
 -- the file's bytes are within the limit
-held_bytes : (files : Files) (name bytes : List ℕ) → files name ≡ Some bytes → length bytes ≤ max_trace → file_in max_trace name files ≡ Ok bytes
+pub held_bytes : (max : ℕ) (files : Files) (name bytes : List ℕ) → files name ≡ Some bytes → length bytes ≤ max → file_in max name files ≡ Ok bytes
 unfolding file_in
-held_bytes files name bytes held short = rw held (grind (arith, nat_tests))
+held_bytes max files name bytes held short = rw held (grind (arith, nat_tests))
 
 lines_are : (files : Files) (delim : ℕ) (name bytes : List ℕ) → files name ≡ Some bytes → length bytes ≤ max_trace → lines_in delim name files ≡ lines_within delim name bytes
 unfolding lines_in
-lines_are files delim name bytes held short = ap (λ (r : Result (List ℕ) Reason). r >>= lines_within delim name) (held_bytes files name bytes held short)
+lines_are files delim name bytes held short = ap (λ (r : Result (List ℕ) Reason). r >>= lines_within delim name) (held_bytes max_trace files name bytes held short)
 
 pub lines_ok : (told : Option Files) (delim : ℕ) (name : List ℕ) (reader : Reading) (lines : List Line) → HasReadFile told name reader → reader.delim ≡ delim
     → ((stream : List ℕ) → HasRead reader stream → GivesUnless errors.Memory (Ok lines) (trace_lines reader.delim stream)) → GivesOver told (λ ls. ls) (Ok lines) (lines_in delim name)

@@ -1,12 +1,13 @@
 -- Files that are taken as they come.
 use Rattle.std.specs.Prelude.{◌≡◌, ℕ, ◌≤◌, Bool, List, length, ⊤, Option, Some, None, Result}
-use Rattle.gufi_base.specs.Limits.{max_trace}
+use Rattle.gufi_base.specs.Limits.{max_trace, max_image}
 use Rattle.gufi_base.specs.Basics.{◌>>=◌, result_map_err}
 use Rattle.gufi_base.specs.declared.record.Line.{Line}
 use Rattle.gufi_io.specs.Files.{Files}
 use Rattle.gufi_io.specs.Whole.{IsTakenUpTo}
 use Rattle.gufi_trace.specs.TraceText.{trace_lines, of_line}
 use Rattle.gufi_trace.specs.Reader.{Reading, HasRead}
+use Rattle.gufi_image.specs.Reader.{Reading as ImageReading, HasRead as HasReadImageBytes}
 use Rattle.gufi_top.specs.Reasons.{Reason, file_in, trace_reason, is_image}
 
 -- the lines of the bytes of a trace, and those of the trace in a file
@@ -24,6 +25,14 @@ HasReadFile (Some files) name reader = (bytes : List ℕ) × (files name ≡ Som
 -- so many bytes were read of a file, which the reader has read, and these are left
 abbrev pub IsFedUpTo : Option Files → List ℕ → Option (List ℕ) → Reading → ℕ → Type 0
 IsFedUpTo = IsTakenUpTo HasRead
+
+-- the same of a reader of an image
+abbrev pub HasReadImage : Option Files → List ℕ → ImageReading → Type 0
+HasReadImage None name reader = ⊤
+HasReadImage (Some files) name reader = (bytes : List ℕ) × (files name ≡ Some bytes) × (length bytes ≤ max_image) × HasReadImageBytes reader bytes
+
+abbrev pub IsImageFedUpTo : Option Files → List ℕ → Option (List ℕ) → ImageReading → ℕ → Type 0
+IsImageFedUpTo = IsTakenUpTo HasReadImageBytes
 
 -- the file begins as an image does, or doesn't, where its bytes are told
 abbrev pub BeginsAs : Option Files → List ℕ → Bool → Type 0

@@ -5,19 +5,20 @@ ghost use Rattle.gufi_io.specs.Files.{IsReadUpTo};
 ghost use Rattle.gufi_io.specs.Kept.{Keeps};
 ghost use Rattle.gufi_snap.specs.Snap.{Snap};
 ghost use Rattle.gufi_top.specs.Views.{bytes_view};
-ghost use Rattle.gufi_top.specs.Reasons.{held, file_in, image_reason, image_within, image_in, rolled_under, traced_in, is_image, index_in};
+ghost use Rattle.gufi_top.specs.Reasons.{held, file_in, image_reason, image_in, rolled_under, traced_in, is_image, index_in};
 ghost use Rattle.gufi_top.specs.Calls.{Gives, GivesOver, IsOfBytes, IsPastWords, HaltHasCause};
-ghost use Rattle.gufi_top.specs.Fed.{BeginsAs};
+ghost use Rattle.gufi_top.specs.Fed.{BeginsAs, HasReadImage, IsImageFedUpTo};
+ghost use Rattle.gufi_image.specs.Reader.{HasRead};
 
 use crate::halt::{Halt, refused};
 use crate::note;
 use crate::reading::{open_named, rest_of_trace};
 use crate::walk::snapshot_of;
-use gufi_image::{ImageError, ImageKind, read_image};
-use gufi_io::{RestError, Shelf, piece_buffer, read_rest};
+use gufi_image::{ImageError, ImageKind, ImageReader};
+use gufi_io::{RestError, Shelf, TakeBytes, piece_buffer, read_rest};
 use gufi_snap::Snapshot;
 use gufi_tree::Tree;
-use std::alloc::Global;
+use std::alloc::{AllocError, Global};
 
 /// How many bytes an image may have.
 const MAX_IMAGE: u32 = 1_073_741_824;
@@ -64,26 +65,52 @@ fn read_front<F: Shelf>(
     Ok(front)
 }
 
-// The bytes of the image in hand, of which these were read. Each byte is copied once, into memory that grows by doubling.
-#[tactic(auto, using(crate::proofs::ReadingLemmas::reading))]
-fn gather_rest<F: Shelf>(
+// A reader of an image that begins so. A fault waits in it.
+fn image_reader_of(alloc: Global, front: &[u8]) -> ImageReader
+    ensures { HasRead result front.now }
+{
+    let mut reader = ImageReader::new(alloc);
+    reader.feed(alloc, front);
+    reader
+}
+
+// A reader of an image that takes a file. A fault waits in it, since that the file is too long comes before it.
+#[derive(Drop)]
+struct Feed {
+    reader: ImageReader,
+}
+
+impl TakeBytes for Feed {
+    ghost has_taken = { λ _ feed bytes. HasRead feed.reader bytes };
+
+    fn take_piece(&mut self, alloc: Global, piece: &[u8]) -> Result<(), AllocError> {
+        self.reader.feed(alloc, piece);
+        Ok(())
+    }
+}
+
+// Feeds the rest of the file in hand to a reader that has read so many bytes of it, to its end or until it is longer than
+// an image may be.
+#[tactic(auto, using(crate::proofs::ReadingLemmas::file_too_long))]
+fn feed_rest<F: Shelf>(
     alloc: Global,
     shelf: &mut F,
     name: &str,
     room: &mut [u8],
-    mut bytes: Vec<u8>,
-) -> Result<Vec<u8>, Halt>
+    reader: ImageReader,
+    size: usize,
+) -> Result<ImageReader, Halt>
     requires in_hand { IsTrue (F.in_hand shelf.old) }
     requires room { 0 < length room.old }
-    requires upto { IsReadUpTo (F.files shelf.old) name.now bytes.items (F.left shelf.old) }
-    ensures bytes { GivesOver (F.files shelf.old) bytes_view result (file_in max_image name.now) }
-    ensures few { IfOk result (λ bytes. length bytes.items ≤ max_image) }
+    requires fed { IsImageFedUpTo (F.files shelf.old) name.now (F.left shelf.old) reader size }
+    ensures fed { IfOk result (HasReadImage (F.files shelf.old) name.now) }
+    ensures refused { IfErr result (λ e. GivesOver (F.files shelf.old) bytes_view (Err e) (file_in max_image name.now)) }
     ensures past_words { IfErr result IsPastWords }
     ensures cause { IfErr result (HaltHasCause F.Shelf shelf.old shelf.new) }
 {
-    let size = bytes.len();
-    match read_rest(alloc, shelf, name, room, MAX_IMAGE, size, &mut bytes) {
-        Ok(()) => Ok(bytes),
+    let mut feed = Feed { reader };
+    match read_rest(alloc, shelf, name, room, MAX_IMAGE, size, &mut feed) {
+        Ok(()) => Ok(feed.reader),
         Err(RestError::ReadFault) => Err(Halt::ReadFault),
         Err(RestError::TooLong) => refused(6, note::past_limit(alloc, name, MAX_IMAGE)?),
         Err(RestError::Memory) => Err(Halt::Memory),
@@ -103,40 +130,28 @@ fn refuse_field<T>(alloc: Global, name: &str, offset: u32, kind: ImageKind) -> R
     refused(5, note::image_field(alloc, name, offset, kind)?)
 }
 
-// The snapshot whose image the bytes are.
+// The snapshot of the image in hand, of which this front was read. Its bytes are never all in memory.
 #[tactic(auto, using(crate::proofs::IndexLemmas::images))]
-fn snapshot_in(alloc: Global, name: &str, bytes: &[u8]) -> Result<Snapshot, Halt>
-    requires { length bytes.now ≤ max_image }
-    ensures snap { Gives (λ (snap : Snap). snap) result (image_within name.now bytes.now) }
-    ensures of_bytes { IfErr result IsOfBytes }
-    ensures past_words { IfErr result IsPastWords }
-{
-    match read_image(alloc, bytes) {
-        Ok(snap) => Ok(snap),
-        Err(ImageError::Fault { offset, kind }) => refuse_field(alloc, name, offset, kind),
-        Err(ImageError::Memory) => Err(Halt::Memory),
-    }
-}
-
-// The snapshot of the image in hand, of which this front was read. Its bytes are given back before the answer is made.
-#[tactic(auto, using(crate::proofs::IndexLemmas::image_files))]
 fn rest_of_image<F: Shelf>(
     alloc: Global,
     shelf: &mut F,
     name: &str,
     room: &mut [u8],
-    front: Vec<u8>,
+    front: &[u8],
 ) -> Result<Snapshot, Halt>
     requires in_hand { IsTrue (F.in_hand shelf.old) }
     requires room { 0 < length room.old }
-    requires upto { IsReadUpTo (F.files shelf.old) name.now front.items (F.left shelf.old) }
+    requires upto { IsReadUpTo (F.files shelf.old) name.now front.now (F.left shelf.old) }
     ensures snap { GivesOver (F.files shelf.old) (λ (snap : Snap). snap) result (image_in name.now) }
     ensures past_words { IfErr result IsPastWords }
     ensures cause { IfErr result (HaltHasCause F.Shelf shelf.old shelf.new) }
 {
-    match gather_rest(alloc, shelf, name, room, front) {
-        Ok(bytes) => snapshot_in(alloc, name, &bytes),
-        Err(halt) => Err(halt),
+    let reader = image_reader_of(alloc, front);
+    let reader = feed_rest(alloc, shelf, name, room, reader, front.len())?;
+    match reader.finish(alloc) {
+        Ok(snap) => Ok(snap),
+        Err(ImageError::Fault { offset, kind }) => refuse_field(alloc, name, offset, kind),
+        Err(ImageError::Memory) => Err(Halt::Memory),
     }
 }
 
@@ -193,7 +208,7 @@ fn rest_of_index<F: Shelf>(
     ensures cause { IfErr result (HaltHasCause F.Shelf shelf.old shelf.new) }
 {
     if is_image(&front) {
-        rest_of_image(alloc, shelf, name, room, front)
+        rest_of_image(alloc, shelf, name, room, &front)
     } else {
         rest_of_traced(alloc, shelf, name, delim, limit, room, &front)
     }

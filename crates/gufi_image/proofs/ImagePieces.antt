@@ -1,0 +1,155 @@
+-- An image read in pieces.
+use Rattle.std.proofs.Common.{◌≡◌, ℕ, ◌+◌, ◌-◌, ◌≤◌, List, [], ◌∷◌, ◌++◌, length, length-append, append_assoc, Result, Ok, Err, refl, sym, ap, subst, ◌∙◌, arith}
+use Rattle.std.specs.Prelude.{Option, Some, None}
+use Rattle.std.proofs.lemmas.List.{append-nil}
+use Rattle.gufi_base.specs.Limits.{max_image}
+use Rattle.gufi_base.specs.Basics.{result_map_err, GivesUnless}
+use Rattle.gufi_snap.specs.Snap.{Snap}
+use Rattle.gufi_image.specs.declared.fault.Flaw.{Flaw}
+use Rattle.gufi_image.specs.declared.fault.ImageError.{ImageError}
+use Rattle.gufi_image.specs.declared.fault.ImageError.TheVariants as errors
+use Rattle.gufi_image.specs.declared.fault.Refused.{Refused}
+use Rattle.gufi_image.specs.declared.fault.Refused.TheVariants as refusals
+use Rattle.gufi_image.specs.declared.head.Head.{Head}
+use Rattle.gufi_image.specs.declared.progress.Progress.{Progress}
+use Rattle.gufi_image.specs.Fields.{Refuses}
+use Rattle.gufi_image.specs.Directories.{directories_at, one_directory}
+use Rattle.gufi_image.specs.Repeated.{repeated}
+use Rattle.gufi_image.specs.Reading.{Counts, head_at, all_at, snapshot_at, fault_in, image_means}
+use Rattle.gufi_image.specs.Views.{front_near}
+use Rattle.gufi_image.specs.Parts.{counts, counted}
+use Rattle.gufi_image.specs.Pieces.{Stops, OnFlaw, UnlessMemory, Alike, Halts, Tells, Fails, IsRead, IsBegun, rest_of, rest_by, judged, resume, resumed}
+use Rattle.gufi_image.specs.Reader.{Reading, IsGood, HasReadBy, HasRead}
+use Rattle.gufi_image.proofs.Longer.{head_goes}
+use Rattle.gufi_image.proofs.DirectoryLoop.{rest_none}
+
+-- ---- the head
+
+pub head_had : (room : ℕ) (bytes after : List ℕ) (head kept : Head) → head_at bytes ≡ Ok (counts head, after) → kept ≡ record head { left = head.left + room }
+    → (more : List ℕ) → length more ≤ room → Tells bytes more → head_at (bytes ++ more) ≡ Ok (counted (room - length more) kept, after ++ more)
+head_had room bytes after head kept h is more within tells =
+    let left : head.left + length more ≡ head.left + room - (room - length more) = omega (arith, within) in
+    (head_goes more bytes tells).ok (counts head, after) h
+    ∙ ap (λ n. let c : Counts = record { limit = head.limit; dirs = head.dirs; entries = head.entries; left = n } in Ok (c, after ++ more)) left
+    ∙ ap (λ (g : Head). Ok (counted (room - length more) g, after ++ more)) (sym is)
+
+pub head_refused : (bytes : List ℕ) (e : Refused) → Refuses e (head_at bytes) → OnFlaw e (λ f. (more : List ℕ) → Tells bytes more → Stops f more (head_at (bytes ++ more)))
+head_refused bytes refusals.Memory h = tt
+head_refused bytes (refusals.Flaw f) h = λ more tells only. (head_goes more bytes tells).err f h only
+
+pub begun : (k : ℕ) (p : Progress) (bytes after : List ℕ) → IsBegun p → head_at bytes ≡ Ok (counted k p.head, after) → snapshot_at bytes ≡ judged (counted k p.head) (rest_of k p after)
+unfolding snapshot_at all_at directories_at
+begun k p bytes after b h =
+    let part = b.part in
+    let dirs = b.dirs in
+    let flags = b.flags in
+    let none : p.head.dirs ≡ p.head.dirs - 0 = omega arith in
+    rw (h, part, dirs, flags) (ap (λ n. judged (counted k p.head) (repeated (one_directory p.head.entries) n (record { dirs = []; flags = [] }) after)) none)
+
+pub unbegun_stops : (f : Flaw) (bytes more : List ℕ) → Stops f more (head_at bytes) → Stops f more (snapshot_at bytes)
+unfolding snapshot_at all_at
+unbegun_stops f bytes more h only = let fault = h only in rw fault refl
+
+-- ---- the end of the directories
+
+-- ---- the end of the bytes
+
+rest_at_end : (room : ℕ) (p : Progress) (bytes : List ℕ) → rest_of room p bytes ≡ rest_by p bytes (room - 0) []
+rest_at_end room p bytes =
+    let none : room ≡ room - 0 = omega arith in
+    ap (λ k. rest_of k p bytes) none ∙ ap (rest_of (room - 0) p) (sym (append-nil bytes))
+
+fault_at_end : {Y : Type 0} (f : Flaw) (read : Result Y Flaw) → Stops f [] read → read ≡ Err f
+fault_at_end f read h = let none : f.left + 0 ≡ f.left = omega arith in h (λ cut. refl) ∙ ap (λ n. let g : Flaw = record { left = n; kind = f.kind } in Err g) none
+
+pub unfinished : (room : ℕ) (e : Refused) (p q : Progress) (bytes rest : List ℕ) → UnlessMemory (Err e) (Alike room (rest_by p bytes) (rest_by q rest)) → OnFlaw e (Halts room (rest_by q rest))
+    → Refuses e (judged (counted room p.head) (rest_of room p bytes))
+unfinished room refusals.Memory p q bytes rest same halts = tt
+unfinished room (refusals.Flaw f) p q bytes rest same halts =
+    ap (judged (counted room p.head)) (rest_at_end room p bytes ∙ same [] (omega arith) ∙ fault_at_end f _ (halts [] (omega arith)))
+
+pub finished : (room : ℕ) (p q : Progress) (bytes rest : List ℕ) → Alike room (rest_by p bytes) (rest_by q rest) → q.head ≡ p.head → IsRead q → q.head.dirs ≤ length q.directories.stored
+    → judged (counted room p.head) (rest_of room p bytes) ≡ judged (counted room q.head) (Ok (front_near room q.directories, rest))
+finished room p q bytes rest same head h whole =
+    ap (judged (counted room p.head)) (rest_at_end room p bytes ∙ same [] (omega arith) ∙ sym (rest_at_end room q rest) ∙ rest_none room q rest h whole)
+    ∙ ap (λ (g : Head). judged (counted room g) (Ok (front_near room q.directories, rest))) (sym head)
+
+pub begun_at_end : (room : ℕ) (p : Progress) (bytes after : List ℕ) → IsBegun p → ((more : List ℕ) → length more ≤ room → Tells bytes more → head_at (bytes ++ more) ≡ Ok (counted (room - length more) p.head, after ++ more))
+    → snapshot_at bytes ≡ judged (counted room p.head) (rest_of room p after)
+begun_at_end room p bytes after b h =
+    let none : room - 0 ≡ room = omega arith in
+    ap snapshot_at (sym (append-nil bytes)) ∙ begun (room - 0) p (bytes ++ []) (after ++ []) b (h [] (omega arith) (λ short. refl))
+    ∙ ap (λ k. judged (counted k p.head) (rest_of k p (after ++ []))) none ∙ ap (λ (t : List ℕ). judged (counted room p.head) (rest_of room p t)) (append-nil after)
+
+pub unbegun_at_end : (bytes : List ℕ) (e : Refused) → OnFlaw e (λ f. (more : List ℕ) → Tells bytes more → Stops f more (head_at (bytes ++ more))) → Refuses e (snapshot_at bytes)
+unbegun_at_end bytes refusals.Memory h = tt
+unbegun_at_end bytes (refusals.Flaw f) h =
+    ap snapshot_at (sym (append-nil bytes)) ∙ fault_at_end f _ (unbegun_stops f (bytes ++ []) [] (h [] (λ short. refl)))
+
+-- ---- an error
+
+-- ---- pieces
+
+pub none_kept : (kept : List ℕ) → length kept ≡ 0 → kept ≡ []
+none_kept [] e = refl
+none_kept (b ∷ kept) e = absurd (omega (arith, e))
+
+pub fed : (r next : Reading) (piece : List ℕ) → r.failed ≡ None → next.failed ≡ None → next.room ≡ r.room - length piece → Alike next.room (resumed r.progress (r.kept ++ piece)) (resumed next.progress next.kept)
+    → (bytes : List ℕ) → HasRead r bytes → HasRead next (bytes ++ piece)
+fed r next piece none still room same bytes h short =
+    let len = length-append bytes piece in
+    let good : IsGood r bytes = subst (λ (f : Option ImageError). HasReadBy f r bytes) none (h (omega (arith, len, short))) in
+    subst (λ (f : Option ImageError). HasReadBy f next (bytes ++ piece)) (sym still) (record {
+      room = omega (arith, len, short, good.room, room);
+      same = λ more within.
+          let all = length-append piece more in
+          let rest : r.room - length (piece ++ more) ≡ next.room - length more = omega (arith, all, room) in
+          ap snapshot_at (append_assoc bytes piece more)
+          ∙ good.same (piece ++ more) (omega (arith, all, within, room, good.room, len, short))
+          ∙ ap (λ k. resume k r.progress (r.kept ++ (piece ++ more))) rest
+          ∙ ap (resume (next.room - length more) r.progress) (sym (append_assoc r.kept piece more))
+          ∙ same more within;
+    })
+
+pub failed : (r next : Reading) (piece : List ℕ) (e : ImageError) → r.failed ≡ None → next.failed ≡ Some e → next.room ≡ r.room - length piece → Fails next.room (resumed r.progress (r.kept ++ piece)) e
+    → (bytes : List ℕ) → HasRead r bytes → HasRead next (bytes ++ piece)
+unfolding image_means
+failed r next piece errors.Memory none is room fails bytes h short = subst (λ (f : Option ImageError). HasReadBy f next (bytes ++ piece)) (sym is) tt
+failed r next piece (errors.Fault offset kind) none is room fails bytes h short = subst (λ (f : Option ImageError). HasReadBy f next (bytes ++ piece)) (sym is) (λ more fits.
+    let len = length-append bytes piece in
+    let good : IsGood r bytes = subst (λ (f : Option ImageError). HasReadBy f r bytes) none (h (omega (arith, len, short))) in
+    let all = length-append piece more in
+    let whole = length-append (bytes ++ piece) more in
+    let rest : r.room - length (piece ++ more) ≡ next.room - length more = omega (arith, all, room) in
+    let read : snapshot_at ((bytes ++ piece) ++ more) ≡ resumed r.progress (r.kept ++ piece) (next.room - length more) more =
+    ap snapshot_at (append_assoc bytes piece more)
+    ∙ good.same (piece ++ more) (omega (arith, all, room, good.room, len, whole, fits))
+    ∙ ap (λ k. resume k r.progress (r.kept ++ (piece ++ more))) rest
+    ∙ ap (resume (next.room - length more) r.progress) (sym (append_assoc r.kept piece more))
+    in
+    ap (result_map_err (fault_in ((bytes ++ piece) ++ more))) read ∙ fails ((bytes ++ piece) ++ more) more (omega (arith, room, good.room, len, whole, fits)) (omega (arith, room, good.room, len, whole, fits)))
+
+-- the end
+pub finish_failed : (r : Reading) (e : ImageError) → r.failed ≡ Some e → (bytes : List ℕ) → HasRead r bytes → length bytes ≤ max_image → GivesUnless errors.Memory (Err e) (image_means bytes)
+finish_failed r e is bytes h short = by e (subst (λ (f : Option ImageError). HasReadBy f r bytes) is (h short)) where
+  by : (e : ImageError) → HasReadBy (Some e) r bytes → GivesUnless errors.Memory (Err e) (image_means bytes)
+  by errors.Memory was = λ no_memory. absurd (no_memory refl)
+  by (errors.Fault offset kind) was = λ other. let same = append-nil bytes in sym (ap image_means same) ∙ was [] (omega (arith, ap length same, short))
+
+read_all : (r : Reading) (bytes : List ℕ) → r.failed ≡ None → HasRead r bytes → length bytes ≤ max_image → (length bytes + r.room ≡ max_image) × (snapshot_at bytes ≡ resume r.room r.progress r.kept)
+read_all r bytes none h short =
+    let good : IsGood r bytes = subst (λ (f : Option ImageError). HasReadBy f r bytes) none (h short) in
+    let rest : r.room - 0 ≡ r.room = omega arith in
+    (good.room, ap snapshot_at (sym (append-nil bytes)) ∙ good.same [] (omega arith) ∙ ap (λ k. resume k r.progress (r.kept ++ [])) rest ∙ ap (resume r.room r.progress) (append-nil r.kept))
+
+pub finish_ok : (r : Reading) (snap : Snap) → r.failed ≡ None → resume r.room r.progress r.kept ≡ Ok snap → (bytes : List ℕ) → HasRead r bytes → length bytes ≤ max_image → image_means bytes ≡ Ok snap
+unfolding image_means
+finish_ok r snap none is bytes h short = ap (result_map_err (fault_in bytes)) ((read_all r bytes none h short).1 ∙ is)
+
+pub finish_flaw : (r : Reading) (f : Flaw) → r.failed ≡ None → resume r.room r.progress r.kept ≡ Err f → (bytes : List ℕ) → HasRead r bytes → length bytes ≤ max_image
+    → image_means bytes ≡ Err (errors.Fault (max_image - r.room - f.left) f.kind)
+unfolding image_means
+finish_flaw r f none is bytes h short =
+    let all = read_all r bytes none h short in
+    let offset : length bytes - f.left ≡ max_image - r.room - f.left = omega (arith, all.0) in
+    ap (result_map_err (fault_in bytes)) (all.1 ∙ is) ∙ ap (λ n. Err (errors.Fault n f.kind)) offset

@@ -1,0 +1,126 @@
+-- Reading an image whose bytes come in pieces.
+use Rattle.std.specs.Prelude.{◌≡◌, ◌<◌, ◌≤◌, ℕ, ◌+◌, ◌-◌, List, [], ◌++◌, length, Option, Some, None, Result, Ok, Err}
+use Rattle.gufi_base.specs.Limits.{max_dirs, max_entries, max_image}
+use Rattle.gufi_base.specs.Basics.{◌>>=◌, result_map_err}
+use Rattle.gufi_base.specs.Paths.{Components}
+use Rattle.gufi_tree.specs.declared.tree.Entry.{Entry}
+use Rattle.gufi_tree.specs.Tree.{Directory, entry_count}
+use Rattle.gufi_snap.specs.Snap.{Snap}
+use Rattle.gufi_image.specs.declared.fault.Flaw.{Flaw}
+use Rattle.gufi_image.specs.declared.fault.ImageError.{ImageError}
+use Rattle.gufi_image.specs.declared.fault.ImageError.TheVariants as errors
+use Rattle.gufi_image.specs.declared.fault.ImageKind.TheVariants as kinds
+use Rattle.gufi_image.specs.declared.fault.Refused.{Refused}
+use Rattle.gufi_image.specs.declared.fault.Refused.TheVariants as refusals
+use Rattle.gufi_image.specs.declared.head.Head.{Head}
+use Rattle.gufi_image.specs.declared.directory.Open.{Open}
+use Rattle.gufi_image.specs.declared.progress.Directories.{Directories as Kept}
+use Rattle.gufi_image.specs.declared.progress.Progress.{Progress}
+use Rattle.gufi_image.specs.Repeated.{repeated}
+use Rattle.gufi_image.specs.Entries.{one_entry}
+use Rattle.gufi_image.specs.Directories.{Front, with_entries, with_one, one_directory}
+use Rattle.gufi_image.specs.Reading.{Counts, all_from, rolled, snapshot_at, fault_in}
+use Rattle.gufi_image.specs.Placed.{AreDirectories, AreParents, IsOpen}
+use Rattle.gufi_image.specs.Parts.{counted}
+use Rattle.gufi_image.specs.Views.{headed, front_near}
+
+-- ---- faults
+
+-- The same fault, where so many bytes more are left.
+abbrev pub later : ℕ → Flaw → Flaw
+later count f = record { left = f.left + count; kind = f.kind }
+
+-- A fault of bytes is one of the bytes and more, unless more was all that was missing.
+abbrev pub Stops : {Y : Type 0} → Flaw → List ℕ → Result Y Flaw → Type 0
+Stops f more read = (f.kind ≡ kinds.Cut → more ≡ []) → read ≡ Err (later (length more) f)
+
+abbrev pub OnFlaw : Refused → (Flaw → Type 0) → Type 0
+OnFlaw refusals.Memory says = Unit {0}
+OnFlaw (refusals.Flaw f) says = says f
+
+abbrev pub UnlessMemory : Result (Unit {0}) Refused → Type 0 → Type 0
+UnlessMemory (Ok u) says = says
+UnlessMemory (Err refusals.Memory) says = Unit {0}
+UnlessMemory (Err (refusals.Flaw f)) says = says
+
+-- What is read with any more bytes is the same, or has the fault. The longest image that may be has so many more bytes than have come, and
+-- what is read is told how many bytes fewer than that the image has.
+abbrev pub Alike : {Y : Type 0} → ℕ → (ℕ → List ℕ → Y) → (ℕ → List ℕ → Y) → Type 0
+Alike room read again = (more : List ℕ) → length more ≤ room → read (room - length more) more ≡ again (room - length more) more
+
+abbrev pub Halts : {Y : Type 0} → ℕ → (ℕ → List ℕ → Result Y Flaw) → Flaw → Type 0
+Halts room read f = (more : List ℕ) → length more ≤ room → Stops f more (read (room - length more) more)
+
+-- ---- what is still to come
+
+-- the entries of a directory
+abbrev pub entries_from : Components → ℕ → List Entry → List ℕ → Result (List Entry × List ℕ) Flaw
+entries_from path count before bytes = repeated (one_entry path) (count - length before) before bytes
+
+-- directories
+abbrev pub rest_from : ℕ → ℕ → Front → List ℕ → Result (Front × List ℕ) Flaw
+rest_from total count front bytes = repeated (one_directory total) (count - length front.dirs) front bytes
+
+-- directories behind one whose entries these are
+abbrev pub rest_with : ℕ → ℕ → ℕ → Front → Open → Result (List Entry × List ℕ) Flaw → Result (Front × List ℕ) Flaw
+rest_with total count k front part entries = entries >>= λ es. rest_from total count (with_one front (with_entries (headed k part) es.0)) es.1
+
+abbrev pub rest_behind : ℕ → Head → Kept → Option Open → List ℕ → Result (Front × List ℕ) Flaw
+rest_behind k head before None bytes = rest_from head.entries head.dirs (front_near k before) bytes
+rest_behind k head before (Some part) bytes = rest_with head.entries head.dirs k (front_near k before) part (entries_from part.path part.count part.entries.items bytes)
+
+abbrev pub rest_of : ℕ → Progress → List ℕ → Result (Front × List ℕ) Flaw
+rest_of k p bytes = rest_behind k p.head p.directories p.part bytes
+
+abbrev pub rest_by : Progress → List ℕ → ℕ → List ℕ → Result (Front × List ℕ) Flaw
+rest_by p bytes k more = rest_of k p (bytes ++ more)
+
+-- the snapshot of directories that were read behind these counts
+abbrev pub judged : Counts → Result (Front × List ℕ) Flaw → Result Snap Flaw
+judged head read = all_from head read >>= rolled
+
+abbrev pub resume : ℕ → Option Progress → List ℕ → Result Snap Flaw
+resume k None bytes = snapshot_at bytes
+resume k (Some p) bytes = judged (counted k p.head) (rest_of k p bytes)
+
+abbrev pub resumed : Option Progress → List ℕ → ℕ → List ℕ → Result Snap Flaw
+resumed p bytes k more = resume k p (bytes ++ more)
+
+-- six bytes tell whether an image begins as one does
+abbrev pub Tells : List ℕ → List ℕ → Type 0
+Tells bytes more = length bytes < 6 → more ≡ []
+
+-- an error is that of any image that has so many bytes and more
+abbrev pub Fails : ℕ → (ℕ → List ℕ → Result Snap Flaw) → ImageError → Type 0
+Fails room read errors.Memory = Unit {0}
+Fails room read (errors.Fault offset kind) = (bytes more : List ℕ) → length more ≤ room → length bytes + (room - length more) ≡ max_image
+    → result_map_err (fault_in bytes) (read (room - length more) more) ≡ Err (errors.Fault offset kind)
+
+-- ---- what was read
+
+pub record HasFew (head : Head) : Type 0 where
+  pub some : 0 < head.dirs
+  pub few : head.dirs ≤ max_dirs
+  pub entries : head.entries ≤ max_entries
+
+-- so many directories with the one whose entries are being read
+abbrev pub IsNextOpen : ℕ → ℕ → List Directory → Option Open → Type 0
+IsNextOpen count total dirs None = length dirs ≤ count
+IsNextOpen count total dirs (Some part) = (length dirs < count) × IsOpen total dirs part
+
+pub record IsRead (p : Progress) : Type 0 where
+  pub head : HasFew p.head
+  pub directories : AreDirectories (length p.directories.stored) p.head.entries p.directories.stored
+  pub parents : AreParents p.directories.stored p.directories.parents.items
+  pub count : p.directories.entries ≡ entry_count p.directories.stored
+  pub part : IsNextOpen p.head.dirs p.head.entries p.directories.stored p.part
+
+abbrev pub IsReadBy : Option Progress → Type 0
+IsReadBy None = Unit {0}
+IsReadBy (Some p) = IsRead p
+
+-- no directory is read yet
+pub record IsBegun (p : Progress) : Type 0 where
+  pub dirs : p.directories.stored ≡ []
+  pub flags : p.directories.flags.items ≡ []
+  pub part : p.part ≡ None

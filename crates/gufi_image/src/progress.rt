@@ -1,0 +1,190 @@
+//! Directories read one after the other, from bytes that come in pieces.
+
+ghost use Rattle.std.specs.Prelude.{◌≡◌, ◌≤◌, ◌<◌, ◌+◌, ◌-◌, ◌^◌, ◌++◌, ◌∷◌, [], ℕ, List, length, None, Some, Ok, IfOk, IfErr, OnOk};
+ghost use Rattle.gufi_base.specs.Limits.{max_image};
+ghost use Rattle.gufi_tree.specs.Tree.{entry_count};
+ghost use Rattle.gufi_image.specs.Directories.{heading_at};
+ghost use Rattle.gufi_image.specs.Sorted.{AreSorted};
+ghost use Rattle.gufi_image.specs.Placed.{IsOpen};
+ghost use Rattle.gufi_image.specs.Views.{headed, directory_in};
+ghost use Rattle.gufi_image.specs.Pieces.{OnFlaw, UnlessMemory, Stops, Alike, Halts, HasFew, IsRead, IsBegun, rest_behind, rest_of, rest_by};
+
+use crate::directory::{Flag, Open, heading_at};
+use crate::entry::take_entries;
+use crate::fault::Refused;
+use crate::head::Head;
+use crate::name::Above;
+use gufi_base::Memory;
+use gufi_tree::{Dirs, Stored};
+use std::alloc::Global;
+
+/// Directories with the places of their parents and their flags, and how many entries they have.
+///
+/// A flag that is kept has as many bytes left as it would have if the image were as long as one may be.
+#[derive(Drop)]
+pub(crate) struct Directories {
+    pub stored: Dirs,
+    pub parents: Vec<u32>,
+    pub flags: Vec<Flag>,
+    pub entries: u32,
+}
+
+/// The next directory, of which no entry is read yet. So many bytes may still come behind those at hand.
+fn next_open<'a>(
+    alloc: Global,
+    rest: &mut &'a [u8],
+    room: usize,
+    before: &Directories,
+    total: u32,
+) -> Result<Open, Refused>
+    requires room { room ≤ max_image }
+    requires sorted { AreSorted before.now.stored }
+    requires entries { before.now.entries ≡ entry_count before.now.stored }
+    ensures part { IfOk result (IsOpen total before.now.stored) }
+    ensures none { IfOk result (λ dir. dir.entries.items ≡ []) }
+    ensures heading { IfOk result (λ dir. (more : List ℕ) → length more ≤ room → heading_at total before.now.stored (rest.old.now ++ more) ≡ Ok (headed (room - length more) dir, rest.new.now ++ more)) }
+    ensures halts { IfErr result (λ e. OnFlaw e (λ f. (more : List ℕ) → Stops f more (heading_at total before.now.stored (rest.old.now ++ more)))) }
+    ensures rest { IfErr result (λ e. rest.new.now ≡ rest.old.now) }
+{
+    let (mut part, after) = heading_at(alloc, *rest, &before.stored, before.entries, total)?;
+    part.flag.left += room;
+    *rest = after;
+    Ok(part)
+}
+
+impl Directories {
+    fn new(alloc: Global) -> Directories
+        ensures dirs { result.stored ≡ [] }
+        ensures parents { result.parents.items ≡ [] }
+        ensures flags { result.flags.items ≡ [] }
+        ensures entries { result.entries ≡ 0 }
+    {
+        Directories {
+            stored: Dirs::new(alloc),
+            parents: Vec::new(alloc),
+            flags: Vec::new(alloc),
+            entries: 0,
+        }
+    }
+
+    /// Takes one more.
+    fn close(&mut self, alloc: Global, dir: Open) -> Result<(), Memory>
+        requires { self.old.entries + length dir.entries.items < 2 ^ 32 }
+        ensures dirs { OnOk result (self.new.stored ≡ self.old.stored ++ directory_in dir ∷ []) }
+        ensures parents { OnOk result (self.new.parents.items ≡ self.old.parents.items ++ dir.parent ∷ []) }
+        ensures flags { OnOk result (self.new.flags.items ≡ self.old.flags.items ++ dir.flag ∷ []) }
+        ensures entries { OnOk result (self.new.entries ≡ self.old.entries + length dir.entries.items) }
+    {
+        let Open {
+            path,
+            rec,
+            entries,
+            parent,
+            flag,
+            count: _,
+        } = dir;
+        self.entries += entries.len() as u32;
+        self.parents.push(parent)?;
+        self.flags.push(flag)?;
+        let stored = Stored { path, rec, entries };
+        self.stored.push(alloc, stored)?;
+        Ok(())
+    }
+}
+
+/// The directories of an image as far as they are read, and the one whose entries are being read.
+#[derive(Drop)]
+pub(crate) struct Progress {
+    pub head: Head,
+    pub directories: Directories,
+    pub part: Option<Open>,
+}
+
+impl Progress {
+    /// No directory is read yet.
+    pub(crate) fn new(alloc: Global, head: Head) -> Progress
+        requires { HasFew head }
+        ensures read { IsRead result }
+        ensures head { result.head ≡ head }
+        ensures none { IsBegun result }
+    {
+        Progress {
+            head,
+            directories: Directories::new(alloc),
+            part: None,
+        }
+    }
+
+    /// Reads the entries that a directory lacks, and takes it. After a fault it stays the one whose entries are being read.
+    fn fill<'a>(&mut self, alloc: Global, rest: &mut &'a [u8], mut dir: Open) -> Result<(), Refused>
+        requires read { IsRead self.old }
+        requires none { self.old.part ≡ None }
+        requires few { length self.old.directories.stored < self.old.head.dirs }
+        requires part { IsOpen self.old.head.entries self.old.directories.stored dir }
+        ensures head { self.new.head ≡ self.old.head }
+        ensures read { UnlessMemory result (IsRead self.new) }
+        ensures same { UnlessMemory result ((k : ℕ) (more : List ℕ) → rest_behind k self.old.head self.old.directories (Some dir) (rest.old.now ++ more) ≡ rest_of k self.new (rest.new.now ++ more)) }
+        ensures halts { IfErr result (λ e. OnFlaw e (λ f. (k : ℕ) (more : List ℕ) → Stops f more (rest_of k self.new (rest.new.now ++ more)))) }
+        ensures taken { OnOk result (length self.new.directories.stored ≡ length self.old.directories.stored + 1) }
+    {
+        let above = Above::of(dir.path.as_path_ref());
+        match take_entries(alloc, rest, &above, dir.count, &mut dir.entries) {
+            Ok(()) => {
+                self.directories.close(alloc, dir)?;
+                Ok(())
+            }
+            Err(refused) => {
+                self.part = Some(dir);
+                Err(refused)
+            }
+        }
+    }
+
+    /// Reads on to the end of a directory.
+    fn take_directory<'a>(
+        &mut self,
+        alloc: Global,
+        rest: &mut &'a [u8],
+        room: usize,
+    ) -> Result<(), Refused>
+        requires room { room ≤ max_image }
+        requires read { IsRead self.old }
+        requires few { length self.old.directories.stored < self.old.head.dirs }
+        ensures head { self.new.head ≡ self.old.head }
+        ensures read { UnlessMemory result (IsRead self.new) }
+        ensures same { UnlessMemory result (Alike room (rest_by self.old rest.old.now) (rest_by self.new rest.new.now)) }
+        ensures halts { IfErr result (λ e. OnFlaw e (Halts room (rest_by self.new rest.new.now))) }
+        ensures taken { OnOk result (length self.new.directories.stored ≡ length self.old.directories.stored + 1) }
+    {
+        match self.part.take() {
+            Some(part) => self.fill(alloc, rest, part),
+            None => {
+                let part = next_open(alloc, rest, room, &self.directories, self.head.entries)?;
+                self.fill(alloc, rest, part)
+            }
+        }
+    }
+
+    /// Reads all directories that are still to come, as far as the bytes go. So many bytes may still come behind those at hand.
+    ///
+    /// After a fault the rest begins with the directory or the entry that has it.
+    pub(crate) fn take_directories<'a>(
+        &mut self,
+        alloc: Global,
+        rest: &mut &'a [u8],
+        room: usize,
+    ) -> Result<(), Refused>
+        requires room { room ≤ max_image }
+        requires read { IsRead self.old }
+        ensures head { self.new.head ≡ self.old.head }
+        ensures read { UnlessMemory result (IsRead self.new) }
+        ensures same { UnlessMemory result (Alike room (rest_by self.old rest.old.now) (rest_by self.new rest.new.now)) }
+        ensures halts { IfErr result (λ e. OnFlaw e (Halts room (rest_by self.new rest.new.now))) }
+        ensures whole { OnOk result (self.new.head.dirs ≤ length self.new.directories.stored) }
+    {
+        'directories: while self.directories.stored.len() < self.head.dirs as usize {
+            self.take_directory(alloc, rest, room)?;
+        }
+        Ok(())
+    }
+}
