@@ -4,11 +4,11 @@ ghost use Rattle.gufi_base.specs.Limits.{max_image};
 ghost use Rattle.gufi_io.specs.Files.{IsReadUpTo};
 ghost use Rattle.gufi_io.specs.Kept.{Keeps};
 ghost use Rattle.gufi_snap.specs.Snap.{Snap};
+ghost use Rattle.gufi_image.specs.Reader.{HasRead};
 ghost use Rattle.gufi_top.specs.Views.{bytes_view};
 ghost use Rattle.gufi_top.specs.Reasons.{held, file_in, image_reason, image_in, rolled_under, traced_in, is_image, index_in};
 ghost use Rattle.gufi_top.specs.Calls.{Gives, GivesOver, IsOfBytes, IsPastWords, HaltHasCause};
 ghost use Rattle.gufi_top.specs.Fed.{BeginsAs, HasReadImage, IsImageFedUpTo};
-ghost use Rattle.gufi_image.specs.Reader.{HasRead};
 
 use crate::halt::{Halt, refused};
 use crate::note;
