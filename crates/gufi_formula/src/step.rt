@@ -1,8 +1,9 @@
 //! The steps of a formula.
-ghost use Rattle.std.specs.Prelude.{◌≡◌, ◌∷◌, [], MatchOption, drop};
+ghost use Rattle.std.specs.Prelude.{◌≡◌};
 ghost use Rattle.gufi_formula.specs.Steps.{run};
 
 use crate::valuation::Valuation;
+use gufi_base::{behind, split_first};
 
 /// A step towards the truth of a formula, behind its first test, with the truth so far in hand.
 #[derive(Drop)]
@@ -16,31 +17,6 @@ pub enum Step<T> {
     /// The end of an "and" and of an "or".
     BothEnd,
     EitherEnd,
-}
-
-/// The first step, and the others.
-#[inline]
-fn split_first<T>(steps: &[Step<T>]) -> Option<(&Step<T>, &[Step<T>])>
-    ensures { MatchOption result
-        (steps.now ≡ [])
-        (λ cut. steps.now ≡ cut.0.now ∷ cut.1.now) }
-{
-    match steps {
-        [first, others @ ..] => Some((first, others)),
-        [] => None,
-    }
-}
-
-/// The steps behind so many.
-#[inline]
-fn behind<T>(steps: &[Step<T>], count: usize) -> &[Step<T>]
-    ensures { result.now ≡ drop count steps.now }
-{
-    if count > steps.len() {
-        return &[];
-    }
-    let (_, rest) = steps.split_at(count);
-    rest
 }
 
 /// The truth in the end, from that of the first test.
