@@ -37,7 +37,7 @@ read_comparison word =
     else if begins_with 45 word then option_map LessThan (read_u64 (drop 1 word))
     else option_map EqualTo (read_u64 word)
 
--- the unit that a last letter of a size names
+-- the unit that a last letter of a size names: c b k M G
 abbrev pub unit_of : ℕ → Option SizeUnit
 unit_of c =
     if c == 99 then Some Bytes else if c == 98 then Some Blocks else if c == 107 then Some Kibibytes

@@ -14,7 +14,7 @@ use Rattle.gufi_trace.specs.TraceWriting.{trace_text}
 abbrev pub path_within : ℕ → ℕ → Components
 path_within zero i = []
 path_within (suc fuel) zero = []
-path_within (suc fuel) (suc i) = path_within fuel (i / 8) ++ (100 ∷ decimal (suc i)) ∷ []
+path_within (suc fuel) (suc i) = path_within fuel (i / 8) ++ (codes "d" ++ decimal (suc i)) ∷ []
 
 abbrev pub directory_path : ℕ → Components
 directory_path i = path_within i i
@@ -49,7 +49,7 @@ abbrev pub linkless : Meta → Rec
 linkless meta = record { meta = meta; link = [] }
 
 abbrev pub made_file : ℕ → ℕ → Entry
-made_file i j = record { name = 102 ∷ decimal j; rec = linkless (entry_meta i j) }
+made_file i j = record { name = codes "f" ++ decimal j; rec = linkless (entry_meta i j) }
 
 -- directory i with its i mod 5 entries
 abbrev pub made_dir : ℕ → Directory

@@ -4,8 +4,9 @@ use Rattle.std.specs.Int.{w8}
 use Rattle.std.specs.Ordering.{nat_cmp, is_lt}
 use Rattle.std.specs.Cmp.Lexicographic.{slice_cmp}
 use Rattle.gufi_base.specs.declared.record.Kind.{Kind}
+use Rattle.gufi_base.specs.declared.record.Kind.TheVariants.{Dir}
 use Rattle.gufi_base.specs.Basics.{last_of, ◌>>=◌, ◌>>◌}
-use Rattle.gufi_base.specs.Kinds.{kind_of_letter}
+use Rattle.gufi_base.specs.Kinds.{kind_letter, kind_of_letter}
 use Rattle.gufi_base.specs.Paths.{Components}
 use Rattle.gufi_tree.specs.declared.tree.Entry.{Entry}
 use Rattle.gufi_image.specs.declared.fault.Flaw.{Flaw}
@@ -16,7 +17,7 @@ use Rattle.gufi_image.specs.Repeated.{repeated}
 
 -- the type of an entry, which is no directory
 abbrev pub entry_kind : ℕ → Option Kind
-entry_kind letter = if letter == 100 then None else kind_of_letter letter
+entry_kind letter = if letter == kind_letter Dir then None else kind_of_letter letter
 
 -- the name is above that of the last entry before
 abbrev pub follows : List Entry → List ℕ → Bool

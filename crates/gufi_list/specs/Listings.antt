@@ -19,22 +19,25 @@ use Rattle.gufi_users.specs.Users.{name_of_uid, name_of_gid}
 abbrev pub has_bit : ℕ → ℕ → Bool
 has_bit mode bit = bit_at mode bit == 1
 
+-- `-` for a file, and else the letter of its type
 abbrev pub list_letter : Kind → ℕ
 list_letter kind = if is_file kind then 45 else kind_letter kind
 
--- the letter where the bit is set, and else '-'
+-- the letter where the bit is set, and else `-`
 abbrev pub flag : ℕ → ℕ → ℕ → ℕ
 flag mode bit letter = if has_bit mode bit then letter else 45
 
--- the execute place: its bit, a special bit, and the special letters with execute and without
+-- the execute place: x by its bit, or by a special bit one of the special letters, with execute and without
 abbrev pub execute : ℕ → ℕ → ℕ → ℕ → ℕ → ℕ
 execute mode bit special with without =
     if has_bit mode special then (if has_bit mode bit then with else without) else flag mode bit 120
 
+-- r, w, and the execute place
 abbrev pub triple : ℕ → ℕ → ℕ → ℕ → ℕ → List ℕ
 triple mode low special with without =
     flag mode (low + 2) 114 ∷ flag mode (low + 1) 119 ∷ execute mode low special with without ∷ []
 
+-- the letter of the type, and the places of owner, group and others, whose special letters are s and S twice, and t and T
 unfoldable pub mode_text : Meta → List ℕ
 mode_text meta =
     list_letter meta.kind ∷ triple meta.mode 6 11 115 83 ++ triple meta.mode 3 10 115 83 ++ triple meta.mode 0 9 116 84

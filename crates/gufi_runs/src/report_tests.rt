@@ -1,11 +1,6 @@
 //! Worked runs of `stats` and `gen`.
-use crate::tests::{B, check_run, shelf_of, sink_of, words_of};
-use gufi_io::NoGate;
-use gufi_top::gufi_run;
-use std::process::Abort;
-use std::sync::Wait;
+use crate::tests::{B, check_run};
 use std::test::Fail;
-use std::thread::Threads;
 
 const LEVELS: &[u8] = b"level 0 dirs 1 files 0 links 0 others 0 bytes 0
 level 1 dirs 1 files 0 links 0 others 0 bytes 0
@@ -87,27 +82,14 @@ fn trees_are_generated(rt: HostRuntime) -> Result<(), Fail> {
     Ok(())
 }
 
-// What a run without files writes.
-fn written<R: AllocGlobal + Abort + Threads + Wait + Sync>(
-    rt: &R,
-    words: &[&str],
-) -> Result<Vec<u8>, Fail> {
-    let alloc = rt.alloc();
-    let words = words_of(alloc, words)?;
-    let mut shelf = shelf_of(rt, "t", Vec::new(alloc), b"", &[])?;
-    let mut out = sink_of(alloc, &[])?;
-    let mut notes = sink_of(alloc, &[])?;
-    let run = gufi_run(rt, alloc, &words, &mut shelf, &mut out, &mut notes, &NoGate);
-    assert_eq!(rt; run.status, 0);
-    Ok(out.taken().to_vec(alloc)?)
-}
+const RUN_OVER_20_000: &[u8] = b"rolled 17500 of 20000 tops 17500 rows 52500
+0 dirs 20000 files 40000 links 0 others 0 bytes 99980000 size 0 4999 mtime 1699980001 1700000000 uid 1000 1006 gid 100 102
+1001:101 dirs 1333 files 2648 links 0 others 0 bytes 6706736 size 2 4997 mtime 1699991224 1700000000 uid 1000 1006 gid 100 102
+1002 dirs 1291 files 2588 links 0 others 0 bytes 6485716 size 0 4997 mtime 1699987128 1700000000 uid 1000 1006 gid 100 102
+";
 
 #[test]
-fn a_large_summary_comes_again(rt: HostRuntime) -> Result<(), Fail> {
+fn a_large_tree_is_summed_up(rt: HostRuntime) -> Result<(), Fail> {
     let words = ["gen", "--summary", "20000"];
-    let first = written(&rt, &words)?;
-    let second = written(&rt, &words)?;
-    assert!(rt; first.starts_with(b"rolled "));
-    assert_eq!(rt; first, second);
-    Ok(())
+    check_run(&rt, b"", &words, 0, RUN_OVER_20_000, b"")
 }

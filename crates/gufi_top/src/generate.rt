@@ -15,7 +15,7 @@ use crate::rollup::report_of;
 use crate::start::written;
 use crate::walk::snapshot_of;
 use gufi_access::{GroupList, Principal};
-use gufi_base::{Memory, Path};
+use gufi_base::{Memory, Path, put};
 use gufi_gen::gen_trace;
 use gufi_snap::Snapshot;
 use gufi_tree::Tree;
@@ -57,13 +57,6 @@ fn total_of(
     total_for(alloc, snap, &who, &start, name)
 }
 
-fn append(out: &mut Vec<u8>, text: &[u8]) -> Result<(), Memory>
-    ensures { OnOk result (out.new.items ≡ out.old.items ++ text.now) }
-{
-    out.extend_from_slice(text)?;
-    Ok(())
-}
-
 /// Appends that total.
 fn put_total(
     alloc: Global,
@@ -76,7 +69,7 @@ fn put_total(
     ensures { AppendsReply result out.old.items out.new.items (total_for snap.now.tree name.now (principal uid gids.now)) }
 {
     let text = total_of(alloc, snap, name, uid, gids)?;
-    append(out, &text)?;
+    put(out, &text)?;
     Ok(())
 }
 
