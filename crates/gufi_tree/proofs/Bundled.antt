@@ -8,7 +8,7 @@ use Rattle.std.proofs.lemmas.List.Sorted.{IsPermutation-map}
 use Rattle.gufi_tree.specs.declared.dirs.Place.{Place}
 use Rattle.gufi_tree.specs.Tree.{Directory}
 use Rattle.gufi_tree.specs.Bundled.{directories_at, directory_at, no_directory, Keep, Stands}
-use Rattle.gufi_tree.proofs.Packing.{map-same}
+use Rattle.gufi_tree.proofs.GoingOn.{map-same}
 
 -- the directory at a place of a list
 pub directory_found : (lists : List (List Directory)) (places : List Place) (seen bundle : List Directory) (k : ℕ) (p : Place) (found d : Directory) → directories_at lists places ≡ seen → k < length seen

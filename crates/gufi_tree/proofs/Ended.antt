@@ -18,7 +18,7 @@ use Rattle.gufi_base.proofs.Sorting.{IsPermutation-sort_by}
 use Rattle.gufi_base.proofs.Permutations.{IsPermutation-flat_map}
 use Rattle.gufi_base.proofs.SortedOnce.{sort_by-to, same_from_sorted}
 use Rattle.gufi_tree.specs.declared.closed.Begun.{Begun}
-use Rattle.gufi_tree.specs.declared.closed.Placed.{Placed}
+use Rattle.gufi_tree.specs.Packs.{Placed}
 use Rattle.gufi_tree.specs.declared.tree.Entry.{Entry}
 use Rattle.gufi_tree.specs.declared.fault.TreeFault.{TreeFault}
 use Rattle.gufi_tree.specs.Tree.{Directory, entry_row, entry_cmp, own_rows, is_kinded}

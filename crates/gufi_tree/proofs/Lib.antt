@@ -27,5 +27,6 @@ pub mod Numbered
 pub mod Ended
 pub mod Steps
 pub mod Kept
-pub mod Packing
+pub mod GoingOn
+pub mod Waiting
 pub mod Bundled

@@ -11,5 +11,6 @@ pub mod Resolve
 pub mod Reached
 pub mod Listed
 pub mod Bundles
-pub mod Packing
+pub mod GoingOn
+pub mod Packs
 pub mod Bundled

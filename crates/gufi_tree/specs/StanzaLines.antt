@@ -10,7 +10,7 @@ use Rattle.gufi_base.specs.Basics.{ascends, sort_by}
 use Rattle.gufi_base.specs.Kinds.{is_dir}
 use Rattle.gufi_base.specs.Paths.{Components, is_child_of}
 use Rattle.gufi_tree.specs.declared.closed.Begun.{Begun}
-use Rattle.gufi_tree.specs.declared.closed.Placed.{Placed}
+use Rattle.gufi_tree.specs.Packs.{Placed}
 use Rattle.gufi_tree.specs.declared.tree.Entry.{Entry}
 use Rattle.gufi_tree.specs.declared.tree.Stored.{Stored}
 use Rattle.gufi_tree.specs.Tree.{Directory, entry_cmp, own_rows, is_kinded}

@@ -3,7 +3,7 @@
 ghost use Rattle.std.specs.Prelude.{◌≡◌, ◌+◌, ◌<◌, ◌≤◌, length, slice_index_or, All, IsTrue};
 ghost use Rattle.gufi_base.specs.Names.{is_name};
 ghost use Rattle.gufi_tree.specs.declared.tree.Entry.{Entry as SeenEntry};
-ghost use Rattle.gufi_tree.specs.Bundles.{bytes_at, directory_in, entries_in, IsHead, IsPacked};
+ghost use Rattle.gufi_tree.specs.Bundles.{bytes_at, directory_in, entry_in, entries_in, IsHead, IsPacked};
 
 use crate::bundle::{Head, Packed};
 use gufi_base::{Meta, PathRef, RecRef};
@@ -40,6 +40,21 @@ impl<'a> Model for EntryRef<'a> {
 }
 
 impl<'a> EntryRef<'a> {
+    /// The entry that is packed in a text.
+    #[inline]
+    pub(crate) fn of(packed: &'a Packed, text: &'a [u8]) -> EntryRef<'a>
+        requires { IsPacked text.now packed.now }
+        ensures { result ≡ entry_in text.now packed.now }
+    {
+        let name = packed.name as usize;
+        let at = packed.at as usize;
+        EntryRef {
+            name: bytes_at(text, at, name),
+            meta: &packed.meta,
+            link: bytes_at(text, at + name, packed.link as usize),
+        }
+    }
+
     /// The bytes of its name.
     #[inline]
     pub fn name(&self) -> &'a [u8]
@@ -93,15 +108,7 @@ impl<'a> EntriesRef<'a> {
         ensures { (e : SeenEntry) → result ≡ slice_index_or self.now place e }
     {
         let rows = self.rows;
-        let text = self.text;
-        let packed = &rows[place];
-        let name = packed.name as usize;
-        let at = packed.at as usize;
-        EntryRef {
-            name: bytes_at(text, at, name),
-            meta: &packed.meta,
-            link: bytes_at(text, at + name, packed.link as usize),
-        }
+        EntryRef::of(&rows[place], self.text)
     }
 }
 

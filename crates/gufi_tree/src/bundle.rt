@@ -1,14 +1,15 @@
 //! Bundles: directories packed side by side, with one vector of entries and one text for all of them.
 
-ghost use Rattle.std.specs.Prelude.{◌≡◌, ℕ, ◌+◌, ◌<◌, ◌≤◌, ◌++◌, ◌∷◌, [], List, length, slice_index_or, All, IfOk, OnOk, OnErr};
+ghost use Rattle.std.specs.Prelude.{◌≡◌, ℕ, ◌+◌, ◌<◌, ◌≤◌, ◌^◌, ◌++◌, ◌∷◌, [], List, length, map, take, slice_index_or, All, IsTrue, IfOk, OnOk, OnErr};
+ghost use Rattle.gufi_base.specs.Names.{is_name};
 ghost use Rattle.gufi_tree.specs.Tree.{Directory};
-ghost use Rattle.gufi_tree.specs.Stored.{directory_of};
 ghost use Rattle.gufi_tree.specs.Bundles.{bytes_at, directory_in, entry_in, entries_in, IsHead, IsPacked};
-ghost use Rattle.gufi_tree.specs.Packing.{GoesOn};
+ghost use Rattle.gufi_tree.specs.GoingOn.{GoesOn};
+ghost use Rattle.gufi_tree.specs.Packs.{entries_of, shifted, shifted_row, IsNear};
 
 use crate::borrowed::DirRef;
-use crate::tree::{Entry, Stored};
-use gufi_base::{Meta, u16_of, u32_of};
+use crate::pending::{Pending, PlacedRow};
+use gufi_base::{Meta, PathRef, RecRef, u16_of, u32_of};
 use std::alloc::{AllocError, Global};
 use std::marker::Model;
 
@@ -68,16 +69,20 @@ fn put_bytes(text: &mut Vec<u8>, bytes: &[u8], link: &[u8]) -> Result<u32, Alloc
 }
 
 /// Puts the bytes of an entry behind a text.
-fn pack_entry(text: &mut Vec<u8>, entry: &Entry) -> Result<Packed, AllocError>
+pub(crate) fn pack_entry(
+    text: &mut Vec<u8>,
+    name: &[u8],
+    rec: &RecRef<'_>,
+) -> Result<Packed, AllocError>
+    requires { IsTrue (is_name name.now) }
     ensures grown { (more : List ℕ) × (text.new.items ≡ text.old.items ++ more) }
     ensures packed { IfOk result (IsPacked text.new.items) }
-    ensures entry { IfOk result (λ packed. entry_in text.new.items packed ≡ entry.now) }
+    ensures entry { IfOk result (λ packed. entry_in text.new.items packed ≡ record { name = name.now; rec = rec.now }) }
 {
-    let name = entry.name.as_slice();
-    let target = entry.rec.link.as_slice();
+    let target = rec.link();
     let link = u16_of(target.len())?;
     let at = put_bytes(text, name, target)?;
-    let meta = entry.rec.meta;
+    let meta = *rec.meta();
     Ok(Packed {
         meta,
         at,
@@ -86,58 +91,72 @@ fn pack_entry(text: &mut Vec<u8>, entry: &Entry) -> Result<Packed, AllocError>
     })
 }
 
-/// Packs an entry behind others.
-fn push_entry(text: &mut Vec<u8>, rows: &mut Vec<Packed>, entry: &Entry) -> Result<(), AllocError>
-    requires { All (IsPacked text.old.items) rows.old.items }
-    ensures goes_on { GoesOn text.old.items text.new.items rows.old.items rows.new.items }
-    ensures entry { OnOk result (entries_in text.new.items rows.new.items ≡ entries_in text.old.items rows.old.items ++ entry.now ∷ []) }
+/// An entry whose text was put behind so many bytes.
+fn shifted(packed: &Packed, base: u32) -> Packed
+    requires { base + packed.now.at < 2 ^ 32 }
+    ensures { result ≡ shifted base packed.now }
 {
-    let packed = pack_entry(text, entry)?;
-    rows.push(packed)?;
+    Packed {
+        at: base + packed.at,
+        ..*packed
+    }
+}
+
+/// Adds the rows of entries whose text was put behind so many bytes.
+fn push_rows(rows: &mut Vec<Packed>, entries: &[PlacedRow], base: u32) -> Result<(), AllocError>
+    requires { All (IsNear base) entries.now }
+    ensures some { (count : ℕ) × (rows.new.items ≡ rows.old.items ++ map (shifted_row base) (take count entries.now)) }
+    ensures all { OnOk result (rows.new.items ≡ rows.old.items ++ map (shifted_row base) entries.now) }
+{
+    rows.reserve(entries.len())?;
+    for row in entries {
+        rows.push(shifted(&row.packed, base))?;
+    }
     Ok(())
 }
 
-/// Packs entries behind others.
+/// Packs entries behind others: their text as a whole, and their rows with it.
 fn push_entries(
     text: &mut Vec<u8>,
     rows: &mut Vec<Packed>,
-    entries: &[Entry],
+    entries: &Pending,
 ) -> Result<(), AllocError>
     requires { All (IsPacked text.old.items) rows.old.items }
     ensures goes_on { GoesOn text.old.items text.new.items rows.old.items rows.new.items }
-    ensures entries { OnOk result (entries_in text.new.items rows.new.items ≡ entries_in text.old.items rows.old.items ++ entries.now) }
+    ensures entries { OnOk result (entries_in text.new.items rows.new.items ≡ entries_in text.old.items rows.old.items ++ entries_of entries.now) }
 {
-    rows.reserve(entries.len())?;
-    for entry in entries {
-        push_entry(text, rows, entry)?;
-    }
-    Ok(())
+    let base = u32_of(text.len())?;
+    text.extend_from_slice(entries.text.as_slice())?;
+    u32_of(text.len())?;
+    push_rows(rows, entries.rows.as_slice(), base)
 }
 
 /// Packs a directory's entries behind others, and puts its path and its link behind the text.
 fn pack_directory(
     text: &mut Vec<u8>,
     rows: &mut Vec<Packed>,
-    dir: &Stored,
+    path: &PathRef<'_>,
+    rec: &RecRef<'_>,
+    entries: &Pending,
 ) -> Result<Head, AllocError>
     requires { All (IsPacked text.old.items) rows.old.items }
     ensures goes_on { GoesOn text.old.items text.new.items rows.old.items rows.new.items }
     ensures head { IfOk result (IsHead text.new.items rows.new.items) }
-    ensures directory { IfOk result (λ head. directory_in text.new.items rows.new.items head ≡ directory_of dir.now) }
+    ensures directory { IfOk result (λ head. directory_in text.new.items rows.new.items head ≡ record { path = path.now; rec = rec.now; entries = entries_of entries.now }) }
 {
     let first = u32_of(rows.len())?;
-    let count = u32_of(dir.entries.len())?;
-    push_entries(text, rows, dir.entries.as_slice())?;
-    let kept = dir.path.text();
-    let target = dir.rec.link.as_slice();
-    let path = u16_of(kept.len())?;
+    let count = u32_of(entries.len())?;
+    push_entries(text, rows, entries)?;
+    let kept = path.text();
+    let target = rec.link();
+    let length = u16_of(kept.len())?;
     let link = u16_of(target.len())?;
     let at = put_bytes(text, kept, target)?;
-    let meta = dir.rec.meta;
+    let meta = *rec.meta();
     Ok(Head {
         meta,
         at,
-        path,
+        path: length,
         link,
         first,
         count,
@@ -181,14 +200,19 @@ impl Bundle {
         )
     }
 
-    /// Packs a directory behind the others, in time in proportion to its bytes.
+    /// Packs a directory with these entries behind the others, in time in proportion to its bytes.
     ///
     /// What doesn't fit is answered as want of memory: a path or a link of more than 65,535 bytes, or bytes behind the first 4 GiB.
-    pub(crate) fn push(&mut self, dir: &Stored) -> Result<(), AllocError>
-        ensures pushed { OnOk result (self.new ≡ self.old ++ directory_of dir.now ∷ []) }
+    pub(crate) fn push(
+        &mut self,
+        path: &PathRef<'_>,
+        rec: &RecRef<'_>,
+        entries: &Pending,
+    ) -> Result<(), AllocError>
+        ensures pushed { OnOk result (self.new ≡ self.old ++ record { path = path.now; rec = rec.now; entries = entries_of entries.now } ∷ []) }
         ensures unchanged { OnErr result (self.new ≡ self.old) }
     {
-        let head = pack_directory(&mut self.text, &mut self.rows, dir)?;
+        let head = pack_directory(&mut self.text, &mut self.rows, path, rec, entries)?;
         self.heads.push(head)?;
         Ok(())
     }

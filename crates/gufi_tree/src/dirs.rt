@@ -6,12 +6,14 @@ ghost use Rattle.std.specs.List.Sorted.{IsPermutation};
 ghost use Rattle.gufi_tree.specs.Tree.{Directory};
 ghost use Rattle.gufi_tree.specs.Stored.{directory_of};
 ghost use Rattle.gufi_tree.specs.Bundled.{lists_of, directory_at, Keep, Stands};
+ghost use Rattle.gufi_tree.specs.Packs.{entries_of};
 
 use crate::borrowed::DirRef;
 use crate::bundle::Bundle;
 use crate::likely::move_to;
-use crate::tree::Stored;
-use gufi_base::{text_cmp, u32_of};
+use crate::pending::Pending;
+use crate::tree::{Entry, Stored};
+use gufi_base::{PathRef, RecRef, text_cmp, u32_of};
 use std::alloc::{AllocError, Global};
 use std::cmp::Ordering;
 use std::marker::Model;
@@ -108,16 +110,28 @@ fn make_room(
 fn push_last(
     bundles: &[Arc<Bundle, Global>],
     last: &mut Bundle,
-    dir: &Stored,
+    path: &PathRef<'_>,
+    rec: &RecRef<'_>,
+    entries: &Pending,
 ) -> Result<Place, AllocError>
     ensures keep { Keep (lists_of bundles.now last.old) (lists_of bundles.now last.new) }
     ensures stands { IfOk result (Stands (lists_of bundles.now last.new)) }
-    ensures directory { IfOk result (λ place. directory_at (lists_of bundles.now last.new) place ≡ directory_of dir.now) }
+    ensures directory { IfOk result (λ place. directory_at (lists_of bundles.now last.new) place ≡ record { path = path.now; rec = rec.now; entries = entries_of entries.now }) }
 {
     let bundle = u32_of(bundles.len())?;
     let head = u32_of(last.len())?;
-    last.push(dir)?;
+    last.push(path, rec, entries)?;
     Ok(Place { bundle, head })
+}
+
+/// Packs entries behind others.
+fn push_entries(pending: &mut Pending, entries: &[Entry]) -> Result<(), AllocError>
+    ensures { OnOk result (entries_of pending.new ≡ entries_of pending.old ++ entries.now) }
+{
+    for entry in entries {
+        pending.push(0, entry.name.as_slice(), &entry.rec.as_rec_ref())?;
+    }
+    Ok(())
 }
 
 /// The directory at a place, where there is one.
@@ -176,15 +190,36 @@ impl Dirs {
         bundle_at(self.bundles.as_slice(), &self.last, bundle).at(head as usize)
     }
 
+    /// Adds a directory with these entries behind the others. What doesn't fit in a bundle is answered as want of memory: a path or a
+    /// link of more than 65,535 bytes, or 4 GiB of names.
+    pub(crate) fn close(
+        &mut self,
+        alloc: Global,
+        path: &PathRef<'_>,
+        rec: &RecRef<'_>,
+        entries: &Pending,
+    ) -> Result<(), AllocError>
+        ensures { OnOk result (self.new ≡ self.old ++ record { path = path.now; rec = rec.now; entries = entries_of entries.now } ∷ []) }
+    {
+        make_room(alloc, &mut self.bundles, &mut self.last)?;
+        let place = push_last(self.bundles.as_slice(), &mut self.last, path, rec, entries)?;
+        self.places.push(place)?;
+        Ok(())
+    }
+
     /// Adds a directory behind the others. What doesn't fit in a bundle is answered as want of memory: a path or a link of more than
     /// 65,535 bytes, or 4 GiB of names.
     pub fn push(&mut self, alloc: Global, dir: Stored) -> Result<(), AllocError>
         ensures { OnOk result (self.new ≡ self.old ++ directory_of dir ∷ []) }
     {
-        make_room(alloc, &mut self.bundles, &mut self.last)?;
-        let place = push_last(self.bundles.as_slice(), &mut self.last, &dir)?;
-        self.places.push(place)?;
-        Ok(())
+        let mut entries = Pending::new(alloc);
+        push_entries(&mut entries, dir.entries.as_slice())?;
+        self.close(
+            alloc,
+            &dir.path.as_path_ref(),
+            &dir.rec.as_rec_ref(),
+            &entries,
+        )
     }
 
     /// The same directories. Bundles are shared, but for the last one, which is copied.

@@ -1,14 +1,36 @@
-//! Entries in name order, and where they were.
+//! Packed entries in name order.
 
+ghost use Rattle.std.specs.Prelude.{◌≡◌, map, IsTrue};
 ghost use Rattle.std.specs.List.Sorted.{IsPermutation};
+ghost use Rattle.gufi_base.specs.Basics.{ascends};
+ghost use Rattle.gufi_tree.specs.Bundles.{name_in};
+ghost use Rattle.gufi_tree.specs.Packs.{entries_of, placed_in};
+ghost use Rattle.gufi_tree.specs.Tree.{entry_cmp};
 
-use crate::closed::Placed;
 use crate::likely::move_to;
-use gufi_base::name_cmp;
+use crate::pending::PlacedRow;
 use std::alloc::{AllocError, Global};
 
 /// So many entries are sorted where they stand.
 const FEW: usize = 20;
+
+/// The name of an entry, as far as it lies in the text.
+#[inline]
+fn name_of<'a>(text: &'a [u8], row: &PlacedRow) -> &'a [u8]
+    ensures { result.now ≡ name_in text.now row.now.packed }
+{
+    let from = (row.packed.at as usize).min(text.len());
+    let rest = &text[from..];
+    let count = (row.packed.name as usize).min(rest.len());
+    &rest[..count]
+}
+
+/// Whether each name is before the next one.
+pub(crate) fn rise(text: &[u8], rows: &[PlacedRow]) -> bool
+    ensures { IsTrue result → IsTrue (ascends entry_cmp (entries_of (map (placed_in text.now) rows.now))) }
+{
+    rows.is_sorted_by(|a, b| name_of(text, a).cmp(name_of(text, b)).is_lt())
+}
 
 /// The name of an entry, and where the entry stands.
 #[derive(Clone, Copy)]
@@ -17,21 +39,25 @@ struct Named<'a> {
     place: u32,
 }
 
-/// The names of entries, from the last in name order to the first.
-fn names_of(alloc: Global, entries: &[Placed]) -> Result<Vec<Named<'_>>, AllocError> {
-    let mut names = Vec::with_capacity(alloc, entries.len())?;
-    for (place, placed) in entries.iter().enumerate() {
-        let name = placed.entry.name.as_slice();
+/// The names of entries in order.
+fn names_of<'a>(
+    alloc: Global,
+    text: &'a [u8],
+    rows: &[PlacedRow],
+) -> Result<Vec<Named<'a>>, AllocError> {
+    let mut names = Vec::with_capacity(alloc, rows.len())?;
+    for (place, row) in rows.iter().enumerate() {
+        let name = name_of(text, row);
         let place = u32::try_from(place).unwrap_or(0);
         names.push(Named { name, place })?;
     }
-    names.sort_unstable_by(|a, b| b.name.cmp(a.name));
+    names.sort_unstable_by(|a, b| a.name.cmp(b.name));
     Ok(names)
 }
 
 /// To which place each entry is to go.
-fn places_of(alloc: Global, entries: &[Placed]) -> Result<Vec<u32>, AllocError> {
-    let names = names_of(alloc, entries)?;
+fn places_of(alloc: Global, text: &[u8], rows: &[PlacedRow]) -> Result<Vec<u32>, AllocError> {
+    let names = names_of(alloc, text, rows)?;
     let mut places = vec![in alloc; 0u32; names.len()]?;
     for (to, named) in names.iter().enumerate() {
         let from = named.place as usize;
@@ -43,22 +69,22 @@ fn places_of(alloc: Global, entries: &[Placed]) -> Result<Vec<u32>, AllocError> 
 }
 
 /// Moves many entries to where they are likely to go: names are sorted, and each entry is moved once.
-fn move_likely(alloc: Global, entries: &mut Vec<Placed>)
-    ensures { IsPermutation entries.old.items entries.new.items }
+fn move_likely(alloc: Global, text: &[u8], rows: &mut Vec<PlacedRow>)
+    ensures { IsPermutation rows.old.items rows.new.items }
 {
-    if entries.len() <= FEW {
+    if rows.len() <= FEW {
         return;
     }
-    match places_of(alloc, entries.as_slice()) {
-        Ok(places) => move_to(entries, places),
+    match places_of(alloc, text, rows.as_slice()) {
+        Ok(places) => move_to(rows, places),
         Err(_) => {}
     }
 }
 
-/// Puts entries in falling name order, so that they can be taken from the end. Linear where names rise or fall.
-pub(crate) fn order_names(alloc: Global, entries: &mut Vec<Placed>)
-    ensures { IsPermutation entries.old.items entries.new.items }
+/// Puts entries in rising name order.
+pub(crate) fn order_names(alloc: Global, text: &[u8], rows: &mut Vec<PlacedRow>)
+    ensures { IsPermutation rows.old.items rows.new.items }
 {
-    move_likely(alloc, entries);
-    entries.sort_unstable_by(|a, b| name_cmp(&b.entry.name, &a.entry.name));
+    move_likely(alloc, text, rows);
+    rows.sort_unstable_by(|a, b| name_of(text, a).cmp(name_of(text, b)));
 }

@@ -6,16 +6,16 @@ ghost use Rattle.std.specs.List.Sorted.{IsPermutation, IsSortedBy};
 ghost use Rattle.std.specs.Ordering.{is_lt};
 ghost use Rattle.gufi_base.specs.declared.record.Line.{Line};
 ghost use Rattle.gufi_base.specs.Kinds.{is_dir};
+ghost use Rattle.gufi_base.specs.Names.{is_name};
 ghost use Rattle.gufi_base.specs.Paths.{Components, is_child_of, base_name};
 ghost use Rattle.gufi_tree.specs.Build.{is_dir_line};
 ghost use Rattle.gufi_tree.specs.Tree.{entry_row, own_rows};
 ghost use Rattle.gufi_tree.specs.StanzaLines.{stanza_holds, line_cmp, zip_lines, are_few, IsWhole};
 
 use crate::borrowed::{DirRef, EntriesRef, EntryRef};
-use crate::closed::{Begun, Closed, Placed};
+use crate::closed::{Begun, Closed, Closing};
 use crate::dirs::Dirs;
-use crate::tree::Entry;
-use gufi_base::{Line, Name, Path, Rec};
+use gufi_base::{Line, Path, Rec, RecRef};
 use std::alloc::{AllocError, Global};
 use std::marker::Model;
 
@@ -25,9 +25,8 @@ use std::marker::Model;
 /// are put in name order, in as much memory as they take. Contracts see the lines, numbered from 1.
 #[derive(Drop)]
 pub struct Stanzas {
-    closed: Closed,
+    closing: Closing,
     begun: Option<Begun>,
-    entries: Vec<Placed>,
     count: usize,
     dirs: usize,
 }
@@ -40,9 +39,9 @@ impl Model for Stanzas {
 
     ghost use Rattle.gufi_tree.specs.StanzaLines.{lines_in, AreKept};
 
-    ghost view = { λ s. lines_in s.closed.dirs s.closed.places.items s.begun s.entries.items };
+    ghost view = { λ s. lines_in s.closing.packing.dirs s.closing.places.items s.begun s.closing.packing.pending };
 
-    ghost invariant = { λ s. AreKept s.closed.dirs s.closed.places.items s.closed.distinct s.begun s.entries.items s.count s.dirs };
+    ghost invariant = { λ s. AreKept s.closing.packing.dirs s.closing.places.items s.closing.distinct s.begun s.closing.packing.pending s.count s.dirs };
 }
 
 /// The number of the line behind so many others.
@@ -180,9 +179,8 @@ impl Stanzas {
         ensures { result ≡ [] }
     {
         Stanzas {
-            closed: Closed::new(alloc),
+            closing: Closing::new(alloc),
             begun: None,
-            entries: Vec::new(alloc),
             count: 0,
             dirs: 0,
         }
@@ -221,7 +219,7 @@ impl Stanzas {
     {
         let place = self.count as u32;
         let before = self.begun.replace(Begun { path, rec, place });
-        match self.closed.end(alloc, before, &mut self.entries) {
+        match self.closing.end(alloc, before) {
             Ok(()) => {
                 self.count += 1;
                 self.dirs += 1;
@@ -234,16 +232,17 @@ impl Stanzas {
         }
     }
 
-    /// Adds the line of an entry of the last directory.
-    pub fn push_entry(&mut self, name: Name, rec: Rec) -> Result<(), AllocError>
-        requires kind { is_dir rec.meta.kind ≡ false }
+    /// Adds the line of an entry of the last directory, whose bytes are copied.
+    #[inline]
+    pub fn push_entry(&mut self, name: &[u8], rec: &RecRef<'_>) -> Result<(), AllocError>
+        requires name { IsTrue (is_name name.now) }
+        requires kind { is_dir rec.now.meta.kind ≡ false }
         requires some { 0 < length self.old }
         requires few { length self.old < 2 ^ 32 }
-        ensures { OnOk result ((path : Components) → stanza_holds (reverse self.old) path ≡ true → base_name path ≡ name → self.new ≡ self.old ++ record { number = length self.old + 1; path = path; rec = rec } ∷ []) }
+        ensures { OnOk result ((path : Components) → stanza_holds (reverse self.old) path ≡ true → base_name path ≡ name.now → self.new ≡ self.old ++ record { number = length self.old + 1; path = path; rec = rec.now } ∷ []) }
     {
         let place = self.count as u32;
-        let entry = Entry { name, rec };
-        self.entries.push(Placed { entry, place })?;
+        self.closing.packing.push(place, name, rec)?;
         self.count += 1;
         Ok(())
     }
@@ -253,13 +252,12 @@ impl Stanzas {
         ensures { IfOk result (λ closed. IsWhole self closed.dirs closed.places.items closed.distinct) }
     {
         let Stanzas {
-            mut closed,
+            mut closing,
             begun,
-            mut entries,
             ..
         } = self;
-        closed.end(alloc, begun, &mut entries)?;
-        Ok(closed)
+        closing.end(alloc, begun)?;
+        Ok(closing.into_closed())
     }
 
     /// The lines, each with its path.

@@ -2,7 +2,7 @@ use Rattle.std.proofs.Common.{◌∙◌, [], ◌∷◌, ◌++◌, map, ap}
 use Rattle.std.proofs.lemmas.List.{map-append}
 use Rattle.std.proofs.lemmas.Result.{err_from_is_err_and}
 use Rattle.gufi_tree.specs.Bundles.{directory_in}
-use Rattle.gufi_tree.proofs.Packing.{directories-goes_on, IsBundle-goes_on, IsBundle-push}
+use Rattle.gufi_tree.proofs.GoingOn.{directories-goes_on, IsBundle-goes_on, IsBundle-push}
 use Rattle.gufi_tree.proofs.bundle.Bundle.push.Goals as goal
 
 pub returns-in_err-head-clause-unchanged : goal.returns-in_err-head-clause-unchanged

@@ -8,5 +8,5 @@ use Rattle.gufi_tree.proofs.stanzas.Stanzas.dirs.Goals as goal
 pub returns-clause-entries : goal.returns-clause-entries
 returns-clause-entries c =
     let i = c.self.inside in
-    let lines = lines_in i.closed.dirs i.closed.places.items i.begun i.entries.items in
+    let lines = lines_in i.closing.packing.dirs i.closing.places.items i.begun i.closing.packing.pending in
     subst (λ (ls : List Line). i.dirs + count_by is_entry ls ≡ length ls) c.self.view_is (let both = both_counted lines in let dirs = c.self.invariant.dir_lines in omega arith)

@@ -8,5 +8,6 @@ pub returns : goal.returns
 returns c =
     let i = c.self.inside in
     let e = c.end.new.self in
-    subst (λ (ls : List Line). IsWhole ls e.dirs e.places.items e.distinct) c.self.view_is
-    (ended_whole i.closed.dirs e.dirs i.closed.places.items e.places.items i.closed.distinct e.distinct i.begun i.entries.items i.count i.dirs c.self.invariant c.in_ok-end.ensures.ended)
+    rw (c.into_closed.ensures.dirs, c.into_closed.ensures.places, c.into_closed.ensures.distinct)
+    (subst (λ (ls : List Line). IsWhole ls e.packing.dirs e.places.items e.distinct) c.self.view_is
+    (ended_whole i.closing.packing.dirs e.packing.dirs i.closing.places.items e.places.items i.closing.distinct e.distinct i.begun i.closing.packing.pending i.count i.dirs c.self.invariant c.in_ok-end.ensures.ended))

@@ -2,7 +2,7 @@
 use Rattle.std.proofs.Common.{◌≡◌, ◌∙◌, ℕ, ◌+◌, ◌≤◌, List, [], ◌∷◌, ◌++◌, length, map, suc, take, drop, refl, sym, ap, subst, append_assoc, arith}
 use Rattle.std.specs.Prelude.{All, IsTrue, true}
 use Rattle.std.specs.List.{list_all}
-use Rattle.std.proofs.lemmas.List.{append-nil, drop-append-le, drop_at, drop-map, length-append, length-drop, length-map, map-append, take-append-le, take-map, take_all}
+use Rattle.std.proofs.lemmas.List.{append-nil, drop-append-le, drop_at, drop-map, length-append, length-drop, length-map, take-append-le, take-map, take_all}
 use Rattle.std.proofs.lemmas.List.Elements.{All-drop, All-push, All-take, All-weaker}
 use Rattle.gufi_base.specs.Names.{is_name}
 use Rattle.gufi_base.specs.PathTexts.{kept_text, names, IsText}
@@ -12,7 +12,7 @@ use Rattle.gufi_tree.specs.declared.bundle.Packed.{Packed}
 use Rattle.gufi_tree.specs.declared.bundle.Head.{Head}
 use Rattle.gufi_tree.specs.Tree.{Directory}
 use Rattle.gufi_tree.specs.Bundles.{bytes_at, directory_in, entries_in, entry_in, name_in, path_in, IsBundle, IsHead, IsPacked}
-use Rattle.gufi_tree.specs.Packing.{GoesOn}
+use Rattle.gufi_tree.specs.GoingOn.{GoesOn}
 
 -- what holds of each, where two functions are equal
 pub map-same : {X Y : Type 0} (f g : X → Y) (xs : List X) → All (λ x. f x ≡ g x) xs → map f xs ≡ map g xs
@@ -24,13 +24,13 @@ part-more : {X : Type 0} (xs more : List X) (at count : ℕ) → at + count ≤ 
 part-more xs more at count within =
     ap (take count) (drop-append-le at xs more (omega (arith, within))) ∙ take-append-le count (drop at xs) more (omega (arith, within, length-drop at xs))
 
-entry_in-more : (text more : List ℕ) (p : Packed) → IsPacked text p → entry_in (text ++ more) p ≡ entry_in text p
+pub entry_in-more : (text more : List ℕ) (p : Packed) → IsPacked text p → entry_in (text ++ more) p ≡ entry_in text p
 entry_in-more text more p is =
     let name : name_in (text ++ more) p ≡ name_in text p = part-more text more p.at p.name (omega (arith, is.within)) in
     let link : bytes_at (text ++ more) (p.at + p.name) p.link ≡ bytes_at text (p.at + p.name) p.link = part-more text more (p.at + p.name) p.link is.within in
     λ i. record { name = name i; rec = record { link = link i; meta = p.meta } }
 
-IsPacked-more : (text more : List ℕ) (p : Packed) → IsPacked text p → IsPacked (text ++ more) p
+pub IsPacked-more : (text more : List ℕ) (p : Packed) → IsPacked text p → IsPacked (text ++ more) p
 IsPacked-more text more p is = record {
   within = omega (arith, is.within, length-append text more);
   name = subst (λ n. IsTrue (is_name n)) (sym (part-more text more p.at p.name (omega (arith, is.within)))) is.name;
@@ -55,19 +55,6 @@ GoesOn-bytes text mid next rows after goes more = record {
 
 pub GoesOn-start : (text : List ℕ) (rows : List Packed) → All (IsPacked text) rows → GoesOn text text rows rows
 GoesOn-start text rows all = record { bytes = ([], sym (append-nil text)); entries = ([], sym (append-nil rows)); packed = all }
-
--- one entry more
-pub GoesOn-push : (text next : List ℕ) (rows : List Packed) (p : Packed) → (more : List ℕ) × (next ≡ text ++ more) → All (IsPacked text) rows → IsPacked next p → GoesOn text next rows (rows ++ p ∷ [])
-GoesOn-push text next rows p more all is = record {
-  bytes = more;
-  entries = (p ∷ [], refl);
-  packed = All-push (IsPacked next) rows p (IsPacked-goes_on text next rows more all) is;
-}
-
-pub entries_in-push : (text next : List ℕ) (rows : List Packed) (p : Packed) (entry : Entry) → (more : List ℕ) × (next ≡ text ++ more) → All (IsPacked text) rows → entry_in next p ≡ entry
-    → entries_in next (rows ++ p ∷ []) ≡ entries_in text rows ++ entry ∷ []
-entries_in-push text next rows p entry more all is =
-    map-append (entry_in next) rows (p ∷ []) ∙ ap (λ es. es ++ entry_in next p ∷ []) (entries_in-goes_on text next rows more all) ∙ ap (λ e. entries_in text rows ++ e ∷ []) is
 
 -- directories, when a text and its entries go on
 module _ (text next : List ℕ) (rows after : List Packed) (goes : GoesOn text next rows after) (all : All (IsPacked text) rows) where
