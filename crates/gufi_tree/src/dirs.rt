@@ -212,7 +212,7 @@ impl Dirs {
     pub fn push(&mut self, alloc: Global, dir: Stored) -> Result<(), AllocError>
         ensures { OnOk result (self.new ≡ self.old ++ directory_of dir ∷ []) }
     {
-        let mut entries = Pending::new(alloc);
+        let mut entries = Pending::with_room(alloc, dir.entries.len())?;
         push_entries(&mut entries, dir.entries.as_slice())?;
         self.close(
             alloc,

@@ -1,6 +1,6 @@
 //! Entries that come before their directory's own row, packed as they come.
 
-ghost use Rattle.std.specs.Prelude.{◌≡◌, ◌++◌, ◌∷◌, [], length, IsTrue, OnOk, OnErr};
+ghost use Rattle.std.specs.Prelude.{◌≡◌, ◌++◌, ◌∷◌, [], length, IsTrue, IfOk, OnOk, OnErr};
 ghost use Rattle.std.specs.List.Sorted.{IsPermutation};
 ghost use Rattle.gufi_base.specs.Basics.{ascends};
 ghost use Rattle.gufi_base.specs.Names.{is_name};
@@ -13,6 +13,9 @@ use crate::names::{order_names, rise};
 use gufi_base::RecRef;
 use std::alloc::{AllocError, Global};
 use std::marker::Model;
+
+/// How many bytes the name and the link of most entries have.
+const USUAL: usize = 24;
 
 /// An entry as it is packed in a text, and a number that its giver knows it by.
 #[derive(Clone, Copy)]
@@ -48,6 +51,16 @@ impl Pending {
             rows: Vec::new(alloc),
             text: Vec::new(alloc),
         }
+    }
+
+    /// No entry, and room for so many.
+    pub(crate) fn with_room(alloc: Global, count: usize) -> Result<Pending, AllocError>
+        ensures { IfOk result (λ pending. pending ≡ []) }
+    {
+        Ok(Pending {
+            rows: Vec::with_capacity(alloc, count)?,
+            text: Vec::with_capacity(alloc, count.saturating_mul(USUAL))?,
+        })
     }
 
     pub(crate) fn len(&self) -> usize
