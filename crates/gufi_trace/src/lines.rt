@@ -1,10 +1,11 @@
 //! The lines that a reader has.
 
-ghost use Rattle.std.specs.Prelude.{◌≡◌, ℕ, ◌+◌, ◌≤◌, ◌<◌, true, false, nat_le, List, [], ◌∷◌, length, reverse, None, MatchOption, OnOk, IfOk, IfErr};
+ghost use Rattle.std.specs.Prelude.{◌≡◌, ℕ, ◌+◌, ◌≤◌, ◌<◌, true, false, nat_le, List, [], ◌∷◌, length, reverse, None, MatchOption, OnOk, IfOk, IfErr, IsTrue};
 ghost use Rattle.std.specs.Result.{result_unwrap_or};
 ghost use Rattle.gufi_base.specs.Kinds.{is_dir};
 ghost use Rattle.gufi_base.specs.Limits.{max_dirs, max_entries};
 ghost use Rattle.gufi_base.specs.Basics.{part_at};
+ghost use Rattle.gufi_base.specs.Names.{is_name};
 ghost use Rattle.gufi_base.specs.Paths.{Components, read_path, is_child_of, base_name};
 ghost use Rattle.gufi_tree.specs.StanzaLines.{stanza_holds};
 ghost use Rattle.gufi_trace.specs.TraceText.{root_of};
@@ -17,7 +18,7 @@ use crate::digits::DigitPairs;
 use crate::fault::{Refused, TraceError, TraceFault, TraceKind};
 use crate::fields::{Parts, read_fields};
 use crate::quick::add_sound;
-use gufi_base::{Bytes, Kind, Line, Memory, Name, Path, PathFault, Rec};
+use gufi_base::{Bytes, Kind, Line, Memory, Path, PathFault, Rec, RecRef};
 use gufi_tree::Stanzas;
 use std::alloc::{AllocError, Global};
 use std::marker::Model;
@@ -128,13 +129,14 @@ impl Lines {
     pub(crate) fn push_entry(
         &mut self,
         alloc: Global,
-        name: Name,
-        rec: Rec,
+        name: &[u8],
+        rec: &RecRef<'_>,
     ) -> Result<(), AllocError>
-        requires kind { is_dir rec.meta.kind ≡ false }
+        requires name { IsTrue (is_name name.now) }
+        requires kind { is_dir rec.now.meta.kind ≡ false }
         requires room { entries_of self.old < max_entries }
-        requires place { (path : Components) × (stanza_holds self.old path ≡ true) × (base_name path ≡ name) }
-        ensures { OnOk result ((path : Components) → stanza_holds self.old path ≡ true → base_name path ≡ name → self.new ≡ record { number = length self.old + 1; path = path; rec = rec } ∷ self.old) }
+        requires place { (path : Components) × (stanza_holds self.old path ≡ true) × (base_name path ≡ name.now) }
+        ensures { OnOk result ((path : Components) → stanza_holds self.old path ≡ true → base_name path ≡ name.now → self.new ≡ record { number = length self.old + 1; path = path; rec = rec.now } ∷ self.old) }
     {
         match self.stanzas.push_entry(name, rec) {
             Ok(()) => Ok(()),
@@ -159,7 +161,7 @@ impl Lines {
         let Some(name) = path.into_name() else {
             unreachable!();
         };
-        self.push_entry(alloc, name, rec)?;
+        self.push_entry(alloc, name.as_slice(), &rec.as_rec_ref())?;
         Ok(())
     }
 }

@@ -9,7 +9,7 @@ use crate::content::{MAX_LINK, MODES, has_zero};
 use crate::digits::DigitPairs;
 use crate::fields::Parts;
 use crate::lines::Lines;
-use gufi_base::{Bytes, Kind, Meta, Name, Path, Rec};
+use gufi_base::{Bytes, Kind, Meta, Path, Rec, RecRef};
 use std::alloc::{AllocError, Global};
 
 #[inline(always)]
@@ -190,10 +190,8 @@ fn add_entry(
     let Some(name) = parent.child_name(root, content.path) else {
         return Ok(false);
     };
-    let name = Name::of_checked(alloc, name)?;
-    let link = copy_link(alloc, content.link)?;
-    let meta = content.meta;
-    lines.push_entry(alloc, name, Rec { meta, link })?;
+    let rec = RecRef::of(&content.meta, content.link);
+    lines.push_entry(alloc, name, &rec)?;
     Ok(true)
 }
 

@@ -11,7 +11,7 @@ push_entry-requires-clause-place c =
     let parent = c.in-Some.parent.now in
     let name = c.in-Some-child_name.name.now in
     let path : Components = parent ++ name ∷ [] in
-    (path, c.in-Some.ensures path ∙ child_of parent name, base_name_push parent name ∙ sym c.in_ok-name.ensures)
+    (path, c.in-Some.ensures path ∙ child_of parent name, base_name_push parent name)
 
 pub returns : goal.returns
 returns c =
@@ -19,6 +19,6 @@ returns c =
     let name = c.in-Some-child_name.name.now in
     let path : Components = parent ++ name ∷ [] in
     let holds : stanza_holds c.args.lines.now path ≡ true = c.in-Some.ensures path ∙ child_of parent name in
-    let named : base_name path ≡ c.in_ok-name.name = base_name_push parent name ∙ sym c.in_ok-name.ensures in
+    let named : base_name path ≡ name = base_name_push parent name in
     let taken = c.in_ok-push_entry.ensures path holds named in
-    (path, placed_entry c.args.root.now c.args.lines.now _ c.args.content.now.path.now path c.in-Some-child_name.ensures.1 holds c.requires (sym c.has_max_entries.ensures ∙ c.if-has_max_entries.false), rw c.in_ok-link.ensures at taken)
+    (path, placed_entry c.args.root.now c.args.lines.now _ c.args.content.now.path.now path c.in-Some-child_name.ensures.1 holds c.requires (sym c.has_max_entries.ensures ∙ c.if-has_max_entries.false), rw c.of-rec.ensures at taken)
