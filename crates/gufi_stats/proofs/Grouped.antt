@@ -1,5 +1,5 @@
 -- The sums of rows by a number, as one row more comes behind the others.
-use Rattle.std.proofs.Common.{◌≡◌, ℕ, ◌≤◌, true, false, not, cond, List, [], ◌∷◌, ◌++◌, length, eqb, map, refl, sym, ap, ◌∙◌, subst, inl, inr, arith, append-nil}
+use Rattle.std.proofs.Common.{◌≡◌, ℕ, true, false, cond, List, [], ◌∷◌, ◌++◌, eqb, map, refl, sym, ap, ◌∙◌, subst, inl, inr, append-nil}
 use Rattle.std.specs.Prelude.{Some, None, unwrap_or, ◌||◌}
 use Rattle.std.specs.declared.cmp.Ordering.TheVariants.{Less}
 use Rattle.std.specs.Ordering.{nat_cmp, is_eq, ordering_reverse}
@@ -10,16 +10,15 @@ use Rattle.std.proofs.lemmas.Bool.{cases_Bool, eqb-true, eq-eqb, false≢true}
 use Rattle.std.proofs.lemmas.Cmp.{nat_cmp_total}
 use Rattle.std.proofs.lemmas.List.{map-append}
 use Rattle.std.proofs.lemmas.List.Elements.{filter-append}
-use Rattle.std.proofs.lemmas.List.Filters.{length-filter_both}
 use Rattle.gufi_base.specs.declared.record.Row.{Row}
 use Rattle.gufi_base.specs.Basics.{insert_by, sort_by, ascends, distinct, without}
 use Rattle.gufi_base.proofs.SortedOnce.{order_cases, ascends-tail, ascends-sort_by}
 use Rattle.gufi_sums.specs.declared.summary.Summary.{Summary}
-use Rattle.gufi_sums.specs.Total.{total, empty, add, rows_in, IsBounded}
-use Rattle.gufi_sums.specs.Laws.{total-add, total-counts}
+use Rattle.gufi_sums.specs.Total.{total, empty, add}
+use Rattle.gufi_sums.specs.Laws.{total-add}
 use Rattle.gufi_stats.specs.Grouped.{group_sum, numbers, grouped, sum_in, group_lines}
 use Rattle.gufi_stats.specs.Reports.{group_line, by_key}
-use Rattle.gufi_stats.proofs.Numbers.{nat_cmp-eqb, eqb-sym, Once-distinct, sorted-behind, any-sorted, AreAbove, above-apart, without-above, insert-below, rest-above, above-both}
+use Rattle.gufi_stats.specs.Numbers.{nat_cmp-eqb, eqb-sym, Once-distinct, sorted-behind, any-sorted, AreAbove, above-apart, without-above, insert-below, rest-above, above-both}
 
 abbrev pub entries : (ℕ → Summary) → List ℕ → List (ℕ × Summary)
 entries sums ns = map (λ n. (n, sums n)) ns
@@ -108,44 +107,9 @@ sum_in-grouped key rows n =
       | inr none ↦ rw (none) (total-nil ∙ sym (ap total (none-there key rows n none)))
     ]
 
--- ---- the loop over the rows
-
 pub grouped-none : (key : Row → ℕ) → [] ≡ grouped key []
 unfolding grouped
 grouped-none key = refl
-
-pub bounded-none : (key : Row → ℕ) (n : ℕ) → IsBounded (group_sum key [] n)
-unfolding total
-bounded-none key n = omega arith
-
-pub sum-few : (key : Row → ℕ) (rows : List Row) (n : ℕ) → rows_in (group_sum key rows n) ≤ length rows
-sum-few key rows n =
-    let counts = total-counts (filter (λ (r : Row). eqb (key r) n) rows) in
-    let parts = length-filter_both (λ (r : Row). eqb (key r) n) (λ (r : Row). not (eqb (key r) n)) (λ r. refl) rows in
-    omega (arith, counts, parts)
-
-pub sum-there : (key : Row → ℕ) (rows : List Row) (groups : List (ℕ × Summary)) (n : ℕ) → groups ≡ grouped key rows → sum_in groups n ≡ group_sum key rows n
-sum-there key rows groups n is = ap (λ g. sum_in g n) is ∙ sum_in-grouped key rows n
-
--- one row more is counted
-pub row-counted : (key : Row → ℕ) (rows : List Row) (row : Row) (n : ℕ) (groups new : List (ℕ × Summary)) → n ≡ key row → groups ≡ grouped key rows
-    → new ≡ insert_entry nat_cmp groups n (add (sum_in groups n) row.rec.meta) → new ≡ grouped key (rows ++ row ∷ [])
-row-counted key rows row n groups new number is put =
-    put
-    ∙ (λ i. insert_entry nat_cmp (is i) (number i) (add (sum_in (is i) (number i)) row.rec.meta))
-    ∙ ap (λ s. insert_entry nat_cmp (grouped key rows) (key row) (add s row.rec.meta)) (sum_in-grouped key rows (key row))
-    ∙ sym (grouped-behind key rows row)
-
-pub row-bounded : (key : Row → ℕ) (rows : List Row) (row : Row) (n : ℕ) (groups : List (ℕ × Summary)) → n ≡ key row → groups ≡ grouped key rows
-    → IsBounded (add (sum_in groups n) row.rec.meta) → ((m : ℕ) → IsBounded (group_sum key rows m)) → (m : ℕ) → IsBounded (group_sum key (rows ++ row ∷ []) m)
-row-bounded key rows row n groups number is added each m =
-    subst IsBounded (sym (sum-behind key rows row m))
-    (elim (cases_Bool (eqb (key row) m)) [
-      | inl same ↦
-          let here : sum_in groups n ≡ group_sum key rows m = sum-there key rows groups n is ∙ ap (group_sum key rows) (number ∙ eqb-true (key row) m same) in
-          rw same (subst (λ s. IsBounded (add s row.rec.meta)) here added)
-      | inr other ↦ rw other (each m)
-    ])
 
 -- ---- the lines
 

@@ -17,7 +17,7 @@ use Rattle.gufi_base.specs.Basics.{ascends, line}
 use Rattle.gufi_base.proofs.Orders.{path_cmp-same}
 use Rattle.gufi_base.proofs.Prefixes.{rows_total, front_and_rest, prefix_stands_before, stands_after_subtree}
 use Rattle.gufi_base.proofs.SortedOnce.{below_all, ascends-tail, less_turned}
-use Rattle.gufi_stats.specs.Reports.{is_leaf}
+use Rattle.gufi_stats.specs.Reports.{is_leaf, leaf_lines}
 use Rattle.gufi_stats.specs.Leaves.{is_above_any, leaf_line}
 
 -- whether a row is a directory below another
@@ -164,3 +164,27 @@ leaf-taken rows i row text within is up so_far =
     ap (λ (t : List ℕ). t ++ leaf_line row (drop (i + 1) rows)) so_far
     ∙ ap (λ b. leaf_text rows (take i rows) ++ cond b (line (path_text row.path)) []) (sym (leaf-here rows i row within is up))
     ∙ sym (leaf-more rows i row within is)
+
+-- ---- the directories among the rows have the same leaves
+
+above-any-dirs : (row : Row) (rows : List Row) → is_above_any row (filter is_dir_row rows) ≡ is_above_any row rows
+above-any-dirs row [] = refl
+above-any-dirs row (other ∷ rows) =
+    elim (cases_Bool (is_dir_row other)) [
+      | inl directory ↦ rw (directory, directory) (ap (λ b. is_proper_prefix row.path other.path || b) (above-any-dirs row rows))
+      | inr off ↦ rw off (above-any-dirs row rows)
+    ]
+
+leaf-text-dirs : (all rows : List Row) → leaf_text (filter is_dir_row all) (filter is_dir_row rows) ≡ leaf_text all rows
+leaf-text-dirs all [] = refl
+leaf-text-dirs all (row ∷ rows) =
+    elim (cases_Bool (is_dir_row row)) [
+      | inl directory ↦ elim (cases_Bool (is_above_any row all)) [
+        | inl above ↦ rw (directory, directory, above-any-dirs row all, above) (leaf-text-dirs all rows)
+        | inr none ↦ rw (directory, directory, above-any-dirs row all, none) (ap (λ (t : List ℕ). line (path_text row.path) ++ t) (leaf-text-dirs all rows))
+      ]
+      | inr off ↦ rw off (leaf-text-dirs all rows)
+    ]
+
+pub leaves-of-dirs : (directories rows : List Row) → directories ≡ filter is_dir_row rows → leaf_lines directories ≡ leaf_lines rows
+leaves-of-dirs directories rows is = ap leaf_lines is ∙ leaf-text-dirs rows rows

@@ -1,3 +1,4 @@
-pub mod Numbers
 pub mod Grouped
+pub mod Joined
+pub mod Stems
 pub mod LeafLemmas

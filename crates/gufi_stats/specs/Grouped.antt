@@ -1,6 +1,6 @@
 -- The sums of rows by a number, as they are kept.
-use Rattle.std.specs.Prelude.{ℕ, ◌==◌, List, ◌++◌, map, filter, unwrap_or, codes, decimal}
-use Rattle.std.specs.List.{flat_map}
+use Rattle.std.specs.Prelude.{ℕ, ◌==◌, List, ◌++◌, length, map, filter, unwrap_or, codes, decimal}
+use Rattle.std.specs.List.{flat_map, sum_by}
 use Rattle.std.specs.Map.{lookup}
 use Rattle.std.specs.Ordering.{nat_cmp, is_eq}
 use Rattle.gufi_base.specs.declared.record.Row.{Row}
@@ -8,14 +8,24 @@ use Rattle.gufi_base.specs.Rows.{depth_below}
 use Rattle.gufi_base.specs.Basics.{distinct, sort_by, line}
 use Rattle.gufi_sums.specs.declared.summary.Summary.{Summary}
 use Rattle.gufi_sums.specs.Counts.{counts_text}
-use Rattle.gufi_sums.specs.Total.{total, empty}
-use Rattle.gufi_stats.specs.declared.group.Key.{Key}
-use Rattle.gufi_stats.specs.declared.group.Key.TheVariants.{Level, Uid, Gid}
+use Rattle.gufi_sums.specs.Total.{total, empty, rows_in}
+use Rattle.gufi_stats.specs.declared.by_key.Key.{Key}
+use Rattle.gufi_stats.specs.declared.by_key.Key.TheVariants.{Level, Uid, Gid}
 
 abbrev pub number_of : Key → Row → ℕ
 number_of (Level above) row = depth_below above row
 number_of Uid row = row.rec.meta.uid
 number_of Gid row = row.rec.meta.gid
+
+-- numbers that a row has wherever it is asked from
+abbrev pub depth : Row → ℕ
+depth row = length row.path
+
+abbrev pub uid : Row → ℕ
+uid row = row.rec.meta.uid
+
+abbrev pub gid : Row → ℕ
+gid row = row.rec.meta.gid
 
 -- the sum of the rows that have a number
 abbrev pub group_sum : (Row → ℕ) → List Row → ℕ → Summary
@@ -28,6 +38,10 @@ numbers key rows = sort_by nat_cmp (distinct (map key rows))
 -- each number that a row has, ascending, with its sum
 unfoldable pub grouped : (Row → ℕ) → List Row → List (ℕ × Summary)
 grouped key rows = map (λ n. (n, group_sum key rows n)) (numbers key rows)
+
+-- how many rows are in the sums
+abbrev pub rows_counted : List (ℕ × Summary) → ℕ
+rows_counted groups = sum_by (λ group. rows_in group.1) groups
 
 -- the sum that stands at a number
 abbrev pub sum_in : List (ℕ × Summary) → ℕ → Summary

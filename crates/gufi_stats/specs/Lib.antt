@@ -1,3 +1,6 @@
 pub mod Reports
+pub mod Numbers
 pub mod Grouped
+pub mod GroupLaws
+pub mod Joined
 pub mod Leaves

@@ -3,11 +3,33 @@
 ghost use Rattle.std.specs.Prelude.{◌≡◌, ◌++◌, ◌∷◌, not, IsTrue, IfOk, OnOk};
 ghost use Rattle.gufi_base.specs.Paths.{path_text};
 ghost use Rattle.gufi_base.specs.Basics.{ascends, line};
-ghost use Rattle.gufi_base.specs.Rows.{row_cmp};
+ghost use Rattle.gufi_base.specs.Rows.{row_cmp, is_dir_row};
 ghost use Rattle.gufi_stats.specs.Leaves.{is_above_any, leaf_line, leaf_lines};
 
-use gufi_base::{Memory, Row};
+use gufi_base::{Memory, Pred, Row, RowRef, Tester};
 use std::alloc::Global;
+
+/// The question that directories alone meet.
+#[derive(Clone, Copy, Debug, PartialEq, Eq)]
+pub struct Directories;
+
+impl Tester for Directories {
+    ghost meets = { λ _ row _. is_dir_row row };
+
+    fn test(&mut self, _alloc: Global, row: RowRef<'_>, _depth: u32) -> Result<bool, Memory> {
+        Ok(row.meta.kind.is_dir())
+    }
+}
+
+impl Pred for Directories {
+    type Tester = Directories;
+
+    ghost sat = { λ _ row _. is_dir_row row };
+
+    fn tester(&self, _alloc: Global) -> Result<Directories, Memory> {
+        Ok(Directories)
+    }
+}
 
 /// Whether no directory of the rows behind a directory is below it: those below it come first, so the next tells.
 fn is_leaf(directory: &Row, behind: &[Row]) -> bool

@@ -1,11 +1,17 @@
 //! Reports over rows: how many there are by depth, owner or group, and the directories without one below them.
 //!
-//! Contracts see a report as its bytes: `stats_text` says which.
+//! Contracts see a report as its bytes: `stats_text` says which. `Counts` keeps the sums of rows as they come, and no row.
 //! It stands on `gufi_base` and `gufi_sums`; the call that prints a report stands on it.
 #![tactic(auto)]
 
-mod group;
+mod by_key;
+mod counts;
+mod groups;
 mod leaves;
+mod number;
 mod report;
 
-pub use report::{Report, stats_text};
+pub use counts::Counts;
+pub use leaves::Directories;
+pub use number::{Depth, Gid, RowNumber, Uid};
+pub use report::{Report, gids_text, leaves_text, levels_text, stats_text, uids_text};

@@ -1,12 +1,17 @@
 //! The four reports.
 
-ghost use Rattle.std.specs.Prelude.{◌≡◌, ◌^◌, ◌<◌, length, IsTrue, IfOk};
+ghost use Rattle.std.specs.Prelude.{◌≡◌, ◌^◌, ◌<◌, List, length, filter, IsTrue, IfOk};
+ghost use Rattle.gufi_base.specs.declared.record.Row.{Row};
 ghost use Rattle.gufi_base.specs.Basics.{ascends};
-ghost use Rattle.gufi_base.specs.Rows.{row_cmp};
+ghost use Rattle.gufi_base.specs.Paths.{Components};
+ghost use Rattle.gufi_base.specs.Rows.{row_cmp, is_dir_row};
+ghost use Rattle.gufi_stats.specs.Grouped.{grouped, depth, uid, gid};
 ghost use Rattle.gufi_stats.specs.Reports.{stats_text};
 
-use crate::group::{Key, lines_by};
+use crate::by_key::{Key, lines_by};
+use crate::counts::Counts;
 use crate::leaves::leaf_lines;
+use crate::number::{Depth, Gid, Uid};
 use gufi_base::{Memory, Path, Row};
 use std::alloc::Global;
 
@@ -46,4 +51,40 @@ pub fn stats_text(
         Report::Gids => lines_by(alloc, b"gid", rows, Key::Gid),
         Report::Leaves => leaf_lines(alloc, rows),
     }
+}
+
+/// The report of levels of rows that lie at and below a start, by their counts.
+///
+/// This call and the next two take time in proportion to the number of lines, times its logarithm.
+pub fn levels_text(alloc: Global, counts: Counts<Depth>, start: &Path) -> Result<Vec<u8>, Memory>
+    requires few { (rows : List Row) × (counts ≡ grouped depth rows) × (length rows < 2 ^ 40) }
+    ensures { IfOk result (λ text. (rows : List Row) → counts ≡ grouped depth rows → text.items ≡ stats_text rows start.now Report.Levels) }
+{
+    counts.lines(alloc, b"level", start.depth())
+}
+
+/// The report of owners, by the counts of rows.
+pub fn uids_text(alloc: Global, counts: Counts<Uid>) -> Result<Vec<u8>, Memory>
+    requires few { (rows : List Row) × (counts ≡ grouped uid rows) × (length rows < 2 ^ 40) }
+    ensures { IfOk result (λ text. (rows : List Row) (start : Components) → counts ≡ grouped uid rows → text.items ≡ stats_text rows start Report.Uids) }
+{
+    counts.lines(alloc, b"uid", 0)
+}
+
+/// The report of groups, by the counts of rows.
+pub fn gids_text(alloc: Global, counts: Counts<Gid>) -> Result<Vec<u8>, Memory>
+    requires few { (rows : List Row) × (counts ≡ grouped gid rows) × (length rows < 2 ^ 40) }
+    ensures { IfOk result (λ text. (rows : List Row) (start : Components) → counts ≡ grouped gid rows → text.items ≡ stats_text rows start Report.Gids) }
+{
+    counts.lines(alloc, b"gid", 0)
+}
+
+/// The report of leaves, by those of the rows that are directories, in path order.
+///
+/// Takes time in proportion to the directories.
+pub fn leaves_text(alloc: Global, directories: &[Row]) -> Result<Vec<u8>, Memory>
+    requires in_order { IsTrue (ascends row_cmp directories.now) }
+    ensures { IfOk result (λ text. (rows : List Row) (start : Components) → directories.now ≡ filter is_dir_row rows → text.items ≡ stats_text rows start Report.Leaves) }
+{
+    leaf_lines(alloc, directories)
 }

@@ -10,7 +10,7 @@ use Rattle.std.proofs.lemmas.Bool.Decides.{nat_tests}
 use Rattle.std.proofs.lemmas.Cmp.{nat_cmp_total}
 use Rattle.std.proofs.lemmas.List.Sorted.{IsPermutation-refl, IsPermutation-trans, IsPermutation-cons, list_any-IsPermutation}
 use Rattle.gufi_base.specs.Basics.{insert_by, sort_by, ascends, distinct, without}
-use Rattle.gufi_base.proofs.Permutations.{front_turned, IsPermutation-filter}
+use Rattle.gufi_base.proofs.Permutations.{IsPermutation-respected, front_turned, IsPermutation-filter}
 use Rattle.gufi_base.proofs.Sorting.{IsPermutation-sort_by}
 use Rattle.gufi_base.proofs.SortedOnce.{times, Once, less_turned, below_all, ascends-sort_by, ascends-filter, sort_by-IsPermutation, sort_by-to}
 
@@ -77,19 +77,29 @@ filters-swap p q (n ∷ ns) =
 behind-same : (n k : ℕ) (d : List ℕ) → n ≡ k → IsPermutation (n ∷ without n (k ∷ without k d)) (k ∷ without k (n ∷ without n d))
 behind-same n k d is = subst (λ m. IsPermutation (n ∷ without n (m ∷ without m d)) (m ∷ without m (n ∷ without n d))) is (IsPermutation-refl _)
 
+-- two numbers in front change places
+pub front-swapped : (n k : ℕ) (d : List ℕ) → IsPermutation (n ∷ without n (k ∷ without k d)) (k ∷ without k (n ∷ without n d))
+front-swapped n k d =
+    let swapped : without n (without k d) ≡ without k (without n d) = filters-swap (λ m. not (eqb m n)) (λ m. not (eqb m k)) d in
+    elim (cases_Bool (eqb k n)) [
+      | inl same ↦ behind-same n k d (sym (eqb-true k n same))
+      | inr other ↦ rw (other, eqb-sym n k, other, swapped) (front_turned n k _)
+    ]
+
 -- a number more behind the others is as good as before them
 pub distinct-behind : (ns : List ℕ) (k : ℕ) → IsPermutation (distinct (ns ++ k ∷ [])) (k ∷ without k (distinct ns))
 distinct-behind [] k = IsPermutation-refl _
 distinct-behind (n ∷ ns) k =
-    let d = distinct ns in
-    let first : IsPermutation (distinct ((n ∷ ns) ++ k ∷ [])) (n ∷ without n (k ∷ without k d)) =
-    IsPermutation-cons n _ _ (IsPermutation-filter (λ m. not (eqb m n)) _ _ (distinct-behind ns k)) in
-    let swapped : without n (without k d) ≡ without k (without n d) = filters-swap (λ m. not (eqb m n)) (λ m. not (eqb m k)) d in
-    IsPermutation-trans _ _ _ first
-    (elim (cases_Bool (eqb k n)) [
-      | inl same ↦ behind-same n k d (sym (eqb-true k n same))
-      | inr other ↦ rw (other, eqb-sym n k, other, swapped) (front_turned n k _)
-    ])
+    IsPermutation-trans _ _ _ (IsPermutation-cons n _ _ (IsPermutation-filter (λ m. not (eqb m n)) _ _ (distinct-behind ns k))) (front-swapped n k (distinct ns))
+
+-- the order of the numbers does not matter
+pub distinct-reordered : (ns ms : List ℕ) → IsPermutation ns ms → IsPermutation (distinct ns) (distinct ms)
+distinct-reordered =
+    IsPermutation-respected IsPermutation IsPermutation-refl IsPermutation-trans distinct
+    (λ n us vs e. IsPermutation-cons n _ _ (IsPermutation-filter (λ m. not (eqb m n)) _ _ e)) (λ n k us. front-swapped n k (distinct us))
+
+pub sorted-reordered : (ns ms : List ℕ) → IsPermutation ns ms → sort_by nat_cmp (distinct ns) ≡ sort_by nat_cmp (distinct ms)
+sorted-reordered ns ms h = sort_by-IsPermutation nat_cmp nat_cmp_total _ _ (distinct-reordered ns ms h) (Once-distinct ns)
 
 pub sorted-behind : (ns : List ℕ) (k : ℕ) → sort_by nat_cmp (distinct (ns ++ k ∷ [])) ≡ insert_by nat_cmp k (without k (sort_by nat_cmp (distinct ns)))
 sorted-behind ns k =
