@@ -2,6 +2,7 @@ pub mod Arranged
 pub mod Behind
 pub mod PathLists
 pub mod RowLists
+pub mod RowParts
 pub mod SameRow
 pub mod Spots
 pub mod Stretches

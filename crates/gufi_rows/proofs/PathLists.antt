@@ -96,12 +96,12 @@ line-parts front last text path parts =
     ap (λ (t : List ℕ). t ++ 10 ∷ []) (append_assoc text front last ∙ ap (λ (t : List ℕ). text ++ t) (ap (λ (t : List ℕ). t ++ last) parts.stem ∙ ap (λ (t : List ℕ). stem path ++ t) parts.base ∙ sym (path_text-parts path)))
     ∙ append_assoc text (path_text path) (10 ∷ [])
 
--- the lines of the paths at the places
-abbrev pub lines_at : List Components → List ℕ → List ℕ
-lines_at paths places = flat_map path_line (picked paths [] places)
+-- the texts of the elements at the places
+abbrev pub texts_at : {A : Type 0} → (A → List ℕ) → List A → A → List ℕ → List ℕ
+texts_at text xs d places = flat_map text (picked xs d places)
 
-pub lines-join : (paths : List Components) (ks js : List ℕ) → lines_at paths (ks ++ js) ≡ lines_at paths ks ++ lines_at paths js
-lines-join paths ks js = ap (flat_map path_line) (map-append (λ k. get_or paths k []) ks js) ∙ flat_map-append path_line (picked paths [] ks) (picked paths [] js)
+pub texts-join : {A : Type 0} (text : A → List ℕ) (xs : List A) (d : A) (ks js : List ℕ) → texts_at text xs d (ks ++ js) ≡ texts_at text xs d ks ++ texts_at text xs d js
+texts-join text xs d ks js = ap (flat_map text) (map-append (λ k. get_or xs k d) ks js) ∙ flat_map-append text (picked xs d ks) (picked xs d js)
 
 -- rows ascend as their paths do
 pub ascends-paths : (rows : List Row) → ascends path_cmp (row_paths rows) ≡ ascends row_cmp rows

@@ -9,9 +9,14 @@ mod kept;
 mod path_lines;
 mod path_list;
 mod path_order;
+mod row_line;
+mod row_lines;
 mod row_list;
+mod row_parts;
 mod spot;
 mod stretch;
 
 pub use path_list::PathList;
+pub use row_line::RowLine;
 pub use row_list::RowList;
+pub use row_parts::{depth_of, parts_of};

@@ -28,7 +28,7 @@ fn put_line(text: &mut Vec<u8>, parts: Parts<'_>) -> Result<(), AllocError>
 }
 
 /// Adds the lines of a stretch.
-fn put_lines(text: &mut Vec<u8>, list: &PathList, stretch: Stretch) -> Result<(), AllocError>
+fn put_stretch(text: &mut Vec<u8>, list: &PathList, stretch: Stretch) -> Result<(), AllocError>
     ensures { OnOk result (text.new.items ≡ text.old.items ++ flat_map path_line (picked list.now [] (places_between stretch.from stretch.end))) }
 {
     for place in stretch.from..stretch.end {
@@ -37,25 +37,42 @@ fn put_lines(text: &mut Vec<u8>, list: &PathList, stretch: Stretch) -> Result<()
     Ok(())
 }
 
-fn lines_at(list: &PathList, alloc: Global, stretches: &[Stretch]) -> Result<Vec<u8>, AllocError>
-    ensures { IfOk result (λ text. text.items ≡ flat_map path_line (picked list.now [] (places_of stretches.now))) }
+/// Adds the lines of stretches.
+fn put_stretches(
+    text: &mut Vec<u8>,
+    list: &PathList,
+    stretches: &[Stretch],
+) -> Result<(), AllocError>
+    ensures { OnOk result (text.new.items ≡ text.old.items ++ flat_map path_line (picked list.now [] (places_of stretches.now))) }
 {
-    let mut text = Vec::with_capacity(alloc, list.line_bytes())?;
     for stretch in stretches {
-        put_lines(&mut text, list, *stretch)?;
+        put_stretch(text, list, *stretch)?;
     }
-    Ok(text)
+    Ok(())
 }
 
 impl PathList {
+    /// Appends the printed paths in path order, each with a newline behind it. Memory for all of them is taken once.
+    ///
+    /// Takes time in proportion to the bytes where the rows come as a walk gives them. Where memory runs out, the text may
+    /// hold a part of the lines.
+    pub fn put_lines(self, alloc: Global, text: &mut Vec<u8>) -> Result<(), Memory>
+        ensures { OnOk result ((rows : List Row) → ArePathsOf self rows → IsTrue (ascends row_cmp rows) → text.new.items ≡ text.old.items ++ path_lines rows) }
+    {
+        let stretches = order(&self, alloc)?;
+        text.reserve(self.line_bytes())?;
+        put_stretches(text, &self, stretches.as_slice())?;
+        Ok(())
+    }
+
     /// The printed paths in path order, each with a newline behind it. One allocation for the text.
     ///
     /// Takes time in proportion to the bytes where the rows come as a walk gives them.
     pub fn lines(self, alloc: Global) -> Result<Vec<u8>, Memory>
         ensures { IfOk result (λ text. (rows : List Row) → ArePathsOf self rows → IsTrue (ascends row_cmp rows) → text.items ≡ path_lines rows) }
     {
-        let stretches = order(&self, alloc)?;
-        let text = lines_at(&self, alloc, stretches.as_slice())?;
+        let mut text = Vec::new(alloc);
+        self.put_lines(alloc, &mut text)?;
         Ok(text)
     }
 }

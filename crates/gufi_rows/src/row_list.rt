@@ -110,7 +110,7 @@ impl RowList {
     }
 
     /// The row at a place, in borrowed parts.
-    fn row_at(&self, place: usize) -> RowRef<'_>
+    pub(crate) fn row_at(&self, place: usize) -> RowRef<'_>
         requires { place < length self.now }
         ensures { Stands result (slice_index_or self.now place no_row) }
     {
@@ -175,6 +175,20 @@ impl RowList {
         Ok(rows)
     }
 
+    /// The places of the rows, in path order.
+    pub(crate) fn order(&self, alloc: Global) -> Result<Vec<Stretch>, Memory>
+        ensures within { IfOk result (λ stretches. All (λ stretch. stretch.end ≤ length self.now) stretches.items) }
+        ensures moved { IfOk result (λ stretches. IsPermutation self.now (picked self.now no_row (places_of stretches.items))) }
+        ensures sorted { IfOk result (λ stretches. IsSortedBy (λ a b. is_lt (row_cmp a b)) (picked self.now no_row (places_of stretches.items))) }
+
+        // Of the lists that it stands for one at most ascends, and these are its rows.
+        ensures only { IfOk result (λ stretches. (other : List SeenRow) → IsPermutation self.now other → IsTrue (ascends row_cmp other)
+            → picked self.now no_row (places_of stretches.items) ≡ other) }
+    {
+        let stretches = order(&self.paths, alloc)?;
+        Ok(stretches)
+    }
+
     /// The rows in path order, each in memory of its own.
     ///
     /// Takes time in proportion to the bytes where the rows come as a walk gives them.
@@ -185,7 +199,7 @@ impl RowList {
         // Of the lists that it stands for one at most ascends, and this is it.
         ensures only { IfOk result (λ rows. (other : List SeenRow) → IsPermutation self other → IsTrue (ascends row_cmp other) → rows.items ≡ other) }
     {
-        let stretches = order(&self.paths, alloc)?;
+        let stretches = self.order(alloc)?;
         let rows = self.rows_at(alloc, stretches.as_slice())?;
         Ok(rows)
     }

@@ -1,0 +1,33 @@
+//! Rows in borrowed parts.
+
+ghost use Rattle.std.specs.Prelude.{◌≡◌, length};
+ghost use Rattle.gufi_base.specs.declared.record.Row.{Row as SeenRow};
+ghost use Rattle.gufi_base.specs.Rows.{Stands, StandsForSome};
+
+use gufi_base::{PathRef, Row, RowRef};
+
+/// A row in borrowed parts. Nothing is copied.
+pub fn parts_of(row: &Row) -> RowRef<'_>
+    ensures { Stands result row.now }
+{
+    // Its clause tells that the path's names are file names.
+    let _text = row.path.text();
+    let (stem, base) = row.path.stem_and_base();
+    RowRef {
+        stem,
+        base,
+        meta: &row.rec.meta,
+        link: row.rec.link.as_slice(),
+    }
+}
+
+/// How many names the path of a row has. It counts the slashes of the stem.
+pub fn depth_of(row: RowRef<'_>) -> usize
+    requires { StandsForSome row }
+    ensures { (of : SeenRow) → Stands row.entry of → result ≡ length of.path }
+{
+    if row.stem.len() == 0 {
+        return 0;
+    }
+    PathRef::of_text(row.stem).depth() + 1
+}
