@@ -2,7 +2,6 @@ pub mod Folds
 pub mod Isolation
 pub mod Joins
 pub mod Pieces
-pub mod Replies
 pub mod StartRow
 pub mod Tasks
 pub mod Walked

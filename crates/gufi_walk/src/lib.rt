@@ -18,7 +18,9 @@ mod walkers;
 pub use descent::answer_alone;
 pub use laws::{answers_are_private, folds_hold_the_answer};
 pub use refusal::Refusal;
-pub use reply::{PathLines, answer_lines, answer_rows, answer_sum, put_refusal};
+pub use reply::{
+    PathLines, answer_lines, answer_list, answer_paths, answer_rows, answer_sum, put_refusal,
+};
 pub use start::found_start;
 pub use total::{answer_total, total_from};
 pub use walkers::{Walkers, answer};

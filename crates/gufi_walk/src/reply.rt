@@ -1,7 +1,10 @@
 //! What is made of an answer: its printed paths, its rows, their sum; and a refusal in words.
 
-ghost use Rattle.std.specs.Prelude.{◌≡◌, ◌≢◌, ◌++◌, length, Some, None, IfOk, IfErr, OnOk, decimal};
-ghost use Rattle.gufi_rows.specs.PathLines.{path_lines};
+ghost use Rattle.std.specs.Prelude.{◌≡◌, ◌≢◌, ◌++◌, length, Some, None, IsTrue, IfOk, IfErr, OnOk, decimal};
+ghost use Rattle.std.specs.List.Sorted.{IsPermutation};
+ghost use Rattle.gufi_base.specs.Basics.{ascends};
+ghost use Rattle.gufi_base.specs.Rows.{row_cmp};
+ghost use Rattle.gufi_rows.specs.PathLines.{path_lines, ArePathsOf};
 ghost use Rattle.gufi_sums.specs.Total.{total};
 ghost use Rattle.gufi_tree.specs.Resolve.{resolve};
 ghost use Rattle.gufi_walk.specs.Answer.{answer, refusal_of};
@@ -26,6 +29,39 @@ pub struct PathLines {
     pub text: Vec<u8>,
 }
 
+/// The paths of the rows that the principal lists from the start and that meet the question, in one list.
+///
+/// Their lines are in path order, whatever order they stand in there.
+pub fn answer_paths<R: Threads + Wait + Sync, P: Pred + Sync, G: Gate + Sync>(
+    walkers: &Walkers<'_, R, G>,
+    alloc: Global,
+    snap: &Snapshot,
+    who: &Principal,
+    start: &Path,
+    pred: &P,
+) -> Result<PathList, Refusal>
+where
+    P::Tester: Send,
+    ensures paths { IfOk result (λ paths. ArePathsOf paths (answer snap.now.tree who.now start.now (P.sat pred.now))) }
+    ensures ascends { IsTrue (ascends row_cmp (answer snap.now.tree who.now start.now (P.sat pred.now))) }
+    ensures found { OnOk result (refusal_of (resolve snap.now.tree who.now start.now) ≡ None) }
+    ensures refusal { IfErr result (λ refusal. refusal ≢ Refusal.Memory → refusal_of (resolve snap.now.tree who.now start.now) ≡ Some refusal) }
+{
+    // The tree's shape tells that the answer's paths ascend.
+    let _tree = snap.tree();
+    answer::<R, P, PathList, NoSkip, G>(
+        walkers.rt,
+        alloc,
+        snap,
+        who,
+        start,
+        pred,
+        &NoSkip,
+        walkers.count,
+        walkers.gate,
+    )
+}
+
 /// The paths of the rows that the principal lists from the start and that meet the question, in path order.
 pub fn answer_lines<R: Threads + Wait + Sync, P: Pred + Sync, G: Gate + Sync>(
     walkers: &Walkers<'_, R, G>,
@@ -42,9 +78,37 @@ where
     ensures found { OnOk result (refusal_of (resolve snap.now.tree who.now start.now) ≡ None) }
     ensures refusal { IfErr result (λ refusal. refusal ≢ Refusal.Memory → refusal_of (resolve snap.now.tree who.now start.now) ≡ Some refusal) }
 {
+    match answer_paths(walkers, alloc, snap, who, start, pred) {
+        Ok(paths) => {
+            let count = paths.len();
+            let text = paths.lines(alloc)?;
+            Ok(PathLines { count, text })
+        }
+        Err(refusal) => Err(refusal),
+    }
+}
+
+/// The rows that the principal lists from the start and that meet the question, in one list.
+///
+/// Their lines are in path order, whatever order they stand in there.
+pub fn answer_list<R: Threads + Wait + Sync, P: Pred + Sync, G: Gate + Sync>(
+    walkers: &Walkers<'_, R, G>,
+    alloc: Global,
+    snap: &Snapshot,
+    who: &Principal,
+    start: &Path,
+    pred: &P,
+) -> Result<RowList, Refusal>
+where
+    P::Tester: Send,
+    ensures rows { IfOk result (λ rows. IsPermutation rows (answer snap.now.tree who.now start.now (P.sat pred.now))) }
+    ensures ascends { IsTrue (ascends row_cmp (answer snap.now.tree who.now start.now (P.sat pred.now))) }
+    ensures found { OnOk result (refusal_of (resolve snap.now.tree who.now start.now) ≡ None) }
+    ensures refusal { IfErr result (λ refusal. refusal ≢ Refusal.Memory → refusal_of (resolve snap.now.tree who.now start.now) ≡ Some refusal) }
+{
     // The tree's shape tells that the answer's paths ascend.
     let _tree = snap.tree();
-    match answer::<R, P, PathList, NoSkip, G>(
+    answer::<R, P, RowList, NoSkip, G>(
         walkers.rt,
         alloc,
         snap,
@@ -54,14 +118,7 @@ where
         &NoSkip,
         walkers.count,
         walkers.gate,
-    ) {
-        Ok(paths) => {
-            let count = paths.len();
-            let text = paths.lines(alloc)?;
-            Ok(PathLines { count, text })
-        }
-        Err(refusal) => Err(refusal),
-    }
+    )
 }
 
 /// The rows that the principal lists from the start and that meet the question, in path order.
@@ -79,19 +136,7 @@ where
     ensures found { OnOk result (refusal_of (resolve snap.now.tree who.now start.now) ≡ None) }
     ensures refusal { IfErr result (λ refusal. refusal ≢ Refusal.Memory → refusal_of (resolve snap.now.tree who.now start.now) ≡ Some refusal) }
 {
-    // The tree's shape tells that the answer's paths ascend.
-    let _tree = snap.tree();
-    match answer::<R, P, RowList, NoSkip, G>(
-        walkers.rt,
-        alloc,
-        snap,
-        who,
-        start,
-        pred,
-        &NoSkip,
-        walkers.count,
-        walkers.gate,
-    ) {
+    match answer_list(walkers, alloc, snap, who, start, pred) {
         Ok(rows) => Ok(rows.sorted(alloc)?),
         Err(refusal) => Err(refusal),
     }
