@@ -8,7 +8,7 @@ use Rattle.gufi_base.proofs.CutParts.{path_text-parts}
 use Rattle.gufi_select.specs.Columns.{Seen, Select, seen_row, holds_in, select_holds}
 use Rattle.gufi_select.specs.Parts.{seen_parts}
 
-same_seen : (ref : RowRef) (row : Row) (depth : ℕ) → Stands ref row → seen_parts ref depth ≡ seen_row row depth
+pub same_seen : (ref : RowRef) (row : Row) (depth : ℕ) → Stands ref row → seen_parts ref depth ≡ seen_row row depth
 same_seen ref row depth stands =
     rw (stands.stem, stands.base, stands.meta, stands.link)
     (ap (λ path. let s : Seen = record { path = path; name = base_name row.path; meta = row.rec.meta; link = row.rec.link; depth = depth } in s) (sym (path_text-parts row.path)))

@@ -1,7 +1,7 @@
 //! The SELECT profile: a query that chooses rows by a condition and prints columns of them.
 //!
-//! Contracts see a SELECT as its columns, its table, its REGEXP and a formula of conditions. It stands on rows, formulas
-//! and the `regex` crate; what prints queries stands on it.
+//! Contracts see a SELECT as its columns, its table, its REGEXP and a formula of conditions. It stands on rows, lists of
+//! rows, formulas and the `regex` crate; what prints queries stands on it.
 #![tactic(auto)]
 
 mod column;
@@ -22,6 +22,6 @@ mod word;
 
 pub use fault::{SelectError, SelectKind};
 pub use laws::conditions_read_back;
-pub use projection::select_text;
+pub use projection::{SelectLine, select_text};
 pub use reading::read_select;
 pub use select::{Select, SelectQuestion, SelectTester};
