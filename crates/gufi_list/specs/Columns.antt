@@ -3,8 +3,9 @@ use Rattle.std.specs.Prelude.{ℕ, Bool, List, [], ◌++◌, if◌then◌else◌
 use Rattle.std.specs.Fmt.{signed_decimal}
 use Rattle.gufi_base.specs.declared.record.Meta.{Meta}
 use Rattle.gufi_base.specs.declared.record.Row.{Row}
+use Rattle.gufi_base.specs.declared.record.RowRef.{RowRef}
 use Rattle.gufi_users.specs.Entries.{UserTables}
-use Rattle.gufi_list.specs.Listings.{mode_text, owner_text, group_text, is_shown, ls_line}
+use Rattle.gufi_list.specs.Listings.{mode_text, owner_text, group_text, is_name_shown, is_shown, ls_line, record_line}
 
 abbrev pub links_column : Meta → List ℕ
 links_column m = mode_text m ++ (codes " " ++ decimal m.nlink)
@@ -21,3 +22,7 @@ meta_columns tables m = links_column m ++ (owners_column tables m ++ sizes_colum
 -- the line of a row that is shown, and else nothing
 abbrev pub shown_line : UserTables → Bool → Bool → Row → List ℕ
 shown_line tables long all row = if is_shown all row then ls_line tables long row else []
+
+-- the same of a row in borrowed parts
+abbrev pub shown_parts : UserTables → Bool → Bool → RowRef → List ℕ
+shown_parts tables long all ref = if is_name_shown all ref.base.now then record_line tables long ref.meta.now ref.base.now ref.link.now else []

@@ -50,24 +50,30 @@ owner_text tables uid = unwrap_or (name_of_uid tables uid) (decimal uid)
 abbrev pub group_text : UserTables → ℕ → List ℕ
 group_text tables gid = unwrap_or (name_of_gid tables gid) (decimal gid)
 
-abbrev pub target_text : Row → List ℕ
-target_text row = if is_link row.rec.meta.kind then codes " -> " ++ row.rec.link else []
+abbrev pub target_text : Meta → List ℕ → List ℕ
+target_text m link = if is_link m.kind then codes " -> " ++ link else []
 
-abbrev pub long_text : UserTables → Row → List ℕ
-long_text tables row =
-    let m = row.rec.meta in
-    join_with_byte 32 (mode_text m ∷ decimal m.nlink ∷ owner_text tables m.uid ∷ group_text tables m.gid ∷ decimal m.size ∷ signed_decimal m.mtime ∷ base_name row.path ∷ [])
-    ++ target_text row
+abbrev pub long_text : UserTables → Meta → List ℕ → List ℕ → List ℕ
+long_text tables m name link =
+    join_with_byte 32 (mode_text m ∷ decimal m.nlink ∷ owner_text tables m.uid ∷ group_text tables m.gid ∷ decimal m.size ∷ signed_decimal m.mtime ∷ name ∷ [])
+    ++ target_text m link
+
+-- the line of a record, a name and the target of a link
+abbrev pub record_line : UserTables → Bool → Meta → List ℕ → List ℕ → List ℕ
+record_line tables long m name link = line (if long then long_text tables m name link else name)
 
 abbrev pub ls_line : UserTables → Bool → Row → List ℕ
-ls_line tables long row = line (if long then long_text tables row else base_name row.path)
+ls_line tables long row = record_line tables long row.rec.meta (base_name row.path) row.rec.link
 
 -- names that begin with a dot only where all are wanted
 abbrev pub is_hidden : List ℕ → Bool
 is_hidden name = starts_with nat_eq name (codes ".")
 
+abbrev pub is_name_shown : Bool → List ℕ → Bool
+is_name_shown all name = all || not (is_hidden name)
+
 abbrev pub is_shown : Bool → Row → Bool
-is_shown all row = all || not (is_hidden (base_name row.path))
+is_shown all row = is_name_shown all (base_name row.path)
 
 abbrev pub ls_text : List Row → UserTables → Bool → Bool → List ℕ
 ls_text rows tables long all = flat_map (ls_line tables long) (filter (is_shown all) rows)

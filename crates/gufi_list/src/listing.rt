@@ -2,13 +2,13 @@
 
 ghost use Rattle.std.specs.Prelude.{◌≡◌, ◌++◌, IfOk, OnOk};
 ghost use Rattle.gufi_base.specs.Kinds.{is_link};
-ghost use Rattle.gufi_base.specs.Basics.{line};
-ghost use Rattle.gufi_list.specs.Columns.{links_column, owners_column, sizes_column, meta_columns, shown_line};
-ghost use Rattle.gufi_list.specs.Listings.{owner_text, group_text, target_text, long_text, ls_line, is_hidden, is_shown, ls_text, ls_asks};
+ghost use Rattle.gufi_list.specs.Columns.{links_column, owners_column, sizes_column, meta_columns, shown_line, shown_parts};
+ghost use Rattle.gufi_list.specs.Listings.{owner_text, group_text, target_text, long_text, record_line, is_hidden, is_name_shown, ls_text, ls_asks};
 
 use crate::mode::mode_text;
 use crate::put::put_signed;
 use gufi_base::{Kind, Memory, Meta, Pred, Row, RowRef, Tester, put, put_named, put_u64};
+use gufi_rows::{RowLine, parts_of};
 use gufi_users::Users;
 use std::alloc::Global;
 
@@ -69,31 +69,31 @@ fn is_link(kind: Kind) -> bool
     matches!(kind, Kind::Link)
 }
 
-fn put_target(out: &mut Vec<u8>, row: &Row) -> Result<(), Memory>
-    ensures { OnOk result (out.new.items ≡ out.old.items ++ target_text row.now) }
+fn put_target(out: &mut Vec<u8>, meta: &Meta, link: &[u8]) -> Result<(), Memory>
+    ensures { OnOk result (out.new.items ≡ out.old.items ++ target_text meta.now link.now) }
 {
-    if !is_link(row.rec.meta.kind) {
+    if !is_link(meta.kind) {
         return Ok(());
     }
     put(out, b" -> ")?;
-    put(out, row.rec.link.as_slice())
+    put(out, link)
 }
 
-fn put_long(out: &mut Vec<u8>, users: &Users, row: &Row) -> Result<(), Memory>
-    ensures { OnOk result (out.new.items ≡ out.old.items ++ long_text users.now row.now) }
+fn put_long(out: &mut Vec<u8>, users: &Users, row: RowRef<'_>) -> Result<(), Memory>
+    ensures { OnOk result (out.new.items ≡ out.old.items ++ long_text users.now row.entry.meta.now row.entry.base.now row.entry.link.now) }
 {
-    put_columns(out, users, &row.rec.meta)?;
-    put(out, row.path.base_name())?;
-    put_target(out, row)
+    put_columns(out, users, row.meta)?;
+    put(out, row.base)?;
+    put_target(out, row.meta, row.link)
 }
 
-fn put_line(out: &mut Vec<u8>, users: &Users, long: bool, row: &Row) -> Result<(), Memory>
-    ensures { OnOk result (out.new.items ≡ out.old.items ++ ls_line users.now long row.now) }
+fn put_line(out: &mut Vec<u8>, users: &Users, long: bool, row: RowRef<'_>) -> Result<(), Memory>
+    ensures { OnOk result (out.new.items ≡ out.old.items ++ record_line users.now long row.entry.meta.now row.entry.base.now row.entry.link.now) }
 {
     if long {
         put_long(out, users, row)?;
     } else {
-        put(out, row.path.base_name())?;
+        put(out, row.base)?;
     }
     put(out, b"\n")
 }
@@ -104,10 +104,10 @@ fn is_hidden(name: &[u8]) -> bool
     name.starts_with(b".")
 }
 
-fn is_shown(all: bool, row: &Row) -> bool
-    ensures { result ≡ is_shown all row.now }
+fn is_shown(all: bool, name: &[u8]) -> bool
+    ensures { result ≡ is_name_shown all name.now }
 {
-    all || !is_hidden(row.path.base_name())
+    all || !is_hidden(name)
 }
 
 /// The rows that `ls` shows of a start: those one level below it, and no name that begins with a dot unless `all`.
@@ -120,7 +120,7 @@ impl Tester for OneBelow {
     ghost meets = { λ shown row depth. ls_asks shown.all row depth };
 
     fn test(&mut self, _alloc: Global, row: RowRef<'_>, depth: u32) -> Result<bool, Memory> {
-        Ok(depth == 1 && (self.all || !is_hidden(row.base)))
+        Ok(depth == 1 && is_shown(self.all, row.base))
     }
 }
 
@@ -134,20 +134,45 @@ impl Pred for OneBelow {
     }
 }
 
+/// What `ls` prints of a row.
+///
+/// A line is the name, and where `long` before it the mode string, links, owner, group, size and mtime, and behind the
+/// name of a link ` -> ` and its target. Owner and group are names, or numbers where there is none. There is no line for a
+/// name that begins with a dot unless `all`.
+#[derive(Clone, Copy)]
+pub struct LsLine<'u> {
+    pub users: &'u Users,
+    pub long: bool,
+    pub all: bool,
+}
+
 /// The line of a row that is shown.
-fn put_row(out: &mut Vec<u8>, users: &Users, long: bool, all: bool, row: &Row) -> Result<(), Memory>
-    ensures { OnOk result (out.new.items ≡ out.old.items ++ shown_line users.now long all row.now) }
+fn put_shown(
+    out: &mut Vec<u8>,
+    users: &Users,
+    long: bool,
+    all: bool,
+    row: RowRef<'_>,
+) -> Result<(), Memory>
+    ensures { OnOk result (out.new.items ≡ out.old.items ++ shown_parts users.now long all row.entry) }
 {
-    if !is_shown(all, row) {
+    if !is_shown(all, row.base) {
         return Ok(());
     }
     put_line(out, users, long, row)
 }
 
-/// What `ls` prints of rows, in the order given: a line each, and none for a name that begins with a dot unless `all`.
-///
-/// A line is the name, and where `long` before it the mode string, links, owner, group, size and mtime, and behind the
-/// name of a link ` -> ` and its target. Owner and group are names, or numbers where there is none.
+impl<'u> RowLine for LsLine<'u> {
+    ghost line = { λ l row. shown_line l.users.now l.long l.all row };
+
+    #[tactic(auto, using(crate::proofs::Shown::shown_of_parts))]
+    fn put(&self, row: RowRef<'_>, out: &mut Vec<u8>) -> Result<(), Memory> {
+        put_shown(out, self.users, self.long, self.all, row)?;
+        Ok(())
+    }
+}
+
+/// What `ls` prints of rows, in the order given: the line of each that is shown. One buffer for the whole text.
 pub fn ls_text(
     alloc: Global,
     rows: &[Row],
@@ -157,9 +182,10 @@ pub fn ls_text(
 ) -> Result<Vec<u8>, Memory>
     ensures { IfOk result (λ text. text.items ≡ ls_text rows.now users.now long all) }
 {
+    let line = LsLine { users, long, all };
     let mut text = Vec::new(alloc);
     for row in rows {
-        put_row(&mut text, users, long, all, row)?;
+        line.put(parts_of(row), &mut text)?;
     }
     Ok(text)
 }

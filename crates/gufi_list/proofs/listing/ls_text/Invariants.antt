@@ -1,6 +1,7 @@
 use Rattle.std.proofs.Common.{◌≡◌, take}
-use Rattle.gufi_list.specs.Listings.{ls_text}
+use Rattle.std.specs.List.{flat_map}
+use Rattle.gufi_list.specs.Columns.{shown_line}
 use Rattle.gufi_list.proofs.listing.ls_text.Given as goal
 
 abbrev pub invariant-loop-row : goal.invariant-loop-row
-invariant-loop-row l = l.text.items ≡ ls_text (take l.row-index l.rows) l.users l.long l.all
+invariant-loop-row l = l.text.items ≡ flat_map (shown_line l.users l.long l.all) (take l.row-index l.rows)
