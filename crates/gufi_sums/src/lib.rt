@@ -1,7 +1,7 @@
 //! Sums of rows: how many of each kind, their bytes, and the least and greatest of their values.
 //!
 //! Contracts see a `Summary` as its fields; `total` is the sum of a list of rows, and sums join in any order and grouping.
-//! A `Skip` tells by a sum alone that none of its rows can meet a query.
+//! A `Skip` tells by a sum alone that none of its rows can meet a query, and how deep a walk need go.
 //! It stands on `gufi_base`; walks that count and stores that keep sums stand on it.
 #![tactic(auto)]
 
@@ -12,5 +12,5 @@ mod summary;
 
 pub use counts::put_counts;
 pub use laws::sums_join;
-pub use skip::{NoSkip, Skip};
+pub use skip::{NoDeeper, NoSkip, Skip};
 pub use summary::Summary;

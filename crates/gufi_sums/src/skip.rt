@@ -1,13 +1,14 @@
-//! Tests of sums, by which whole lists of rows are passed over.
-ghost use Rattle.std.specs.Prelude.{◌≡◌, ℕ, Bool, true, false, List};
+//! Tests of sums and of depths, by which whole lists of rows are passed over.
+ghost use Rattle.std.specs.Prelude.{◌≡◌, ℕ, ◌≤◌, Bool, true, false, List, Option, Some, None};
 ghost use Rattle.gufi_base.specs.declared.record.Row.{Row};
 ghost use Rattle.gufi_sums.specs.declared.summary.Summary.{Summary};
+ghost use Rattle.gufi_sums.specs.Depths.{is_within, nothing_within, within_most};
 ghost use Rattle.gufi_sums.specs.Total.{total, NoneMeets};
 ghost use Rattle.std.proofs.lemmas.Bool.{false≢true};
 
 use crate::summary::Summary;
 
-/// A test of sums that tells where no row can meet a query.
+/// A test of sums and of depths that tells where no row can meet a query.
 pub trait Skip {
     /// Whether a row at a depth meets the query.
     ghost query: { Self → Row → ℕ → Bool };
@@ -19,9 +20,20 @@ pub trait Skip {
     ghost sound: { (skip : Self) (sum : Summary) → skips skip sum ≡ true → (rows : List Row) → total rows ≡ sum →
         NoneMeets (query skip) rows };
 
+    /// The greatest depth of a row that meets the query, where it is known.
+    ghost deepest: { Self → Option ℕ };
+
+    /// No row that lies deeper meets the query.
+    ghost bounded: { (skip : Self) (most : ℕ) → deepest skip ≡ Some most → (row : Row) (depth : ℕ) →
+        query skip row depth ≡ true → depth ≤ most };
+
     /// Whether the sum alone tells that none of its rows meets the query. False tells nothing.
     fn none_match(&self, sum: &Summary) -> bool
         ensures { result ≡ skips self.now sum.now };
+
+    /// No row that lies deeper than this below the start meets the query. None tells nothing.
+    fn deepest(&self) -> Option<u32>
+        ensures { result ≡ deepest self.now };
 }
 
 /// Passes nothing over: every row meets its query.
@@ -35,7 +47,41 @@ impl Skip for NoSkip {
 
     ghost sound = { λ skip sum e rows is. absurd (false≢true e) };
 
+    ghost deepest = { λ _. None };
+
+    ghost bounded = { λ skip most is row depth met. nothing_within most is depth };
+
     fn none_match(&self, _sum: &Summary) -> bool {
         false
+    }
+
+    fn deepest(&self) -> Option<u32> {
+        None
+    }
+}
+
+/// Passes over what lies deeper below the start than a depth, where there is one.
+#[derive(Clone, Copy, Debug, PartialEq, Eq)]
+pub struct NoDeeper {
+    pub than: Option<u32>,
+}
+
+impl Skip for NoDeeper {
+    ghost query = { λ skip row depth. is_within skip.than depth };
+
+    ghost skips = { λ _ _. false };
+
+    ghost sound = { λ skip sum e rows is. absurd (false≢true e) };
+
+    ghost deepest = { λ skip. skip.than };
+
+    ghost bounded = { λ skip most is row depth met. within_most skip.than most is depth met };
+
+    fn none_match(&self, sum: &Summary) -> bool {
+        NoSkip.none_match(sum)
+    }
+
+    fn deepest(&self) -> Option<u32> {
+        self.than
     }
 }
