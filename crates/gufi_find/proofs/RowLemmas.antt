@@ -1,7 +1,7 @@
 -- The truth of expressions at rows, in borrowed parts too.
-use Rattle.std.proofs.Common.{◌≡◌, ℕ, ◌++◌, true, false, refl, sym, ap, arith}
+use Rattle.std.proofs.Common.{◌≡◌, ◌∙◌, ℕ, ◌≤◌, ◌++◌, true, false, refl, sym, ap, subst, arith}
 use Rattle.std.specs.Prelude.{Option, Some, None, ◌==◌, ◌&&◌, nat_le, is_none}
-use Rattle.std.proofs.lemmas.Bool.{false≢true, and_parts, eqb-true, le-leb}
+use Rattle.std.proofs.lemmas.Bool.{false≢true, and_parts, eqb-true, leb-true, le-leb}
 use Rattle.gufi_base.specs.declared.record.Row.{Row}
 use Rattle.gufi_base.specs.declared.record.RowRef.{RowRef}
 use Rattle.gufi_base.specs.Rows.{Stands}
@@ -43,3 +43,10 @@ every_row f e = λ i row depth. each row depth i where
       let bounds = and_parts (f.least_depth == 0) (is_none f.most_depth) parts.1 in
       let low : nat_le f.least_depth depth ≡ true = le-leb f.least_depth depth (omega (arith, eqb-true f.least_depth 0 bounds.0)) in
       rw (wordless_true f.expr parts.0 row, low, no_bound f.most_depth bounds.1 depth) refl
+
+-- ---- depths
+
+-- where it is true, the depth is within the greatest one
+pub no_deeper : (f : Find) (deepest : Option ℕ) (most : ℕ) (row : Row) (depth : ℕ) → deepest ≡ f.most_depth → deepest ≡ Some most → find_holds f row depth ≡ true → depth ≤ most
+no_deeper f deepest most row depth is bound holds =
+    leb-true depth most (subst (λ o. is_at_most o depth ≡ true) (sym is ∙ bound) (and_parts _ _ holds).1)

@@ -1,5 +1,5 @@
 //! Expressions, and their truth at a row.
-ghost use Rattle.std.specs.Prelude.{◌≡◌, ◌&&◌, nat_le, true, IsTrue};
+ghost use Rattle.std.specs.Prelude.{◌≡◌, ℕ, ◌≤◌, ◌&&◌, nat_le, true, IsTrue, Some};
 ghost use Rattle.gufi_base.specs.declared.record.Row.{Row};
 ghost use Rattle.gufi_base.specs.Rows.{Stands, StandsForSome};
 ghost use Rattle.gufi_find.specs.Expressions.{find_holds, has_no_words, is_at_most};
@@ -50,6 +50,15 @@ impl FindExpr {
                 Some(most) => depth <= most,
                 None => true,
             }
+    }
+
+    /// The greatest depth that its words allow, where they bound it: at a greater one it is false of every row.
+    #[tactic(auto, using(crate::proofs::RowLemmas::no_deeper))]
+    pub fn max_depth(&self) -> Option<u32>
+        ensures exact { result ≡ self.now.most_depth }
+        ensures bounded { (most : ℕ) → result ≡ Some most → (row : Row) (depth : ℕ) → find_holds self.now row depth ≡ true → depth ≤ most }
+    {
+        self.most_depth
     }
 
     /// Whether it has no words and no bounds of depth: then it is true of every row.

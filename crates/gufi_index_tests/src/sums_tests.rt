@@ -2,7 +2,7 @@
 ghost use Rattle.gufi_base.specs.Rows.{StandsForSome};
 
 use gufi_base::{Kind, Memory, Meta, RowRef, Yield};
-use gufi_sums::{NoSkip, Skip, Summary};
+use gufi_sums::{NoDeeper, NoSkip, Skip, Summary};
 use std::alloc::Global;
 
 fn meta(kind: Kind, size: u64, mtime: i64, uid: u32, gid: u32) -> Meta {
@@ -49,9 +49,17 @@ fn is_passed_over<S: Skip>(skip: &S, sum: &Summary) -> bool {
     skip.none_match(sum)
 }
 
+fn deepest_of<S: Skip>(skip: &S) -> Option<u32> {
+    skip.deepest()
+}
+
 #[test]
-fn nothing_is_passed_over(rt: HostRuntime) {
+fn no_sum_is_passed_over(rt: HostRuntime) {
+    let none_deeper = NoDeeper { than: Some(3) };
     assert!(rt; !is_passed_over(&NoSkip, &Summary::empty()));
+    assert!(rt; !is_passed_over(&none_deeper, &Summary::empty()));
+    assert_eq!(rt; deepest_of(&NoSkip), None);
+    assert_eq!(rt; deepest_of(&none_deeper), Some(3));
 }
 
 fn sum_of_one_row<Y: Yield>(alloc: Global, row: RowRef<'_>) -> Result<Y, Memory>

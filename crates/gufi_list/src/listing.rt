@@ -1,6 +1,7 @@
 //! The lines of `ls`.
 
-ghost use Rattle.std.specs.Prelude.{◌≡◌, ◌++◌, IfOk, OnOk};
+ghost use Rattle.std.specs.Prelude.{◌≡◌, ℕ, ◌≤◌, ◌++◌, true, IfOk, OnOk};
+ghost use Rattle.gufi_base.specs.declared.record.Row.{Row as SeenRow};
 ghost use Rattle.gufi_base.specs.Kinds.{is_link};
 ghost use Rattle.gufi_list.specs.Columns.{links_column, owners_column, sizes_column, meta_columns, shown_line, shown_parts};
 ghost use Rattle.gufi_list.specs.Listings.{owner_text, group_text, target_text, long_text, record_line, is_hidden, is_name_shown, ls_text, ls_asks};
@@ -114,6 +115,17 @@ fn is_shown(all: bool, name: &[u8]) -> bool
 #[derive(Clone, Copy, Debug)]
 pub struct OneBelow {
     pub all: bool,
+}
+
+impl OneBelow {
+    /// The greatest depth of a row that is shown.
+    #[tactic(auto, using(crate::proofs::Depths::one_below))]
+    pub fn max_depth(&self) -> u32
+        ensures exact { result ≡ 1 }
+        ensures bounded { (row : SeenRow) (depth : ℕ) → ls_asks self.now.all row depth ≡ true → depth ≤ result }
+    {
+        1
+    }
 }
 
 impl Tester for OneBelow {

@@ -1,14 +1,14 @@
 //! Many walkers: what a gate is told, and that their rows are those of one thread.
 
-ghost use Rattle.std.specs.Prelude.{◌≡◌, ◌<◌};
+ghost use Rattle.std.specs.Prelude.{◌≡◌, ◌<◌, nat_le};
 
 use crate::lines::line;
 use gufi_access::{GroupList, Principal};
-use gufi_base::{Always, Kind, Line, Path, Steps};
+use gufi_base::{Always, Kind, Line, Memory, Path, Pred, RowRef, Steps, Tester};
 use gufi_io::{Gate, GateKind, NoGate};
 use gufi_rows::PathList;
 use gufi_snap::Snapshot;
-use gufi_sums::{NoSkip, Summary};
+use gufi_sums::{NoDeeper, NoSkip, Summary};
 use gufi_tree::build;
 use gufi_walk::{Walkers, answer, answer_alone, answer_lines};
 use std::alloc::Global;
@@ -65,6 +65,75 @@ fn a_gate_is_told_of_each_directory_of_the_front(rt: HostRuntime) -> Result<(), 
             assert_eq!(rt; sum.dirs, 3);
             assert_eq!(rt; gate.tasks.load(Ordering::SeqCst), told);
             assert_eq!(rt; gate.stores.load(Ordering::SeqCst), told);
+        }
+    }
+    Ok(())
+}
+
+/// All rows down to a depth.
+#[derive(Clone, Copy)]
+struct DownTo {
+    depth: u32,
+}
+
+impl Tester for DownTo {
+    ghost meets = { λ to row depth. nat_le depth to.depth };
+
+    fn test(&mut self, _alloc: Global, _row: RowRef<'_>, depth: u32) -> Result<bool, Memory> {
+        Ok(depth <= self.depth)
+    }
+}
+
+impl Pred for DownTo {
+    type Tester = DownTo;
+
+    ghost sat = { λ to row depth. nat_le depth to.depth };
+
+    fn tester(&self, _alloc: Global) -> Result<DownTo, Memory> {
+        Ok(*self)
+    }
+}
+
+#[test]
+fn a_walk_visits_no_directory_that_lies_too_deep(rt: HostRuntime) -> Result<(), Fail> {
+    let alloc = rt.alloc();
+    let lines = vec![in alloc;
+        line(alloc, 1, b"/", Kind::Dir, 0o755)?,
+        line(alloc, 2, b"/a", Kind::Dir, 0o755)?,
+        line(alloc, 3, b"/a/b", Kind::Dir, 0o755)?,
+        line(alloc, 4, b"/a/b/c", Kind::Dir, 0o755)?,
+        line(alloc, 5, b"/a/f", Kind::File, 0o644)?,
+        line(alloc, 6, b"/d", Kind::Dir, 0o755)?,
+        line(alloc, 7, b"/d/g", Kind::File, 0o644)?,
+    ]?;
+    let tree = build(alloc, lines)?;
+    let snap = Snapshot::build_uncounted(alloc, tree, 0)?;
+    let groups = GroupList::of(Vec::new(alloc));
+    let who = Principal { uid: 102, groups };
+    let rows = [
+        (b"/".as_slice(), 0u32, 1u64, 0u64),
+        (b"/", 1, 3, 0),
+        (b"/", 2, 4, 2),
+        (b"/", 3, 5, 2),
+        (b"/a", 1, 2, 1),
+    ];
+    for (start, depth, dirs, files) in rows {
+        let start = Path::read(alloc, start)?;
+        for workers in [1u32, 4] {
+            let gate = Counting {
+                tasks: AtomicU64::new(0),
+                stores: AtomicU64::new(0),
+            };
+            assert!(rt; 0 < workers && workers <= 32);
+            let than = Some(depth);
+            let skip = NoDeeper { than };
+            let question = DownTo { depth };
+            let sum: Summary = answer(
+                &rt, alloc, &snap, &who, &start, &question, &skip, workers, &gate,
+            )?;
+            assert_eq!(rt; sum.dirs, dirs);
+            assert_eq!(rt; sum.files, files);
+            assert_eq!(rt; gate.stores.load(Ordering::SeqCst), dirs);
         }
     }
     Ok(())

@@ -1,3 +1,4 @@
+pub mod Bounded
 pub mod Folds
 pub mod Isolation
 pub mod Joins

@@ -44,6 +44,19 @@ Has-get_or [] i d h = absurd (omega arith)
 Has-get_or (x ∷ xs) zero d h = inl refl
 Has-get_or (x ∷ xs) (suc i) d h = inr (Has-get_or xs i d (omega arith))
 
+-- ---- what is true of all members
+
+pub All-append : {X : Type 0} (P : X → Type 0) (xs ys : List X) → AllByRecursion P xs → AllByRecursion P ys → AllByRecursion P (xs ++ ys)
+All-append P [] ys a b = b
+All-append P (x ∷ xs) ys a b = (a.0, All-append P xs ys a.1 b)
+
+pub All-front : {X : Type 0} (P : X → Type 0) (xs ys : List X) → AllByRecursion P (xs ++ ys) → AllByRecursion P xs × AllByRecursion P ys
+All-front P [] ys a = (tt, a)
+All-front P (x ∷ xs) ys a = let rest = All-front P xs ys a.1 in ((a.0, rest.0), rest.1)
+
+pub All-reverse : {X : Type 0} (P : X → Type 0) (xs : List X) → AllByRecursion P xs → AllByRecursion P (reverse xs)
+All-reverse P xs a = All-from_Has P (reverse xs) (λ x h. All-Has P xs x a (Has-IsPermutation x (reverse xs) xs (IsPermutation-sym _ _ (IsPermutation-reverse xs)) h))
+
 -- ---- places and directories
 
 module _ {Y : Type 0} (test l : Directory → Bool) (L : DirId → Bool) (g : ℕ → Y) (f : Directory → Y) where
@@ -135,7 +148,7 @@ rows-more tree limit met done path =
     ap (filter met) (pieces-more tree limit done path) ∙ filter-append met (flat_map P done) (P path)
 
 -- a test that all pass leaves out none
-filter-all : {X : Type 0} (xs : List X) → filter (λ x. true) xs ≡ xs
+pub filter-all : {X : Type 0} (xs : List X) → filter (λ x. true) xs ≡ xs
 filter-all [] = refl
 filter-all (x ∷ xs) = ap (λ l. x ∷ l) (filter-all xs)
 
@@ -264,30 +277,34 @@ module _ (tree : List Directory) (who : Principal) (shape : HasTreeShape tree) w
           one true e f k = (f ∙ e, k)
           one false e f k = k
 
+    kid_child : (path : Components) (id : DirId) → Has (child_ids tree path) id → is_child_of path (path_at tree id.0) ≡ true
+    kid_child path id among =
+        All-Has (λ (i : DirId). is_child_of path (path_at tree i.0) ≡ true) (child_ids tree path) id
+        (ids_children path 0 tree (λ j x k e. let z : 0 + j ≡ j = omega arith in ap (path_at tree) z ∙ path_at-get tree j x k ∙ ap (λ (d : Directory). d.path) (sym e))) among
+
     pub kids_open : (start path : Components) → is_prefix start path ≡ true → AllByRecursion (IsOpen tree who start) (kid_ids tree who path limit)
     kids_open start path leads = by (can_roll tree limit path) where
       each : (id : DirId) → Has (open_ids tree who path) id → IsOpen tree who start id
       each id h =
           let w = Has-filter (λ id. lists_at tree who (path_at tree id.0)) (child_ids tree path) id h in
           let within = All-Has (λ (i : DirId). i.0 < length tree) (child_ids tree path) id (ids_within (λ dir. is_child_of path dir.path) 0 (length tree) tree (omega arith)) w.0 in
-          let child = All-Has (λ (i : DirId). is_child_of path (path_at tree i.0) ≡ true) (child_ids tree path) id
-          (ids_children path 0 tree (λ j x k e. let z : 0 + j ≡ j = omega arith in ap (path_at tree) z ∙ path_at-get tree j x k ∙ ap (λ (d : Directory). d.path) (sym e))) w.0 in
-          kid_open start path leads id within w.1 child
+          kid_open start path leads id within w.1 (kid_child path id w.0)
 
       by : (b : Bool) → AllByRecursion (IsOpen tree who start) (cond b [] (open_ids tree who path))
       by true = tt
       by false = All-from_Has (IsOpen tree who start) (open_ids tree who path) each
 
-    All-append : {X : Type 0} (P : X → Type 0) (xs ys : List X) → AllByRecursion P xs → AllByRecursion P ys → AllByRecursion P (xs ++ ys)
-    All-append P [] ys a b = b
-    All-append P (x ∷ xs) ys a b = (a.0, All-append P xs ys a.1 b)
+    -- they lie one level below the directory
+    pub kids_long : (path : Components) → AllByRecursion (λ (id : DirId). length (path_at tree id.0) ≡ length path + 1) (kid_ids tree who path limit)
+    kids_long path = by (can_roll tree limit path) where
+      each : (id : DirId) → Has (open_ids tree who path) id → length (path_at tree id.0) ≡ length path + 1
+      each id h =
+          let n = child_name path (path_at tree id.0) (kid_child path id (Has-filter (λ id. lists_at tree who (path_at tree id.0)) (child_ids tree path) id h).0) in
+          omega (arith, ap length n.1, length-append path (n.0 ∷ []))
 
-    All-front : {X : Type 0} (P : X → Type 0) (xs ys : List X) → AllByRecursion P (xs ++ ys) → AllByRecursion P xs × AllByRecursion P ys
-    All-front P [] ys a = (tt, a)
-    All-front P (x ∷ xs) ys a = let rest = All-front P xs ys a.1 in ((a.0, rest.0), rest.1)
-
-    All-reverse : {X : Type 0} (P : X → Type 0) (xs : List X) → AllByRecursion P xs → AllByRecursion P (reverse xs)
-    All-reverse P xs a = All-from_Has P (reverse xs) (λ x h. All-Has P xs x a (Has-IsPermutation x (reverse xs) xs (IsPermutation-sym _ _ (IsPermutation-reverse xs)) h))
+      by : (b : Bool) → AllByRecursion (λ (id : DirId). length (path_at tree id.0) ≡ length path + 1) (cond b [] (open_ids tree who path))
+      by true = tt
+      by false = All-from_Has (λ (id : DirId). length (path_at tree id.0) ≡ length path + 1) (open_ids tree who path) each
 
     module _ (start : Components) (done : List Components) (todo rest : List DirId) (id : DirId) (walk : IsWalk tree who limit start done todo) (last : todo ≡ rest ++ id ∷ []) where
       pub walk_last : IsOpen tree who start id
@@ -307,7 +324,7 @@ module _ (tree : List Directory) (who : Principal) (shape : HasTreeShape tree) w
           (subst (λ p. IsPermutation (front tree who p limit) (p ∷ flat_map (λ q. front tree who q limit) (kids tree who p limit))) open_.path (front-step tree limit who shape open_.dir open_.there open_.on)) in
           IsPermutation-trans _ _ _ step (IsPermutation-cons _ _ _ (IsPermutation-flat_map (λ (i : DirId). front tree who (path_at tree i.0) limit) _ _ (IsPermutation-reverse (kid_ids tree who (path_at tree id.0) limit))))
 
-      next_split : IsPermutation (front tree who start limit) ((done ++ path_at tree id.0 ∷ []) ++ fronts_at tree who limit (rest ++ reverse (kid_ids tree who (path_at tree id.0) limit)))
+      pub next_split : IsPermutation (front tree who start limit) ((done ++ path_at tree id.0 ∷ []) ++ fronts_at tree who limit (rest ++ reverse (kid_ids tree who (path_at tree id.0) limit)))
       next_split =
           let p : Components = path_at tree id.0 in
           let r : List Components = fronts_at tree who limit rest in
@@ -333,12 +350,6 @@ module _ (tree : List Directory) (who : Principal) (shape : HasTreeShape tree) w
       walk_less more e =
           let next = IsWalk-more more e in
           omega (arith, length_permutation _ _ walk.split, length_permutation _ _ next.split, length-append done (fronts_at tree who limit todo), length-append (done ++ path_at tree id.0 ∷ []) (fronts_at tree who limit more), length-append done (path_at tree id.0 ∷ []))
-
-      -- what is done and the place where the walk is are within the front
-      pub walk_left : length done + 1 ≤ length (front tree who start limit)
-      walk_left =
-          let p : Components = path_at tree id.0 in
-          omega (arith, length_permutation _ _ next_split, length-append (done ++ p ∷ []) (fronts_at tree who limit (rest ++ reverse (kid_ids tree who p limit))), length-append done (p ∷ []))
 
       pub walk_deep : length start ≤ length (path_at tree id.0)
       walk_deep = let r = is_prefix-rest start (path_at tree id.0) walk_last.below in omega (arith, ap length r.1, length-append start r.0)

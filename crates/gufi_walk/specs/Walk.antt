@@ -1,10 +1,11 @@
 -- Where a walk goes on from a directory, by places.
-use Rattle.std.specs.Prelude.{ℕ, ◌&&◌, nat_le, Bool, List, [], ◌∷◌, filter, map, length, if◌then◌else◌}
+use Rattle.std.specs.Prelude.{ℕ, ◌-◌, ◌&&◌, nat_le, Bool, List, [], ◌∷◌, filter, map, length, Option, Some, None, if◌then◌else◌}
 use Rattle.std.specs.List.{list_any, flat_map, range_with_len}
 use Rattle.gufi_base.specs.declared.record.Row.{Row}
 use Rattle.gufi_base.specs.Paths.{Components, path_eq, is_prefix}
 use Rattle.gufi_base.specs.Rows.{depth_below}
 use Rattle.gufi_access.specs.declared.class.Principal.{Principal}
+use Rattle.gufi_sums.specs.Depths.{is_within, goes_below}
 use Rattle.gufi_tree.specs.declared.tree.DirId.{DirId}
 use Rattle.gufi_tree.specs.Tree.{Directory, may_list}
 use Rattle.gufi_tree.specs.Places.{path_at, child_ids}
@@ -21,6 +22,23 @@ open_ids tree who path = filter (λ id. lists_at tree who (path_at tree id.0)) (
 
 abbrev pub kid_ids : List Directory → Principal → Components → ℕ → List DirId
 kid_ids tree who path limit = if can_roll tree limit path then [] else open_ids tree who path
+
+-- the path lies no deeper below a start than the bound, where there is one
+abbrev pub lies_within : Option ℕ → ℕ → Components → Bool
+lies_within deepest above path = is_within deepest (length path - above)
+
+-- those of the paths that do
+abbrev pub no_deeper : Option ℕ → ℕ → List Components → List Components
+no_deeper None above paths = paths
+no_deeper (Some most) above paths = filter (lies_within (Some most) above) paths
+
+-- those of a front
+abbrev pub front_within : Option ℕ → List Directory → Principal → Components → ℕ → List Components
+front_within deepest tree who start limit = no_deeper deepest (length start) (front tree who start limit)
+
+-- where a walk goes on that goes no deeper than a bound
+abbrev pub next_ids : Option ℕ → ℕ → List Directory → Principal → Components → ℕ → List DirId
+next_ids deepest above tree who path limit = if goes_below deepest (length path - above) then kid_ids tree who path limit else []
 
 -- at most so many directories are at and below it: then its task takes them all, and has no kids
 abbrev pub is_small : List Directory → ℕ → Components → Bool

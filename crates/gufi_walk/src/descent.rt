@@ -1,6 +1,6 @@
 //! One thread's answer: down from the start, by subdirectories that may be listed, a piece at a time.
 
-ghost use Rattle.std.specs.Prelude.{◌≡◌, ◌≢◌, ℕ, ◌+◌, ◌<◌, ◌≤◌, ◌^◌, true, false, List, [], ◌∷◌, ◌++◌, length, filter, reverse, Option, Some, None, IfOk, OnOk, IfErr, All};
+ghost use Rattle.std.specs.Prelude.{◌≡◌, ◌≢◌, ℕ, ◌+◌, ◌-◌, ◌<◌, ◌≤◌, ◌^◌, true, false, List, [], ◌∷◌, ◌++◌, length, filter, reverse, Option, Some, None, IfOk, OnOk, IfErr, All};
 ghost use Rattle.std.specs.List.{flat_map};
 ghost use Rattle.gufi_base.specs.declared.record.Row.{Row};
 ghost use Rattle.gufi_access.specs.Access.{can_list};
@@ -8,10 +8,11 @@ ghost use Rattle.gufi_tree.specs.Places.{path_at};
 ghost use Rattle.gufi_tree.specs.Resolve.{resolve};
 ghost use Rattle.gufi_tree.specs.Tree.{HasTreeShape};
 ghost use Rattle.gufi_sums.specs.declared.summary.Summary.{Summary as SeenSummary};
+ghost use Rattle.gufi_sums.specs.Depths.{goes_below};
 ghost use Rattle.gufi_sums.specs.Total.{IsTotal};
 ghost use Rattle.gufi_snap.specs.Pieces.{front, piece};
 ghost use Rattle.gufi_walk.specs.Answer.{answer, refusal_of};
-ghost use Rattle.gufi_walk.specs.Walk.{lists_at, open_ids, kid_ids, meets};
+ghost use Rattle.gufi_walk.specs.Walk.{lists_at, open_ids, kid_ids, next_ids, lies_within, no_deeper, front_within, meets};
 
 use crate::refusal::Refusal;
 use crate::start::found_start;
@@ -126,6 +127,50 @@ pub(crate) fn depth_of(tree: &Tree, id: DirId) -> u32
     tree.path(id).depth() as u32
 }
 
+/// Whether a row as deep as a directory may meet the query, as far as depths tell.
+pub(crate) fn lies_within<S: Skip>(snap: &Snapshot, id: DirId, skip: &S, above: u32) -> bool
+    requires id { id.0 < length snap.now.tree }
+    requires above { above ≤ length (path_at snap.now.tree id.0) }
+    ensures { result ≡ lies_within (S.deepest skip.now) above (path_at snap.now.tree id.0) }
+{
+    match skip.deepest() {
+        Some(deepest) => depth_of(snap.tree(), id) - above <= deepest,
+        None => true,
+    }
+}
+
+/// Whether a row one level below a directory may.
+fn goes_below<S: Skip>(snap: &Snapshot, id: DirId, skip: &S, above: u32) -> bool
+    requires id { id.0 < length snap.now.tree }
+    requires above { above ≤ length (path_at snap.now.tree id.0) }
+    ensures { result ≡ goes_below (S.deepest skip.now) (length (path_at snap.now.tree id.0) - above) }
+{
+    match skip.deepest() {
+        Some(deepest) => depth_of(snap.tree(), id) - above < deepest,
+        None => true,
+    }
+}
+
+/// Puts the directories where a walk goes on on the list, the last one first, but none that lies too deep for a row that meets
+/// the query.
+fn push_next<S: Skip>(
+    todo: &mut Vec<DirId>,
+    snap: &Snapshot,
+    who: &Principal,
+    id: DirId,
+    skip: &S,
+    above: u32,
+) -> Result<(), AllocError>
+    requires id { id.0 < length snap.now.tree }
+    requires above { above ≤ length (path_at snap.now.tree id.0) }
+    ensures { OnOk result (todo.new.items ≡ todo.old.items ++ reverse (next_ids (S.deepest skip.now) above snap.now.tree who.now (path_at snap.now.tree id.0) snap.now.limit)) }
+{
+    if goes_below(snap, id, skip, above) {
+        push_kids(todo, snap, who, id)?;
+    }
+    Ok(())
+}
+
 /// Tells the gate of a directory that is taken as a task, but for the first, of which whoever gave that one has told.
 fn tell<G: Gate>(gate: &G, id: DirId, first: DirId) {
     if id != first {
@@ -133,7 +178,8 @@ fn tell<G: Gate>(gate: &G, id: DirId, first: DirId) {
     }
 }
 
-/// The rows of the pieces at and below a directory that meet the question. It takes the directories in path order.
+/// The rows of the pieces at and below a directory that meet the question. It takes the directories in path order, but none that
+/// lies too deep for a row that meets the query.
 pub(crate) fn rows_below<T: Tester, Y: Yield, S: Skip, G: Gate, L: Ledger>(
     alloc: Global,
     snap: &Snapshot,
@@ -149,11 +195,12 @@ pub(crate) fn rows_below<T: Tester, Y: Yield, S: Skip, G: Gate, L: Ledger>(
     requires listed { lists_at snap.now.tree who.now (path_at snap.now.tree start.0) ≡ true }
     requires above { above ≤ length (path_at snap.now.tree start.0) }
     requires query { (row : Row) (depth : ℕ) → T.meets tester.old row depth ≡ true → S.query skip.now row depth ≡ true }
+    requires within { lies_within (S.deepest skip.now) above (path_at snap.now.tree start.0) ≡ true }
     ensures rows { IfOk result (λ y. Y.stands_for y (filter (meets (T.meets tester.old) above)
         (flat_map (λ path. piece snap.now.tree path snap.now.limit) (front snap.now.tree who.now (path_at snap.now.tree start.0) snap.now.limit)))) }
-    ensures at_most { steps.new ≤ steps.old + length (front snap.now.tree who.now (path_at snap.now.tree start.0) snap.now.limit) }
+    ensures at_most { steps.new ≤ steps.old + length (no_deeper (S.deepest skip.now) above (front snap.now.tree who.now (path_at snap.now.tree start.0) snap.now.limit)) }
     ensures exact { OnOk result (((sum : SeenSummary) → S.skips skip.now sum ≡ false)
-        → steps.new ≡ steps.old + length (front snap.now.tree who.now (path_at snap.now.tree start.0) snap.now.limit)) }
+        → steps.new ≡ steps.old + length (no_deeper (S.deepest skip.now) above (front snap.now.tree who.now (path_at snap.now.tree start.0) snap.now.limit))) }
 {
     // The tree's shape tells that the walk ends.
     let _tree = snap.tree();
@@ -162,7 +209,7 @@ pub(crate) fn rows_below<T: Tester, Y: Yield, S: Skip, G: Gate, L: Ledger>(
     while let Some(id) = todo.pop() {
         tell(gate, id, start);
         visit(alloc, snap, id, tester, skip, above, gate, &mut out, steps)?;
-        push_kids(&mut todo, snap, who, id)?;
+        push_next(&mut todo, snap, who, id, skip, above)?;
     }
     Ok(out)
 }
@@ -181,9 +228,9 @@ fn answer_from<P: Pred, Y: Yield, S: Skip, L: Ledger>(
     requires listed { lists_at snap.now.tree who.now (path_at snap.now.tree start.0) ≡ true }
     requires query { (row : Row) (depth : ℕ) → P.sat pred.now row depth ≡ true → S.query skip.now row depth ≡ true }
     ensures rows { IfOk result (λ y. Y.stands_for y (answer snap.now.tree who.now (path_at snap.now.tree start.0) (P.sat pred.now))) }
-    ensures at_most { steps.new ≤ steps.old + length (front snap.now.tree who.now (path_at snap.now.tree start.0) snap.now.limit) }
+    ensures at_most { steps.new ≤ steps.old + length (front_within (S.deepest skip.now) snap.now.tree who.now (path_at snap.now.tree start.0) snap.now.limit) }
     ensures exact { OnOk result (((sum : SeenSummary) → S.skips skip.now sum ≡ false)
-        → steps.new ≡ steps.old + length (front snap.now.tree who.now (path_at snap.now.tree start.0) snap.now.limit)) }
+        → steps.new ≡ steps.old + length (front_within (S.deepest skip.now) snap.now.tree who.now (path_at snap.now.tree start.0) snap.now.limit)) }
 {
     let above = depth_of(snap.tree(), start);
     let mut tester = pred.tester(alloc)?;
@@ -202,8 +249,8 @@ fn answer_from<P: Pred, Y: Yield, S: Skip, L: Ledger>(
 
 /// The rows that the principal gets who walks from the start and that meet the question, or the refusal of the start.
 ///
-/// It takes the directories in path order. Cost: the pieces of the front, and nothing else of the tree; a start that is
-/// refused costs no step.
+/// It takes the directories in path order. Cost: the pieces of the front, but for directories that lie too deep for a row that
+/// meets the query, and nothing else of the tree; a start that is refused costs no step.
 pub fn answer_alone<P: Pred, Y: Yield, S: Skip, L: Ledger>(
     alloc: Global,
     snap: &Snapshot,
@@ -218,9 +265,9 @@ pub fn answer_alone<P: Pred, Y: Yield, S: Skip, L: Ledger>(
     ensures found { OnOk result (refusal_of (resolve snap.now.tree who.now start.now) ≡ None) }
     ensures refusal { IfErr result (λ refusal. refusal ≢ Refusal.Memory → refusal_of (resolve snap.now.tree who.now start.now) ≡ Some refusal) }
     ensures refused { IfErr result (λ refusal. refusal ≢ Refusal.Memory → steps.new ≡ steps.old) }
-    ensures at_most { steps.new ≤ steps.old + length (front snap.now.tree who.now start.now snap.now.limit) }
+    ensures at_most { steps.new ≤ steps.old + length (front_within (S.deepest skip.now) snap.now.tree who.now start.now snap.now.limit) }
     ensures exact { OnOk result (((sum : SeenSummary) → S.skips skip.now sum ≡ false)
-        → steps.new ≡ steps.old + length (front snap.now.tree who.now start.now snap.now.limit)) }
+        → steps.new ≡ steps.old + length (front_within (S.deepest skip.now) snap.now.tree who.now start.now snap.now.limit)) }
 {
     let id = found_start(snap, who, start)?;
     Ok(answer_from(alloc, snap, who, id, pred, skip, steps)?)

@@ -7,7 +7,7 @@ ghost use Rattle.gufi_walk.specs.Walk.{lists_at, kid_ids, meets, is_small, task_
 ghost use Rattle.gufi_walk.specs.Chunks.{AreChunks};
 
 use crate::chunk::Chunk;
-use crate::descent::{may_be_listed, rows_below, visit};
+use crate::descent::{lies_within, may_be_listed, rows_below, visit};
 use gufi_access::Principal;
 use gufi_base::{Memory, Pred, Steps, Yield};
 use gufi_io::Gate;
@@ -112,6 +112,9 @@ impl<P: Pred, Y: Yield, S: Skip> Walk<'_, P, Y, S> {
     {
         // The tree's shape tells how deep the directory of a task lies.
         let _tree = self.snap.tree();
+        if !lies_within(self.snap, id, self.skip, self.above) {
+            return Y::none(alloc);
+        }
         let mut steps = Steps::<L>::new(blank);
         let mut tester = self.pred.tester(alloc)?;
         if self.is_whole(id) {

@@ -49,11 +49,21 @@ impl<'a, R, G> Walkers<'a, R, G> {
     }
 }
 
+/// A walk that goes no deeper than this below its start is one task: threads cost more than it does.
+const SHALLOW: u32 = 2;
+
+fn is_shallow<S: Skip>(skip: &S) -> bool {
+    match skip.deepest() {
+        Some(deepest) => deepest <= SHALLOW,
+        None => false,
+    }
+}
+
 /// Of how many directories a task takes all that is at and below it: so many that each walker has some tasks.
-fn grain_for(snap: &Snapshot, start: DirId, workers: u32) -> u64
+fn grain_for<S: Skip>(snap: &Snapshot, start: DirId, skip: &S, workers: u32) -> u64
     requires { start.0 < length snap.now.tree }
 {
-    if workers <= 1 {
+    if workers <= 1 || is_shallow(skip) {
         return u64::MAX;
     }
     let share = snap.tree_sum(start).dirs / u64::from(workers);
@@ -62,7 +72,7 @@ fn grain_for(snap: &Snapshot, start: DirId, workers: u32) -> u64
 
 /// The rows that the principal lists from a directory on and that meet the question.
 ///
-/// One walker takes the whole walk as one task.
+/// One walker takes the whole walk as one task, and so does one of many where no row that lies deep can meet the query.
 fn answer_by<
     R: Threads + Wait + Sync,
     P: Pred + Sync,
@@ -89,7 +99,7 @@ where
     ensures { IfOk result (λ y. Y.stands_for y (answer snap.now.tree who.now (path_at snap.now.tree start.0) (P.sat pred.now))) }
 {
     let above = depth_of(snap.tree(), start);
-    let grain = grain_for(snap, start, workers);
+    let grain = grain_for(snap, start, skip, workers);
     let collects: PhantomData<Y> = PhantomData;
     let walk = Walk {
         snap,
@@ -108,7 +118,8 @@ where
 
 /// The rows that the principal gets who walks from the start and that meet the question, or the refusal of the start.
 ///
-/// Walkers share the directories, each in a thread where one can be made. One walker does all in the thread that calls.
+/// Walkers share the directories, each in a thread where one can be made. One walker does all in the thread that calls; so do
+/// many where no row can meet the query that lies more than two levels below the start.
 /// Cost: as `answer_alone`, shared among the walkers.
 pub fn answer<
     R: Threads + Wait + Sync,

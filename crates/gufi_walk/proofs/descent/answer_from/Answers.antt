@@ -8,12 +8,18 @@ use Rattle.gufi_tree.specs.Places.{path_at}
 use Rattle.gufi_snap.specs.Pieces.{front, piece}
 use Rattle.gufi_walk.specs.Answer.{answer}
 use Rattle.gufi_walk.specs.Walk.{meets}
+use Rattle.gufi_walk.proofs.Bounded.{start_within}
 use Rattle.gufi_walk.proofs.Walked.{IsOpenTop-at, answer-by_pieces}
 use Rattle.gufi_walk.proofs.descent.answer_from.Goals as goal
 
 pub rows_below-requires-clause-above : goal.rows_below-requires-clause-above
 rows_below-requires-clause-above g c =
     omega (arith, c.depth_of-above.ensures, ap (λ (ds : List Directory). length (path_at ds c.args.start.0)) c.tree.ensures.tree)
+
+pub rows_below-requires-clause-within : goal.rows_below-requires-clause-within
+rows_below-requires-clause-within g c =
+    let deep : c.depth_of-above.result ≡ length (path_at c.args.snap.now.tree c.args.start.0) = c.depth_of-above.ensures ∙ ap (λ (ds : List Directory). length (path_at ds c.args.start.0)) c.tree.ensures.tree in
+    start_within (g.S.Skip.deepest c.args.skip.now) c.depth_of-above.result (length (path_at c.args.snap.now.tree c.args.start.0)) (omega arith)
 
 pub returns-clause-rows : goal.returns-clause-rows
 returns-clause-rows g c =

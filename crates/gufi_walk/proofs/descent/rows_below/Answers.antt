@@ -1,12 +1,12 @@
-use Rattle.std.proofs.Common.{[], ◌∷◌, ◌++◌, ◌∙◌, List, filter, refl, subst, sym, arith, length-append}
-use Rattle.std.specs.List.{flat_map}
-use Rattle.std.proofs.lemmas.List.Sorted.{length_permutation}
+use Rattle.std.proofs.Common.{◌≡◌, true, [], ◌∙◌, List, filter, refl, subst, sym, arith}
+use Rattle.std.specs.List.{AllByRecursion, flat_map}
 use Rattle.gufi_base.specs.declared.record.Row.{Row}
 use Rattle.gufi_base.specs.Paths.{Components}
 use Rattle.gufi_tree.specs.Places.{path_at}
 use Rattle.gufi_snap.specs.Pieces.{front, piece}
-use Rattle.gufi_walk.specs.Walk.{meets}
-use Rattle.gufi_walk.proofs.Walked.{IsWalk, IsWalk-start, IsWalk-more, IsWalk-all, IsOpenTop-at, walk_last, walk_deep, walk_room, walk_less, walk_left, rows-more, rows_of_all, filtered_fewer}
+use Rattle.gufi_walk.specs.Walk.{lies_within, meets}
+use Rattle.gufi_walk.proofs.Bounded.{Bounds, walk_next, next_less, walk_left_within, within_all}
+use Rattle.gufi_walk.proofs.Walked.{IsWalk, IsWalk-start, IsWalk-all, IsOpenTop-at, walk_last, walk_deep, walk_room, rows-more, rows_of_all, filtered_fewer}
 use Rattle.gufi_walk.proofs.descent.rows_below.Goals as goal
 
 pub loop-id-init : goal.loop-id-init
@@ -16,6 +16,7 @@ loop-id-init g c =
       [],
       record {
         same = refl;
+        within = subst (AllByRecursion (λ id. lies_within (g.S.Skip.deepest c.args.skip.now) c.args.above (path_at snap.tree id.0) ≡ true)) (sym c.in_ok-todo.ensures) (c.requires.within, tt);
         walk = subst (IsWalk snap.tree c.args.who.now snap.limit start []) (sym c.in_ok-todo.ensures) (IsWalk-start snap.tree c.args.who.now c.tree-tree.ensures.shape snap.limit c.args.start.0 c.requires.start c.requires.listed);
         rows = c.in_ok-out.ensures;
         at_most = omega arith;
@@ -45,13 +46,21 @@ visit-requires-clause-room g c =
       c.tree-tree.ensures.few,
     )
 
-pub push_kids-requires : goal.push_kids-requires
-push_kids-requires g c =
+pub push_next-requires-clause-id : goal.push_next-requires-clause-id
+push_next-requires-clause-id g c =
     (walk_last c.args.snap.now.tree c.args.who.now c.tree-tree.ensures.shape c.args.snap.now.limit _ _ _ _ _ c.loop-id.invariant.1.walk c.in-Some.ensures.items).within
+
+pub push_next-requires-clause-above : goal.push_next-requires-clause-above
+push_next-requires-clause-above g c =
+    omega (arith, c.requires.above, walk_deep c.args.snap.now.tree c.args.who.now c.tree-tree.ensures.shape c.args.snap.now.limit _ _ _ _ _ c.loop-id.invariant.1.walk c.in-Some.ensures.items)
 
 pub loop-id-smaller : goal.loop-id-smaller
 loop-id-smaller g c =
-    walk_less c.args.snap.now.tree c.args.who.now c.tree-tree.ensures.shape c.args.snap.now.limit _ _ _ _ _ c.loop-id.invariant.1.walk c.in-Some.ensures.items _ c.in_ok-push_kids.ensures
+    let snap = c.args.snap.now in
+    let inv = c.loop-id.invariant.1 in
+    let deepest = g.S.Skip.deepest c.args.skip.now in
+    let next = walk_next snap.tree snap.limit c.args.who.now c.tree-tree.ensures.shape deepest c.args.above _ c.requires.above _ _ _ _ inv.walk c.in-Some.ensures.items inv.within (g.S.Skip.query c.args.skip.now) (g.S.Skip.bounded c.args.skip.now) _ c.in_ok-push_next.ensures in
+    next_less snap.tree snap.limit c.args.who.now c.tree-tree.ensures.shape deepest c.args.above _ c.requires.above _ _ _ _ inv.walk c.in-Some.ensures.items inv.within _ _ _ next.1
 
 pub loop-id-preserved : goal.loop-id-preserved
 loop-id-preserved g c =
@@ -59,15 +68,19 @@ loop-id-preserved g c =
     let done : List Components = c.loop-id.invariant.0 in
     let inv = c.loop-id.invariant.1 in
     let path : Components = path_at snap.tree c.in-Some.id.0 in
-    let met = meets (g.T.Tester.meets c.args.tester.now) c.args.above in
-    let old : List Row = filter met (flat_map (λ p. piece snap.tree p snap.limit) done) in (
-      done ++ path ∷ [],
+    let sat = g.T.Tester.meets c.args.tester.now in
+    let met = meets sat c.args.above in
+    let old : List Row = filter met (flat_map (λ p. piece snap.tree p snap.limit) done) in
+    let bounds : Bounds (g.S.Skip.deepest c.args.skip.now) sat = λ most is row depth e. g.S.Skip.bounded c.args.skip.now most is row depth (c.requires.query row depth e) in
+    let next = walk_next snap.tree snap.limit c.args.who.now c.tree-tree.ensures.shape (g.S.Skip.deepest c.args.skip.now) c.args.above _ c.requires.above done _ _ _ inv.walk c.in-Some.ensures.items inv.within sat bounds _ c.in_ok-push_next.ensures in (
+      next.0,
       record {
         same = c.in_ok-visit.ensures.same ∙ inv.same;
-        walk = IsWalk-more snap.tree c.args.who.now c.tree-tree.ensures.shape snap.limit _ done _ _ _ inv.walk c.in-Some.ensures.items _ c.in_ok-push_kids.ensures;
-        rows = subst (λ rows. g.Y.Yield.stands_for c.visit.new.out rows) (sym (rows-more snap.tree snap.limit met done path)) (rw inv.same at c.in_ok-visit.ensures.rows old inv.rows);
-        at_most = omega (arith, c.in_ok-visit.ensures.at_most, inv.at_most, length-append done (path ∷ []));
-        exact = λ h. omega (arith, c.in_ok-visit.ensures.exact h, inv.exact h, length-append done (path ∷ []));
+        walk = next.1.walk;
+        within = next.1.within;
+        rows = subst (λ rows. g.Y.Yield.stands_for c.visit.new.out rows) (sym (next.1.rows ∙ rows-more snap.tree snap.limit met done path)) (rw inv.same at c.in_ok-visit.ensures.rows old inv.rows);
+        at_most = omega (arith, c.in_ok-visit.ensures.at_most, inv.at_most, next.1.count);
+        exact = λ h. omega (arith, c.in_ok-visit.ensures.exact h, inv.exact h, next.1.count);
       },
     )
 
@@ -85,21 +98,27 @@ returns-clause-rows g c =
 pub returns-clause-at_most : goal.returns-clause-at_most
 returns-clause-at_most g c =
     let snap = c.args.snap.now in
+    let deepest = g.S.Skip.deepest c.args.skip.now in
     let all = IsWalk-all snap.tree c.args.who.now c.tree-tree.ensures.shape snap.limit (path_at snap.tree c.args.start.0) c.loop-id.invariant.0 c.loop-id.todo.items c.loop-id.invariant.1.walk (omega (arith, c.loop-id.todo.ok.0, c.in_default.ensures.cases)) in
-    omega (arith, c.loop-id.invariant.1.at_most, length_permutation _ _ all)
+    omega (arith, c.loop-id.invariant.1.at_most, within_all deepest c.args.above _ _ all)
 
 pub returns-clause-exact : goal.returns-clause-exact
 returns-clause-exact g c = λ h.
     let snap = c.args.snap.now in
+    let deepest = g.S.Skip.deepest c.args.skip.now in
     let all = IsWalk-all snap.tree c.args.who.now c.tree-tree.ensures.shape snap.limit (path_at snap.tree c.args.start.0) c.loop-id.invariant.0 c.loop-id.todo.items c.loop-id.invariant.1.walk (omega (arith, c.loop-id.todo.ok.0, c.in_default.ensures.cases)) in
-    omega (arith, c.loop-id.invariant.1.exact h, length_permutation _ _ all)
+    omega (arith, c.loop-id.invariant.1.exact h, within_all deepest c.args.above _ _ all)
 
 pub returns-in_err-visit-clause-at_most : goal.returns-in_err-visit-clause-at_most
 returns-in_err-visit-clause-at_most g c =
-    let left = walk_left c.args.snap.now.tree c.args.who.now c.tree-tree.ensures.shape c.args.snap.now.limit _ _ _ _ _ c.loop-id.invariant.1.walk c.in-Some.ensures.items in
-    omega (arith, c.loop-id.invariant.1.at_most, c.visit.ensures.at_most)
+    let snap = c.args.snap.now in
+    let inv = c.loop-id.invariant.1 in
+    let left = walk_left_within snap.tree snap.limit c.args.who.now c.tree-tree.ensures.shape (g.S.Skip.deepest c.args.skip.now) c.args.above _ c.requires.above _ _ _ _ inv.walk c.in-Some.ensures.items inv.within in
+    omega (arith, inv.at_most, c.visit.ensures.at_most, left)
 
-pub returns-in_err-push_kids-clause-at_most : goal.returns-in_err-push_kids-clause-at_most
-returns-in_err-push_kids-clause-at_most g c =
-    let left = walk_left c.args.snap.now.tree c.args.who.now c.tree-tree.ensures.shape c.args.snap.now.limit _ _ _ _ _ c.loop-id.invariant.1.walk c.in-Some.ensures.items in
-    omega (arith, c.loop-id.invariant.1.at_most, c.visit.ensures.at_most)
+pub returns-in_err-push_next-clause-at_most : goal.returns-in_err-push_next-clause-at_most
+returns-in_err-push_next-clause-at_most g c =
+    let snap = c.args.snap.now in
+    let inv = c.loop-id.invariant.1 in
+    let left = walk_left_within snap.tree snap.limit c.args.who.now c.tree-tree.ensures.shape (g.S.Skip.deepest c.args.skip.now) c.args.above _ c.requires.above _ _ _ _ inv.walk c.in-Some.ensures.items inv.within in
+    omega (arith, inv.at_most, c.visit.ensures.at_most, left)

@@ -1,7 +1,35 @@
-use Rattle.std.proofs.Common.{arith}
+use Rattle.std.proofs.Common.{◌≡◌, ◌∙◌, false, List, sym, subst, arith}
+use Rattle.std.proofs.lemmas.Result.{IfOk-weaker}
+use Rattle.gufi_base.specs.Paths.{Components}
 use Rattle.gufi_tree.specs.Places.{path_at}
+use Rattle.gufi_walk.specs.Walk.{lies_within, task_dirs}
+use Rattle.gufi_walk.proofs.Bounded.{Bounds, all_too_deep, task_too_deep}
 use Rattle.gufi_walk.proofs.Tasks.{place_open, place_deep, place_listed, piece_few}
 use Rattle.gufi_walk.proofs.task.Walk.rows_of_task.Goals as goal
+
+pub lies_within-requires-clause-id : goal.lies_within-requires-clause-id
+lies_within-requires-clause-id g c =
+    let w = c.args.self.now in
+    (place_open w.snap.now.tree w.who.now c.tree-tree.ensures.shape (path_at w.snap.now.tree w.start.0) c.args.id.0 c.requires.given).within
+
+pub lies_within-requires-clause-above : goal.lies_within-requires-clause-above
+lies_within-requires-clause-above g c =
+    let w = c.args.self.now in
+    omega (arith, w.above_is, place_deep w.snap.now.tree w.who.now c.tree-tree.ensures.shape (path_at w.snap.now.tree w.start.0) c.args.id.0 c.requires.given)
+
+-- a task that lies too deep adds no row
+pub returns-then-not-lies_within : goal.returns-then-not-lies_within
+returns-then-not-lies_within g c =
+    let w = c.args.self.now in
+    let tree = w.snap.now.tree in
+    let path : Components = path_at tree c.args.id.0 in
+    let deepest = g.S.Skip.deepest w.skip.now in
+    let sat = g.P.Pred.sat w.pred.now in
+    let bounds : Bounds deepest sat = λ most is row depth e. g.S.Skip.bounded w.skip.now most is row depth (w.query row depth e) in
+    let deep : lies_within deepest w.above path ≡ false = sym c.lies_within.ensures ∙ c.if-not-lies_within.true in
+    let dirs : List Components = task_dirs tree w.who.now w.snap.now.limit w.grain path in
+    let none = all_too_deep tree w.snap.now.limit deepest w.above sat bounds dirs (task_too_deep tree w.snap.now.limit w.who.now deepest w.above w.grain path deep) in
+    IfOk-weaker c.none.result _ _ (λ y h. subst (g.Y.Yield.stands_for y) (sym none) h) c.none.ensures
 
 pub is_whole-requires : goal.is_whole-requires
 is_whole-requires g c =
