@@ -36,7 +36,7 @@ AreDistinct [] = Unit {0}
 AreDistinct (d ∷ ds) = AllByRecursion (λ e. d.path ≢ e.path) ds × AreDistinct ds
 
 -- a path that isn't the root's is its parent's and one name
-split_last : (path : Components) → not (is_empty path) ≡ true → (name : List ℕ) × (path ≡ parent_path path ++ name ∷ [])
+pub split_last : (path : Components) → not (is_empty path) ≡ true → (name : List ℕ) × (path ≡ parent_path path ++ name ∷ [])
 split_last [] some = absurd (false≢true some)
 split_last (n ∷ []) some = (n, refl)
 split_last (n ∷ m ∷ path) some = let rest = split_last (m ∷ path) refl in (rest.0, ap (λ (xs : Components). n ∷ xs) rest.1)

@@ -138,7 +138,7 @@ module _ {X : Type 0} where
   any_agree p q same [] = refl
   any_agree p q same (x ∷ xs) = rw (same x, any_agree p q same xs) refl
 
-  all-true : (p : X → Bool) (xs : List X) → ((x : X) → Has xs x → p x ≡ true) → list_all p xs ≡ true
+  pub all-true : (p : X → Bool) (xs : List X) → ((x : X) → Has xs x → p x ≡ true) → list_all p xs ≡ true
   all-true p [] h = refl
   all-true p (x ∷ xs) h = and_from _ _ (h x (inl refl)) (all-true p xs (λ y k. h y (inr k)))
 

@@ -20,6 +20,9 @@ pub mod Fronts
 pub mod RowHomes
 pub mod FoundStart
 pub mod Below
+pub mod Ranges
+pub mod Grafted
+pub mod GraftShape
 pub mod Kids
 pub mod Entries
 pub mod Shaped

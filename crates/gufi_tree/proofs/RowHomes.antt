@@ -44,7 +44,7 @@ home-own_rows d h row (inr k) = entries d.entries (and_parts _ _ h).1 k where
   entries (e ∷ es) h (inl q) = ap home (sym q) ∙ home-entry d.path e (and_parts _ _ h).0
   entries (e ∷ es) h (inr k) = entries es (and_parts _ _ h).1 k
 
-Has-append : {Y : Type 0} (xs ys : List Y) (y : Y) → Has (xs ++ ys) y → Has xs y ⊎ Has ys y
+pub Has-append : {Y : Type 0} (xs ys : List Y) (y : Y) → Has (xs ++ ys) y → Has xs y ⊎ Has ys y
 Has-append [] ys y h = inr h
 Has-append (x ∷ xs) ys y (inl e) = inl (inl e)
 Has-append (x ∷ xs) ys y (inr h) = elim (Has-append xs ys y h) [ inl k ↦ inl (inr k) | inr k ↦ inr k ]

@@ -14,3 +14,4 @@ pub mod Bundles
 pub mod GoingOn
 pub mod Packs
 pub mod Bundled
+pub mod Graft

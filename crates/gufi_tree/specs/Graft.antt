@@ -1,0 +1,13 @@
+-- A subtree replaced by another tree.
+use Rattle.std.specs.Prelude.{not, List, ◌++◌, filter, map}
+use Rattle.gufi_base.specs.Basics.{sort_by}
+use Rattle.gufi_base.specs.Paths.{Components, is_prefix}
+use Rattle.gufi_tree.specs.Tree.{Directory, dir_cmp}
+
+-- the directory with its path put below another
+abbrev pub put_below : Components → Directory → Directory
+put_below path dir = record { path = path ++ dir.path; rec = dir.rec; entries = dir.entries }
+
+-- the tree without all at and below the path, with each directory of the part put below it
+unfoldable pub graft : List Directory → Components → List Directory → List Directory
+graft tree path part = sort_by dir_cmp (filter (λ dir. not (is_prefix path dir.path)) tree ++ map (put_below path) part)
