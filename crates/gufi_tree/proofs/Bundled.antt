@@ -1,7 +1,7 @@
 -- Directories by their places in bundles, also when bundles go on.
-use Rattle.std.proofs.Common.{◌≡◌, ◌∙◌, ℕ, ◌<◌, List, [], ◌∷◌, ◌++◌, length, get_or, sym, ap, subst, arith}
+use Rattle.std.proofs.Common.{◌≡◌, ◌∙◌, ℕ, ◌<◌, List, [], ◌∷◌, ◌++◌, length, take, drop, map, get_or, sym, ap, subst, arith}
 use Rattle.std.specs.Prelude.{All}
-use Rattle.std.proofs.lemmas.List.{get_or-map, length-map, map-append}
+use Rattle.std.proofs.lemmas.List.{get_or-map, length-map, map-append, take-map, drop-map}
 use Rattle.std.proofs.lemmas.List.Elements.{All-weaker}
 use Rattle.std.specs.List.Sorted.{IsPermutation}
 use Rattle.std.proofs.lemmas.List.Sorted.{IsPermutation-map}
@@ -36,3 +36,15 @@ Keep-trans lists mid after first second = record { stand = λ p h. second.stand 
 pub directories-permuted : (lists : List (List Directory)) (places after : List Place) (seen : List Directory) → directories_at lists places ≡ seen → IsPermutation places after
     → IsPermutation seen (directories_at lists after)
 directories-permuted lists places after seen view moved = subst (λ ds. IsPermutation ds (directories_at lists after)) view (IsPermutation-map (directory_at lists) places after moved)
+
+-- places put elsewhere put directories there
+pub directories-put : (lists : List (List Directory)) (places : List Place) (at end from : ℕ)
+    → directories_at lists (take at places ++ (drop from places ++ drop end (take from places)))
+    ≡ take at (directories_at lists places) ++ (drop from (directories_at lists places) ++ drop end (take from (directories_at lists places)))
+directories-put lists places at end from =
+    let f = directory_at lists in
+    map-append f (take at places) (drop from places ++ drop end (take from places))
+    ∙ ap (λ (ds : List Directory). ds ++ map f (drop from places ++ drop end (take from places))) (sym (take-map f at places))
+    ∙ ap (λ (ds : List Directory). take at (map f places) ++ ds) (map-append f (drop from places) (drop end (take from places))
+    ∙ ap (λ (ds : List Directory). ds ++ map f (drop end (take from places))) (sym (drop-map f from places))
+    ∙ ap (λ (ds : List Directory). drop from (map f places) ++ ds) (sym (drop-map f end (take from places)) ∙ ap (drop end) (sym (take-map f from places))))

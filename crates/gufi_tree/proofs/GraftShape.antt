@@ -1,10 +1,10 @@
 -- A tree with a subtree replaced by a tree is a tree.
-use Rattle.std.proofs.Common.{◌≡◌, ℕ, zero, suc, ◌<◌, ◌⊎◌, inl, inr, Bool, true, false, not, List, [], ◌∷◌, ◌++◌, map, length, refl, sym, ap, ◌∙◌, subst}
-use Rattle.std.specs.List.{list_all, list_any}
-use Rattle.std.proofs.lemmas.Bool.{false≢true, true≢false, false_from_ne_true, not-true}
+use Rattle.std.proofs.Common.{◌≡◌, ℕ, ◌+◌, ◌<◌, ◌⊎◌, inl, inr, Bool, true, false, not, List, [], ◌∷◌, ◌++◌, map, length, take, drop, refl, sym, ap, ◌∙◌, subst}
+use Rattle.std.specs.List.{list_all}
+use Rattle.std.proofs.lemmas.Bool.{true≢false, false_from_ne_true, not-true}
 use Rattle.std.proofs.lemmas.List.{append-nil, append_assoc, append_cancel_left}
 use Rattle.std.proofs.lemmas.List.Sorted.{IsPermutation-sym}
-use Rattle.gufi_base.specs.Basics.{is_empty, ascends}
+use Rattle.gufi_base.specs.Basics.{ascends}
 use Rattle.gufi_base.specs.Paths.{Components, parent_path, is_prefix}
 use Rattle.gufi_base.proofs.Prefixes.{prefix_of_child}
 use Rattle.gufi_base.proofs.Sorting.{IsPermutation-sort_by}
@@ -12,6 +12,7 @@ use Rattle.gufi_tree.specs.declared.tree.Entry.{Entry}
 use Rattle.gufi_tree.specs.Tree.{Directory, dir_cmp, entry_cmp, has_dir, is_kinded, HasTreeShape}
 use Rattle.gufi_tree.specs.Places.{path_at}
 use Rattle.gufi_tree.specs.Graft.{put_below, graft}
+use Rattle.gufi_tree.proofs.Below.{below_dirs}
 use Rattle.gufi_tree.proofs.Built.{Has, parent_path-child}
 use Rattle.gufi_tree.proofs.Descent.{split_last}
 use Rattle.gufi_tree.proofs.Filters.{Has-filter, filter-Has}
@@ -183,3 +184,13 @@ graft_shape tree part k shape own within =
       kinds = holds_still tree part p shape own here is_kinded (λ d. refl) shape.kinds own.kinds;
       apart = all-true (λ (dir : Directory). list_all (apart_in tree part p shape own here (graft tree p part) dir) dir.entries) (graft tree p part) (entries_apart tree part p shape own here);
     }
+
+-- What is put together of a tree's own directories and those of a part is the graft.
+pub graft_made : (tree part kept kept_part made : List Directory) (at count : ℕ) → HasTreeShape tree → HasTreeShape part → at < length tree
+    → count ≡ length (below_dirs tree (path_at tree at)) → kept ≡ tree → kept_part ≡ part
+    → made ≡ take at kept ++ (map (put_below (path_at kept at)) kept_part ++ drop (at + count) kept) → made ≡ graft tree (path_at tree at) part
+graft_made tree part kept kept_part made at count shape own within counted same same_part is =
+    is ∙ ap (λ (t : List Directory). take at t ++ (map (put_below (path_at t at)) kept_part ++ drop (at + count) t)) same
+    ∙ ap (λ (p : List Directory). take at tree ++ (map (put_below (path_at tree at)) p ++ drop (at + count) tree)) same_part
+    ∙ ap (λ (n : ℕ). take at tree ++ (map (put_below (path_at tree at)) part ++ drop (at + n) tree)) counted
+    ∙ sym (grafted tree part at shape.order own.order within)

@@ -1,6 +1,6 @@
 //! Directories as they are kept: by their places in bundles, which lists of directories share.
 
-ghost use Rattle.std.specs.Prelude.{◌≡◌, ◌<◌, ◌++◌, ◌∷◌, [], length, map, slice_index_or, IfOk, OnOk};
+ghost use Rattle.std.specs.Prelude.{◌≡◌, ◌<◌, ◌≤◌, take, drop, ◌++◌, ◌∷◌, [], length, map, slice_index_or, IfOk, OnOk};
 ghost use Rattle.std.specs.Arc.{arc_value};
 ghost use Rattle.std.specs.List.Sorted.{IsPermutation};
 ghost use Rattle.gufi_tree.specs.Tree.{Directory};
@@ -134,6 +134,25 @@ fn push_entries(pending: &mut Pending, entries: &[Entry]) -> Result<(), AllocErr
     Ok(())
 }
 
+/// Places, of which those from a number on are put in the place of those between two others.
+fn places_put(
+    alloc: Global,
+    places: &[Place],
+    at: usize,
+    end: usize,
+    from: usize,
+) -> Result<Vec<Place>, AllocError>
+    requires order { (at ≤ end) × (end ≤ from) }
+    requires within { from ≤ length places.now }
+    ensures { IfOk result (λ put. put.items ≡ take at places.now ++ (drop from places.now ++ drop end (take from places.now))) }
+{
+    let mut put = Vec::with_capacity(alloc, places.len())?;
+    put.extend_from_slice(&places[..at])?;
+    put.extend_from_slice(&places[from..])?;
+    put.extend_from_slice(&places[end..from])?;
+    Ok(put)
+}
+
 /// The directory at a place, where there is one.
 fn found_at<'a>(
     bundles: &'a [Arc<Bundle, Global>],
@@ -231,6 +250,22 @@ impl Dirs {
             last: self.last.copy(alloc)?,
             places: Vec::from_slice(alloc, self.places.as_slice())?,
         })
+    }
+
+    /// Puts the directories from a place on, up to the last, in the place of those between two others.
+    pub(crate) fn put_in_place(
+        &mut self,
+        alloc: Global,
+        at: usize,
+        end: usize,
+        from: usize,
+    ) -> Result<(), AllocError>
+        requires order { (at ≤ end) × (end ≤ from) }
+        requires within { from ≤ length self.old }
+        ensures { OnOk result (self.new ≡ take at self.old ++ (drop from self.old ++ drop end (take from self.old))) }
+    {
+        self.places = places_put(alloc, self.places.as_slice(), at, end, from)?;
+        Ok(())
     }
 
     /// Moves each directory to its place, where each has another.

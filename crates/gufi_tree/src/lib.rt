@@ -10,6 +10,7 @@ mod closed;
 mod dirs;
 mod fault;
 mod gather;
+mod graft;
 mod likely;
 mod lines;
 mod link;

@@ -1,0 +1,133 @@
+//! A tree with a subtree replaced by another tree.
+
+ghost use Rattle.std.specs.Prelude.{◌≡◌, ◌<◌, ◌≤◌, ◌^◌, ◌++◌, ◌∷◌, [], length, take, drop, filter, map, IfOk, OnOk, IsTrue};
+ghost use Rattle.std.specs.List.{flat_map, list_all};
+ghost use Rattle.gufi_base.specs.Names.{is_name};
+ghost use Rattle.gufi_base.specs.Paths.{is_prefix};
+ghost use Rattle.gufi_base.specs.PathTexts.{kept_text};
+ghost use Rattle.gufi_tree.specs.Graft.{graft, put_below};
+ghost use Rattle.gufi_tree.specs.Packs.{entries_of};
+ghost use Rattle.gufi_tree.specs.Places.{path_at};
+ghost use Rattle.gufi_tree.specs.Tree.{own_rows};
+
+use crate::borrowed::{DirRef, EntriesRef};
+use crate::dirs::Dirs;
+use crate::pending::Pending;
+use crate::tree::{DirId, Tree};
+use gufi_base::{Memory, PathRef};
+use std::alloc::{AllocError, Global};
+
+/// The kept text of a path that is put below another.
+#[tactic(auto, using(crate::proofs::Joined::joined_names))]
+fn join_paths(
+    text: &mut Vec<u8>,
+    path: &PathRef<'_>,
+    below: &PathRef<'_>,
+) -> Result<(), AllocError>
+    ensures text { OnOk result (text.new.items ≡ kept_text (path.now ++ below.now)) }
+    ensures names { IsTrue (list_all is_name (path.now ++ below.now)) }
+{
+    let front = path.text();
+    let rest = below.text();
+    text.clear();
+    text.extend_from_slice(front)?;
+    text.extend_from_slice(&rest[1..])?;
+    Ok(())
+}
+
+/// Adds the entries of a directory.
+fn push_entries(pending: &mut Pending, entries: &EntriesRef<'_>) -> Result<(), AllocError>
+    ensures { OnOk result (entries_of pending.new ≡ entries_of pending.old ++ entries.now) }
+{
+    for place in 0..entries.len() {
+        let entry = entries.at(place);
+        pending.push(0, entry.name(), &entry.rec())?;
+    }
+    Ok(())
+}
+
+/// Adds a directory, put below a path.
+fn push_below(
+    alloc: Global,
+    dirs: &mut Dirs,
+    path: &PathRef<'_>,
+    dir: &DirRef<'_>,
+    pending: &mut Pending,
+    text: &mut Vec<u8>,
+) -> Result<(), AllocError>
+    ensures { OnOk result (dirs.new ≡ dirs.old ++ put_below path.now dir.now ∷ []) }
+{
+    pending.clear();
+    push_entries(pending, &dir.entries())?;
+    join_paths(text, path, &dir.path())?;
+    let joined = PathRef::of_text(text.as_slice());
+    dirs.close(alloc, &joined, &dir.rec(), pending)?;
+    Ok(())
+}
+
+/// Adds directories, put below a path.
+fn push_all_below(
+    alloc: Global,
+    dirs: &mut Dirs,
+    path: &PathRef<'_>,
+    part: &Dirs,
+) -> Result<(), AllocError>
+    ensures { OnOk result (dirs.new ≡ dirs.old ++ map (put_below path.now) part.now) }
+{
+    let mut pending = Pending::new(alloc);
+    let mut text = Vec::new(alloc);
+    for place in 0..part.len() {
+        push_below(
+            alloc,
+            dirs,
+            path,
+            &part.at(place),
+            &mut pending,
+            &mut text,
+        )?;
+    }
+    Ok(())
+}
+
+/// Directories, of which those from a place on, up to another, are replaced by others, put below the path of the first of them.
+fn graft_dirs(
+    alloc: Global,
+    dirs: &Dirs,
+    at: usize,
+    end: usize,
+    part: &Dirs,
+) -> Result<Dirs, AllocError>
+    requires at { at < length dirs.now }
+    requires order { at ≤ end }
+    requires end { end ≤ length dirs.now }
+    ensures { IfOk result (λ grafted. grafted ≡ take at dirs.now ++ (map (put_below (path_at dirs.now at)) part.now ++ drop end dirs.now)) }
+{
+    let path = dirs.at(at).path();
+    let mut grafted = dirs.again(alloc)?;
+    push_all_below(alloc, &mut grafted, &path, part)?;
+    grafted.put_in_place(alloc, at, end, dirs.len())?;
+    Ok(grafted)
+}
+
+impl Tree {
+    /// The tree in which a directory and all below it, so many in all, are replaced by another tree, whose root takes the directory's place.
+    ///
+    /// Directories outside are shared, in bundles; those of the part are copied. Linear in the directories.
+    pub fn graft(
+        &self,
+        alloc: Global,
+        at: DirId,
+        count: u32,
+        part: &Tree,
+    ) -> Result<Tree, Memory>
+        requires within { at.0 < length self.now }
+        requires count { count ≡ length (filter (λ dir. is_prefix (path_at self.now at.0) dir.path) self.now) }
+        requires rows { length (flat_map own_rows (graft self.now (path_at self.now at.0) part.now)) < 2 ^ 32 }
+        ensures { IfOk result (λ tree. tree ≡ graft self.now (path_at self.now at.0) part.now) }
+    {
+        let first = at.0 as usize;
+        let end = first + count as usize;
+        let dirs = graft_dirs(alloc, self.kept(), first, end, part.kept())?;
+        Ok(Tree::of(alloc, dirs)?)
+    }
+}
