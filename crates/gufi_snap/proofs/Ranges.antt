@@ -1,4 +1,4 @@
--- In path order the directories at a path and below it stand side by side, and a sum of their rows counts them.
+-- The directories at a path and below it stand side by side, and a sum of their rows counts them.
 use Rattle.std.proofs.Common.{◌≡◌, ℕ, zero, suc, ◌+◌, ◌<◌, ◌≤◌, Bool, true, false, not, cond, List, [], ◌∷◌, length, take, drop, map, refl, sym, ap, ◌∙◌, subst, arith, length-append, length-drop}
 use Rattle.std.specs.Prelude.{All}
 use Rattle.std.specs.List.{AllByRecursion, filter, flat_map, list_all}
@@ -18,57 +18,10 @@ use Rattle.gufi_tree.proofs.Below.{below_dirs}
 use Rattle.gufi_tree.proofs.Built.{dir_cmp-total}
 use Rattle.gufi_tree.proofs.Flat.{is_prefix-append, is_prefix-rest}
 use Rattle.gufi_tree.proofs.Kids.{subtree_rows-under}
+use Rattle.gufi_tree.proofs.Ranges.{below_range, below_within}
 use Rattle.gufi_sums.specs.declared.summary.Summary.{Summary}
 use Rattle.gufi_sums.specs.Total.{total, IsTotal}
 use Rattle.gufi_sums.specs.Laws.{total-append, IsTotal-reordered}
-
--- past what stands behind a path and not below it comes nothing below the path
-never_again : (p b c : Components) → path_cmp p b ≡ Less → is_prefix p b ≡ false → path_cmp b c ≡ Less → is_prefix p c ≡ false
-never_again p b c behind outside later = false_from_ne_true _ (λ e.
-    let w = is_prefix-rest p c e in
-    let back : path_cmp c b ≡ Less = ap (λ (q : Components). path_cmp q b) w.1 ∙ stands_after_subtree p b w.0 behind outside in
-    let turned : path_cmp c b ≡ Greater = less_turned path_cmp paths_total b c later in
-    absurd (cc))
-
-none_below : (p b : Components) (ds : List Directory) → path_cmp p b ≡ Less → is_prefix p b ≡ false → AllByRecursion (λ (y : Directory). path_cmp b y.path ≡ Less) ds → below_dirs ds p ≡ []
-none_below p b [] behind outside later = refl
-none_below p b (c ∷ ds) behind outside later = rw (never_again p b c.path behind outside later.0) (none_below p b ds behind outside later.1)
-
--- of directories behind a path those below it come first
-below_first : (p : Components) (ds : List Directory) → AllByRecursion (λ (y : Directory). path_cmp p y.path ≡ Less) ds → ascends dir_cmp ds ≡ true → below_dirs ds p ≡ take (length (below_dirs ds p)) ds
-below_first p [] behind up = refl
-below_first p (d ∷ ds) behind up = by (is_prefix p d.path) refl (below_first p ds behind.1 (ascends-tail dir_cmp dir_cmp-total d ds up)) where
-  by : (b : Bool) → is_prefix p d.path ≡ b → below_dirs ds p ≡ take (length (below_dirs ds p)) ds
-      → cond b (d ∷ below_dirs ds p) (below_dirs ds p) ≡ take (length (cond b (d ∷ below_dirs ds p) (below_dirs ds p))) (d ∷ ds)
-  by true e again = ap (λ l. d ∷ l) again
-  by false e again = rw (none_below p d.path ds behind.0 e (below_all dir_cmp dir_cmp-total d ds up)) refl
-
--- a path doesn't lead to one before it
-not_before : (p b : Components) → path_cmp b p ≡ Less → is_prefix p b ≡ false
-not_before p b before = false_from_ne_true _ (λ e. prefix_stands_before p b e before)
-
-path_after : (x : Directory) (ds : List Directory) (k : ℕ) → AllByRecursion (λ (y : Directory). dir_cmp x y ≡ Less) ds → k < length ds → path_cmp x.path (path_at ds k) ≡ Less
-path_after x [] k h within = absurd (omega arith)
-path_after x (y ∷ ds) zero h within = h.0
-path_after x (y ∷ ds) (suc k) h within = path_after x ds k h.1 (omega arith)
-
--- the directories at and below the one at a place stand from there on
-pub below_range : (tree : List Directory) (k : ℕ) → ascends dir_cmp tree ≡ true → k < length tree → below_dirs tree (path_at tree k) ≡ take (length (below_dirs tree (path_at tree k))) (drop k tree)
-below_range [] k up within = absurd (omega arith)
-below_range (x ∷ tree) zero up within =
-    let own : is_prefix x.path x.path ≡ true = self x.path in
-    rw own (ap (λ l. x ∷ l) (below_first x.path tree (below_all dir_cmp dir_cmp-total x tree up) (ascends-tail dir_cmp dir_cmp-total x tree up))) where
-      self : (p : Components) → is_prefix p p ≡ true
-      self p = subst (λ (q : Components). is_prefix p q ≡ true) (append-nil p) (is_prefix-append p [])
-below_range (x ∷ tree) (suc k) up within =
-    let out : is_prefix (path_at tree k) x.path ≡ false = not_before (path_at tree k) x.path (path_after x tree k (below_all dir_cmp dir_cmp-total x tree up) (omega arith)) in
-    rw out (below_range tree k (ascends-tail dir_cmp dir_cmp-total x tree up) (omega arith))
-
--- there are as many directories behind the place, and more
-pub below_within : (tree : List Directory) (k : ℕ) → ascends dir_cmp tree ≡ true → k < length tree → k + length (below_dirs tree (path_at tree k)) ≤ length tree
-below_within tree k up within =
-    let n = length (below_dirs tree (path_at tree k)) in
-    omega (arith, ap length (below_range tree k up within), length-take n (drop k tree), length-drop k tree)
 
 -- ---- how many they are
 
