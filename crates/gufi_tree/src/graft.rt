@@ -110,7 +110,7 @@ fn graft_dirs(
 }
 
 impl Tree {
-    /// The tree in which a directory and all below it, so many in all, are replaced by another tree, whose root takes the directory's place.
+    /// The tree in which a directory and all below it, so many in all, are replaced by another tree. Its root takes the directory's place.
     ///
     /// Directories outside are shared, in bundles; those of the part are copied. Linear in the directories.
     pub fn graft(
