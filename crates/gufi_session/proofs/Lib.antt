@@ -1,5 +1,6 @@
 pub mod Isolation
 pub mod Joined
 pub mod Loads
+pub mod Replies
 pub mod Runs
 mod Worked

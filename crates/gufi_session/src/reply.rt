@@ -1,8 +1,12 @@
 //! Replies to searches.
-ghost use Rattle.std.specs.Prelude.{◌≡◌, ◌≢◌, ◌++◌, None, Some, IfErr, IfOk, OnOk, codes, decimal};
-ghost use Rattle.gufi_base.specs.Basics.{line};
+ghost use Rattle.std.specs.Prelude.{◌≡◌, ◌≢◌, ◌++◌, List, length, None, Some, IsTrue, IfErr, IfOk, OnOk, codes, decimal};
+ghost use Rattle.std.specs.List.Sorted.{IsPermutation};
+ghost use Rattle.gufi_base.specs.declared.record.Row.{Row};
+ghost use Rattle.gufi_base.specs.Basics.{ascends, line};
+ghost use Rattle.gufi_base.specs.Rows.{row_cmp};
 ghost use Rattle.gufi_find.specs.Expressions.{find_holds};
-ghost use Rattle.gufi_select.specs.Columns.{select_holds};
+ghost use Rattle.gufi_rows.specs.PathLines.{path_lines, ArePathsOf};
+ghost use Rattle.gufi_select.specs.Columns.{select_holds, select_lines};
 ghost use Rattle.gufi_sums.specs.Total.{total};
 ghost use Rattle.gufi_tree.specs.Resolve.{resolve};
 ghost use Rattle.gufi_walk.specs.Answer.{answer, refusal_of, reply_rows};
@@ -18,11 +22,12 @@ use gufi_io::Gate;
 use gufi_list::total_text;
 use gufi_phases::Wanted;
 use gufi_plan::{Query, Search, SharedSearch};
-use gufi_select::{Select, select_text};
+use gufi_rows::{PathList, RowList};
+use gufi_select::{Select, SelectLine};
 use gufi_snap::Snapshot;
 use gufi_sums::Summary;
 use gufi_walk::{
-    Refusal, Walkers, answer_lines, answer_rows, answer_sum, answer_total, put_refusal,
+    Refusal, Walkers, answer_list, answer_paths, answer_sum, answer_total, put_refusal,
 };
 use std::alloc::Global;
 use std::sync::Wait;
@@ -44,14 +49,43 @@ fn put_refused(text: &mut Vec<u8>, refusal: Refusal) -> Result<(), Memory>
     Ok(())
 }
 
-/// Appends how many rows there are, and their lines.
-fn put_rows(text: &mut Vec<u8>, count: usize, lines: &[u8]) -> Result<(), Memory>
-    ensures { OnOk result (text.new.items ≡ text.old.items ++ (line (codes " rows " ++ decimal count) ++ lines.now)) }
+/// Appends how many rows there are.
+fn put_count(text: &mut Vec<u8>, count: usize) -> Result<(), Memory>
+    ensures { OnOk result (text.new.items ≡ text.old.items ++ line (codes " rows " ++ decimal count)) }
 {
     text.extend_from_slice(b" rows ")?;
     put_u64(text, count as u64)?;
     text.push(b'\n')?;
-    text.extend_from_slice(lines)?;
+    Ok(())
+}
+
+/// Appends how many paths there are, and their lines.
+fn put_paths(alloc: Global, text: &mut Vec<u8>, paths: PathList) -> Result<(), Memory>
+    ensures { OnOk result ((rows : List Row) → ArePathsOf paths rows → IsTrue (ascends row_cmp rows)
+        → text.new.items ≡ text.old.items ++ (line (codes " rows " ++ decimal (length rows)) ++ path_lines rows)) }
+{
+    put_count(text, paths.len())?;
+    paths.put_lines(alloc, text)?;
+    Ok(())
+}
+
+/// Appends how many rows there are, and what a SELECT prints of them.
+fn put_rows(
+    alloc: Global,
+    text: &mut Vec<u8>,
+    rows: RowList,
+    select: &Select,
+    start: &Path,
+) -> Result<(), Memory>
+    ensures { OnOk result ((of : List Row) → IsPermutation rows of → IsTrue (ascends row_cmp of)
+        → text.new.items ≡ text.old.items ++ (line (codes " rows " ++ decimal (length of)) ++ select_lines select.now start.now of)) }
+{
+    let line = SelectLine {
+        select,
+        above: start.depth(),
+    };
+    put_count(text, rows.len())?;
+    rows.put_lines(alloc, &line, text)?;
     Ok(())
 }
 
@@ -67,8 +101,8 @@ fn put_found<R: Threads + Wait + Sync, G: Gate + Sync>(
 ) -> Result<(), Memory>
     ensures { OnOk result (text.new.items ≡ text.old.items ++ answer_or (record { who = who.now; start = start.now; query = Finds find.now }) (reply_rows snap.now.tree who.now start.now (find_holds find.now))) }
 {
-    match answer_lines(walkers, alloc, snap, who, start, &find.question()) {
-        Ok(found) => put_rows(text, found.count, &found.text),
+    match answer_paths(walkers, alloc, snap, who, start, &find.question()) {
+        Ok(paths) => put_paths(alloc, text, paths),
         Err(Refusal::Memory) => Err(Memory),
         Err(refusal) => put_refused(text, refusal),
     }
@@ -132,11 +166,8 @@ fn put_selected<R: Threads + Wait + Sync, G: Gate + Sync>(
 ) -> Result<(), Memory>
     ensures { OnOk result (text.new.items ≡ text.old.items ++ answer_or (record { who = who.now; start = start.now; query = Selects select.now }) (reply_rows snap.now.tree who.now start.now (select_holds select.now))) }
 {
-    match answer_rows(walkers, alloc, snap, who, start, &select.question()) {
-        Ok(rows) => {
-            let lines = select_text(alloc, select, &rows, start)?;
-            put_rows(text, rows.len(), &lines)
-        }
+    match answer_list(walkers, alloc, snap, who, start, &select.question()) {
+        Ok(rows) => put_rows(alloc, text, rows, select, start),
         Err(Refusal::Memory) => Err(Memory),
         Err(refusal) => put_refused(text, refusal),
     }

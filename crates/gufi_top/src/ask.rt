@@ -7,14 +7,14 @@ use gufi_access::Principal;
 use gufi_base::{Always, Memory, Path};
 use gufi_find::FindExpr;
 use gufi_io::Gate;
-use gufi_list::{OneBelow, ls_text, stat_text, total_text};
-use gufi_select::{Select, select_text};
+use gufi_list::{LsLine, OneBelow, stat_text, total_text};
+use gufi_select::{Select, SelectLine};
 use gufi_snap::Snapshot;
 use gufi_stats::{Report, stats_text};
 use gufi_sums::Summary;
 use gufi_users::Users;
 use gufi_walk::{
-    Refusal, Walkers, answer_lines, answer_rows, answer_total, found_start, total_from,
+    Refusal, Walkers, answer_lines, answer_list, answer_rows, answer_total, found_start, total_from,
 };
 use std::alloc::Global;
 use std::sync::Wait;
@@ -66,8 +66,12 @@ pub(crate) fn listing_text<R: Threads + Wait + Sync, G: Gate + Sync>(
 ) -> Result<Vec<u8>, Refusal>
     ensures { Replies result (ask_reply snap.now.tree who.now start.now (ls_ask users.now long all)) }
 {
-    match answer_rows(walkers, alloc, snap, who, start, &OneBelow { all }) {
-        Ok(rows) => Ok(ls_text(alloc, &rows, users, long, all)?),
+    match answer_list(walkers, alloc, snap, who, start, &OneBelow { all }) {
+        Ok(rows) => {
+            let mut text = Vec::new(alloc);
+            rows.put_lines(alloc, &LsLine { users, long, all }, &mut text)?;
+            Ok(text)
+        }
         Err(refusal) => Err(refusal),
     }
 }
@@ -149,8 +153,16 @@ pub(crate) fn query_text<R: Threads + Wait + Sync, G: Gate + Sync>(
 ) -> Result<Vec<u8>, Refusal>
     ensures { Replies result (ask_reply snap.now.tree who.now start.now (query_ask select.now)) }
 {
-    match answer_rows(walkers, alloc, snap, who, start, &select.question()) {
-        Ok(rows) => Ok(select_text(alloc, select, &rows, start)?),
+    let line = SelectLine {
+        select,
+        above: start.depth(),
+    };
+    match answer_list(walkers, alloc, snap, who, start, &select.question()) {
+        Ok(rows) => {
+            let mut text = Vec::new(alloc);
+            rows.put_lines(alloc, &line, &mut text)?;
+            Ok(text)
+        }
         Err(refusal) => Err(refusal),
     }
 }

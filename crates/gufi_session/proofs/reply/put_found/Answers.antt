@@ -1,0 +1,17 @@
+use Rattle.std.proofs.lemmas.Result.{on_ok_weaker}
+use Rattle.gufi_find.specs.Expressions.{find_holds}
+use Rattle.gufi_walk.specs.Answer.{answer}
+use Rattle.gufi_plan.specs.declared.search.Query.TheVariants.{Finds}
+use Rattle.gufi_session.proofs.Replies.{found_put}
+use Rattle.gufi_session.proofs.reply.put_found.Goals as goal
+
+pub returns-in-Ok : goal.returns-in-Ok
+returns-in-Ok g c =
+    let tree = c.args.snap.now.tree in
+    let who = c.args.who.now in
+    let start = c.args.start.now in
+    let asks = find_holds c.args.find.now in
+    on_ok_weaker c.put_paths.result
+    (λ put. found_put (record { who = who; start = start; query = Finds c.args.find.now }) tree who start asks c.args.text.now.items c.put_paths.new.text.items c.in-Ok.ensures.found
+    (put (answer tree who start asks) (rw c.question.ensures at c.in-Ok.ensures.paths) (rw c.question.ensures at c.answer_paths.ensures.ascends)))
+    c.put_paths.ensures
