@@ -25,7 +25,7 @@ use gufi_plan::{Query, Search, SharedSearch};
 use gufi_rows::{PathList, RowList};
 use gufi_select::{Select, SelectLine};
 use gufi_snap::Snapshot;
-use gufi_sums::Summary;
+use gufi_sums::{NoDeeper, NoSkip, Summary};
 use gufi_walk::{
     Refusal, Walkers, answer_list, answer_paths, answer_sum, answer_total, put_refusal,
 };
@@ -101,7 +101,11 @@ fn put_found<R: Threads + Wait + Sync, G: Gate + Sync>(
 ) -> Result<(), Memory>
     ensures { OnOk result (text.new.items ≡ text.old.items ++ answer_or (record { who = who.now; start = start.now; query = Finds find.now }) (reply_rows snap.now.tree who.now start.now (find_holds find.now))) }
 {
-    match answer_paths(walkers, alloc, snap, who, start, &find.question()) {
+    let question = find.question();
+    let skip = NoDeeper {
+        than: find.max_depth(),
+    };
+    match answer_paths(walkers, alloc, snap, who, start, &question, &skip) {
         Ok(paths) => put_paths(alloc, text, paths),
         Err(Refusal::Memory) => Err(Memory),
         Err(refusal) => put_refused(text, refusal),
@@ -126,7 +130,11 @@ fn sum_found<R: Threads + Wait + Sync, G: Gate + Sync>(
     if find.has_no_words() {
         return answer_total(alloc, snap, who, start);
     }
-    answer_sum(walkers, alloc, snap, who, start, &find.question())
+    let question = find.question();
+    let skip = NoDeeper {
+        than: find.max_depth(),
+    };
+    answer_sum(walkers, alloc, snap, who, start, &question, &skip)
 }
 
 /// Appends the sum of the rows that a principal lists from a start and for which an expression is true.
@@ -166,7 +174,8 @@ fn put_selected<R: Threads + Wait + Sync, G: Gate + Sync>(
 ) -> Result<(), Memory>
     ensures { OnOk result (text.new.items ≡ text.old.items ++ answer_or (record { who = who.now; start = start.now; query = Selects select.now }) (reply_rows snap.now.tree who.now start.now (select_holds select.now))) }
 {
-    match answer_list(walkers, alloc, snap, who, start, &select.question()) {
+    let question = select.question();
+    match answer_list(walkers, alloc, snap, who, start, &question, &NoSkip) {
         Ok(rows) => put_rows(alloc, text, rows, select, start),
         Err(Refusal::Memory) => Err(Memory),
         Err(refusal) => put_refused(text, refusal),

@@ -11,7 +11,7 @@ use gufi_list::{LsLine, OneBelow, stat_text, total_text};
 use gufi_select::{Select, SelectLine};
 use gufi_snap::Snapshot;
 use gufi_stats::{Report, stats_text};
-use gufi_sums::Summary;
+use gufi_sums::{NoDeeper, NoSkip, Summary};
 use gufi_users::Users;
 use gufi_walk::{
     Refusal, Walkers, answer_lines, answer_list, answer_rows, answer_total, found_start, total_from,
@@ -30,7 +30,7 @@ pub(crate) fn walk_text<R: Threads + Wait + Sync, G: Gate + Sync>(
 ) -> Result<Vec<u8>, Refusal>
     ensures { Replies result (ask_reply snap.now.tree who.now start.now walk_ask) }
 {
-    match answer_lines(walkers, alloc, snap, who, start, &Always) {
+    match answer_lines(walkers, alloc, snap, who, start, &Always, &NoSkip) {
         Ok(lines) => Ok(lines.text),
         Err(refusal) => Err(refusal),
     }
@@ -47,7 +47,11 @@ pub(crate) fn find_text<R: Threads + Wait + Sync, G: Gate + Sync>(
 ) -> Result<Vec<u8>, Refusal>
     ensures { Replies result (ask_reply snap.now.tree who.now start.now (find_ask expression.now)) }
 {
-    match answer_lines(walkers, alloc, snap, who, start, &expression.question()) {
+    let question = expression.question();
+    let skip = NoDeeper {
+        than: expression.max_depth(),
+    };
+    match answer_lines(walkers, alloc, snap, who, start, &question, &skip) {
         Ok(lines) => Ok(lines.text),
         Err(refusal) => Err(refusal),
     }
@@ -66,7 +70,11 @@ pub(crate) fn listing_text<R: Threads + Wait + Sync, G: Gate + Sync>(
 ) -> Result<Vec<u8>, Refusal>
     ensures { Replies result (ask_reply snap.now.tree who.now start.now (ls_ask users.now long all)) }
 {
-    match answer_list(walkers, alloc, snap, who, start, &OneBelow { all }) {
+    let question = OneBelow { all };
+    let skip = NoDeeper {
+        than: Some(question.max_depth()),
+    };
+    match answer_list(walkers, alloc, snap, who, start, &question, &skip) {
         Ok(rows) => {
             let mut text = Vec::new(alloc);
             rows.put_lines(alloc, &LsLine { users, long, all }, &mut text)?;
@@ -89,7 +97,7 @@ pub(crate) fn report_text<R: Threads + Wait + Sync, G: Gate + Sync>(
 {
     // The tree's shape tells that the rows of an answer are in path order, and its count that they are few.
     let _tree = snap.tree();
-    match answer_rows(walkers, alloc, snap, who, start, &Always) {
+    match answer_rows(walkers, alloc, snap, who, start, &Always, &NoSkip) {
         Ok(rows) => Ok(stats_text(alloc, &rows, start, report)?),
         Err(refusal) => Err(refusal),
     }
@@ -157,7 +165,8 @@ pub(crate) fn query_text<R: Threads + Wait + Sync, G: Gate + Sync>(
         select,
         above: start.depth(),
     };
-    match answer_list(walkers, alloc, snap, who, start, &select.question()) {
+    let question = select.question();
+    match answer_list(walkers, alloc, snap, who, start, &question, &NoSkip) {
         Ok(rows) => {
             let mut text = Vec::new(alloc);
             rows.put_lines(alloc, &line, &mut text)?;

@@ -3,6 +3,7 @@ use gufi_access::{Class, GroupList, Principal};
 use gufi_base::{Always, Kind, Path};
 use gufi_io::NoGate;
 use gufi_snap::Snapshot;
+use gufi_sums::NoSkip;
 use gufi_tree::build;
 use gufi_walk::{
     Refusal, Walkers, answer_lines, answer_rows, answer_sum, answer_total, put_refusal,
@@ -37,7 +38,7 @@ fn rows_come_from_listed_directories(rt: HostRuntime) -> Result<(), Fail> {
         let groups = GroupList::of(Vec::new(alloc));
         let who = Principal { uid, groups };
         let start = Path::read(alloc, start)?;
-        let sum = answer_sum(&walkers, alloc, &snap, &who, &start, &Always)?;
+        let sum = answer_sum(&walkers, alloc, &snap, &who, &start, &Always, &NoSkip)?;
         assert_eq!(rt; sum.dirs, dirs);
         assert_eq!(rt; sum.files, files);
         for snap in [&snap, &rolled] {
@@ -45,10 +46,10 @@ fn rows_come_from_listed_directories(rt: HostRuntime) -> Result<(), Fail> {
             assert_eq!(rt; total.dirs, dirs);
             assert_eq!(rt; total.files, files);
         }
-        let lines = answer_lines(&walkers, alloc, &snap, &who, &start, &Always)?;
+        let lines = answer_lines(&walkers, alloc, &snap, &who, &start, &Always, &NoSkip)?;
         assert_eq!(rt; lines.text.as_slice(), text);
         assert_eq!(rt; lines.count, count);
-        let rows = answer_rows(&walkers, alloc, &snap, &who, &start, &Always)?;
+        let rows = answer_rows(&walkers, alloc, &snap, &who, &start, &Always, &NoSkip)?;
         assert_eq!(rt; rows.len(), count);
     }
     Ok(())
@@ -87,7 +88,7 @@ fn a_start_is_refused_as_it_resolves(rt: HostRuntime) -> Result<(), Fail> {
     let walkers = Walkers::of(&rt, &NoGate, 4);
     for (start, refusal, words) in rows {
         let start = Path::read(alloc, start)?;
-        let reply = answer_sum(&walkers, alloc, &snap, &who, &start, &Always);
+        let reply = answer_sum(&walkers, alloc, &snap, &who, &start, &Always, &NoSkip);
         assert_eq!(rt; reply.err(), Some(refusal));
         let total = answer_total(alloc, &snap, &who, &start);
         assert_eq!(rt; total.err(), Some(refusal));

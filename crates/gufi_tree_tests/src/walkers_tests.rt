@@ -210,7 +210,7 @@ fn many_walkers_give_the_rows_of_one_thread(rt: HostRuntime) -> Result<(), Fail>
     assert_eq!(rt; alone.as_slice(), text.as_slice());
     for workers in [1u32, 4, 32] {
         let walkers = Walkers::of(&rt, &NoGate, workers);
-        let lines = answer_lines(&walkers, alloc, &snap, &who, &start, &Always)?;
+        let lines = answer_lines(&walkers, alloc, &snap, &who, &start, &Always, &NoSkip)?;
         assert_eq!(rt; lines.text.as_slice(), text.as_slice());
         assert_eq!(rt; lines.count, count);
     }

@@ -1,7 +1,8 @@
 //! What is made of an answer: its printed paths, its rows, their sum; and a refusal in words.
 
-ghost use Rattle.std.specs.Prelude.{◌≡◌, ◌≢◌, ◌++◌, length, Some, None, IsTrue, IfOk, IfErr, OnOk, decimal};
+ghost use Rattle.std.specs.Prelude.{◌≡◌, ◌≢◌, ℕ, ◌++◌, true, length, Some, None, IsTrue, IfOk, IfErr, OnOk, decimal};
 ghost use Rattle.std.specs.List.Sorted.{IsPermutation};
+ghost use Rattle.gufi_base.specs.declared.record.Row.{Row as SeenRow};
 ghost use Rattle.gufi_base.specs.Basics.{ascends};
 ghost use Rattle.gufi_base.specs.Rows.{row_cmp};
 ghost use Rattle.gufi_rows.specs.PathLines.{path_lines, ArePathsOf};
@@ -17,7 +18,7 @@ use gufi_base::{Memory, Path, Pred, Row, put_u64};
 use gufi_io::Gate;
 use gufi_rows::{PathList, RowList};
 use gufi_snap::Snapshot;
-use gufi_sums::{NoSkip, Summary};
+use gufi_sums::{Skip, Summary};
 use std::alloc::Global;
 use std::sync::Wait;
 use std::thread::Threads;
@@ -32,16 +33,18 @@ pub struct PathLines {
 /// The paths of the rows that the principal lists from the start and that meet the question, in one list.
 ///
 /// Their lines are in path order, whatever order they stand in there.
-pub fn answer_paths<R: Threads + Wait + Sync, P: Pred + Sync, G: Gate + Sync>(
+pub fn answer_paths<R: Threads + Wait + Sync, P: Pred + Sync, S: Skip + Sync, G: Gate + Sync>(
     walkers: &Walkers<'_, R, G>,
     alloc: Global,
     snap: &Snapshot,
     who: &Principal,
     start: &Path,
     pred: &P,
+    skip: &S,
 ) -> Result<PathList, Refusal>
 where
     P::Tester: Send,
+    requires query { (row : SeenRow) (depth : ℕ) → P.sat pred.now row depth ≡ true → S.query skip.now row depth ≡ true }
     ensures paths { IfOk result (λ paths. ArePathsOf paths (answer snap.now.tree who.now start.now (P.sat pred.now))) }
     ensures ascends { IsTrue (ascends row_cmp (answer snap.now.tree who.now start.now (P.sat pred.now))) }
     ensures found { OnOk result (refusal_of (resolve snap.now.tree who.now start.now) ≡ None) }
@@ -49,36 +52,38 @@ where
 {
     // The tree's shape tells that the answer's paths ascend.
     let _tree = snap.tree();
-    answer::<R, P, PathList, NoSkip, G>(
+    answer::<R, P, PathList, S, G>(
         walkers.rt,
         alloc,
         snap,
         who,
         start,
         pred,
-        &NoSkip,
+        skip,
         walkers.count,
         walkers.gate,
     )
 }
 
 /// The paths of the rows that the principal lists from the start and that meet the question, in path order.
-pub fn answer_lines<R: Threads + Wait + Sync, P: Pred + Sync, G: Gate + Sync>(
+pub fn answer_lines<R: Threads + Wait + Sync, P: Pred + Sync, S: Skip + Sync, G: Gate + Sync>(
     walkers: &Walkers<'_, R, G>,
     alloc: Global,
     snap: &Snapshot,
     who: &Principal,
     start: &Path,
     pred: &P,
+    skip: &S,
 ) -> Result<PathLines, Refusal>
 where
     P::Tester: Send,
+    requires query { (row : SeenRow) (depth : ℕ) → P.sat pred.now row depth ≡ true → S.query skip.now row depth ≡ true }
     ensures text { IfOk result (λ lines. lines.text.items ≡ path_lines (answer snap.now.tree who.now start.now (P.sat pred.now))) }
     ensures count { IfOk result (λ lines. lines.count ≡ length (answer snap.now.tree who.now start.now (P.sat pred.now))) }
     ensures found { OnOk result (refusal_of (resolve snap.now.tree who.now start.now) ≡ None) }
     ensures refusal { IfErr result (λ refusal. refusal ≢ Refusal.Memory → refusal_of (resolve snap.now.tree who.now start.now) ≡ Some refusal) }
 {
-    match answer_paths(walkers, alloc, snap, who, start, pred) {
+    match answer_paths(walkers, alloc, snap, who, start, pred, skip) {
         Ok(paths) => {
             let count = paths.len();
             let text = paths.lines(alloc)?;
@@ -91,16 +96,18 @@ where
 /// The rows that the principal lists from the start and that meet the question, in one list.
 ///
 /// Their lines are in path order, whatever order they stand in there.
-pub fn answer_list<R: Threads + Wait + Sync, P: Pred + Sync, G: Gate + Sync>(
+pub fn answer_list<R: Threads + Wait + Sync, P: Pred + Sync, S: Skip + Sync, G: Gate + Sync>(
     walkers: &Walkers<'_, R, G>,
     alloc: Global,
     snap: &Snapshot,
     who: &Principal,
     start: &Path,
     pred: &P,
+    skip: &S,
 ) -> Result<RowList, Refusal>
 where
     P::Tester: Send,
+    requires query { (row : SeenRow) (depth : ℕ) → P.sat pred.now row depth ≡ true → S.query skip.now row depth ≡ true }
     ensures rows { IfOk result (λ rows. IsPermutation rows (answer snap.now.tree who.now start.now (P.sat pred.now))) }
     ensures ascends { IsTrue (ascends row_cmp (answer snap.now.tree who.now start.now (P.sat pred.now))) }
     ensures found { OnOk result (refusal_of (resolve snap.now.tree who.now start.now) ≡ None) }
@@ -108,63 +115,67 @@ where
 {
     // The tree's shape tells that the answer's paths ascend.
     let _tree = snap.tree();
-    answer::<R, P, RowList, NoSkip, G>(
+    answer::<R, P, RowList, S, G>(
         walkers.rt,
         alloc,
         snap,
         who,
         start,
         pred,
-        &NoSkip,
+        skip,
         walkers.count,
         walkers.gate,
     )
 }
 
 /// The rows that the principal lists from the start and that meet the question, in path order.
-pub fn answer_rows<R: Threads + Wait + Sync, P: Pred + Sync, G: Gate + Sync>(
+pub fn answer_rows<R: Threads + Wait + Sync, P: Pred + Sync, S: Skip + Sync, G: Gate + Sync>(
     walkers: &Walkers<'_, R, G>,
     alloc: Global,
     snap: &Snapshot,
     who: &Principal,
     start: &Path,
     pred: &P,
+    skip: &S,
 ) -> Result<Vec<Row>, Refusal>
 where
     P::Tester: Send,
+    requires query { (row : SeenRow) (depth : ℕ) → P.sat pred.now row depth ≡ true → S.query skip.now row depth ≡ true }
     ensures rows { IfOk result (λ rows. rows.items ≡ answer snap.now.tree who.now start.now (P.sat pred.now)) }
     ensures found { OnOk result (refusal_of (resolve snap.now.tree who.now start.now) ≡ None) }
     ensures refusal { IfErr result (λ refusal. refusal ≢ Refusal.Memory → refusal_of (resolve snap.now.tree who.now start.now) ≡ Some refusal) }
 {
-    match answer_list(walkers, alloc, snap, who, start, pred) {
+    match answer_list(walkers, alloc, snap, who, start, pred, skip) {
         Ok(rows) => Ok(rows.sorted(alloc)?),
         Err(refusal) => Err(refusal),
     }
 }
 
 /// The sum of the rows that the principal lists from the start and that meet the question.
-pub fn answer_sum<R: Threads + Wait + Sync, P: Pred + Sync, G: Gate + Sync>(
+pub fn answer_sum<R: Threads + Wait + Sync, P: Pred + Sync, S: Skip + Sync, G: Gate + Sync>(
     walkers: &Walkers<'_, R, G>,
     alloc: Global,
     snap: &Snapshot,
     who: &Principal,
     start: &Path,
     pred: &P,
+    skip: &S,
 ) -> Result<Summary, Refusal>
 where
     P::Tester: Send,
+    requires query { (row : SeenRow) (depth : ℕ) → P.sat pred.now row depth ≡ true → S.query skip.now row depth ≡ true }
     ensures sum { IfOk result (λ sum. sum ≡ total (answer snap.now.tree who.now start.now (P.sat pred.now))) }
     ensures found { OnOk result (refusal_of (resolve snap.now.tree who.now start.now) ≡ None) }
     ensures refusal { IfErr result (λ refusal. refusal ≢ Refusal.Memory → refusal_of (resolve snap.now.tree who.now start.now) ≡ Some refusal) }
 {
-    answer::<R, P, Summary, NoSkip, G>(
+    answer::<R, P, Summary, S, G>(
         walkers.rt,
         alloc,
         snap,
         who,
         start,
         pred,
-        &NoSkip,
+        skip,
         walkers.count,
         walkers.gate,
     )

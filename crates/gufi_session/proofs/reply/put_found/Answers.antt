@@ -1,9 +1,15 @@
 use Rattle.std.proofs.lemmas.Result.{on_ok_weaker}
 use Rattle.gufi_find.specs.Expressions.{find_holds}
+use Rattle.gufi_sums.specs.Depths.{within_from}
 use Rattle.gufi_walk.specs.Answer.{answer}
 use Rattle.gufi_plan.specs.declared.search.Query.TheVariants.{Finds}
 use Rattle.gufi_session.proofs.Replies.{found_put}
 use Rattle.gufi_session.proofs.reply.put_found.Goals as goal
+
+-- no row lies deeper than the expression allows
+pub answer_paths-requires-clause-query : goal.answer_paths-requires-clause-query
+answer_paths-requires-clause-query g c = λ row depth met.
+    within_from c.max_depth.result depth (λ most is. c.max_depth.ensures.bounded most is row depth (rw c.question-question.ensures at met))
 
 pub returns-in-Ok : goal.returns-in-Ok
 returns-in-Ok g c =
@@ -13,5 +19,5 @@ returns-in-Ok g c =
     let asks = find_holds c.args.find.now in
     on_ok_weaker c.put_paths.result
     (λ put. found_put (record { who = who; start = start; query = Finds c.args.find.now }) tree who start asks c.args.text.now.items c.put_paths.new.text.items c.in-Ok.ensures.found
-    (put (answer tree who start asks) (rw c.question.ensures at c.in-Ok.ensures.paths) (rw c.question.ensures at c.answer_paths.ensures.ascends)))
+    (put (answer tree who start asks) (rw c.question-question.ensures at c.in-Ok.ensures.paths) (rw c.question-question.ensures at c.answer_paths.ensures.ascends)))
     c.put_paths.ensures

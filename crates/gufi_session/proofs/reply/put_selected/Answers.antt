@@ -22,5 +22,5 @@ returns-in-Ok g c =
     let asks = select_holds c.args.select.now in
     on_ok_weaker c.put_rows.result
     (λ put. found_put (record { who = who; start = start; query = Selects c.args.select.now }) tree who start asks c.args.text.now.items c.put_rows.new.text.items c.in-Ok.ensures.found
-    (put (answer tree who start asks) (rw c.question.ensures at c.in-Ok.ensures.rows) (rw c.question.ensures at c.answer_list.ensures.ascends)))
+    (put (answer tree who start asks) (rw c.question-question.ensures at c.in-Ok.ensures.rows) (rw c.question-question.ensures at c.answer_list.ensures.ascends)))
     c.put_rows.ensures

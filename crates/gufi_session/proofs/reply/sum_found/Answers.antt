@@ -1,6 +1,7 @@
 use Rattle.std.proofs.Common.{◌≡◌, ℕ, sym, subst}
 use Rattle.std.specs.Prelude.{Bool, IfOk}
 use Rattle.gufi_base.specs.declared.record.Row.{Row}
+use Rattle.gufi_sums.specs.Depths.{within_from}
 use Rattle.gufi_sums.specs.Total.{total}
 use Rattle.gufi_walk.specs.Answer.{answer}
 use Rattle.gufi_session.proofs.reply.sum_found.Goals as goal
@@ -9,3 +10,8 @@ pub returns-then-has_no_words-clause-sum : goal.returns-then-has_no_words-clause
 returns-then-has_no_words-clause-sum g c =
     subst (λ (asks : Row → ℕ → Bool). IfOk c.answer_total.result (λ sum. sum ≡ total (answer c.args.snap.now.tree c.args.who.now c.args.start.now asks)))
     (sym (c.has_no_words.ensures.every_row c.if-has_no_words.true)) c.answer_total.ensures.sum
+
+-- no row lies deeper than the expression allows
+pub answer_sum-requires-clause-query : goal.answer_sum-requires-clause-query
+answer_sum-requires-clause-query g c = λ row depth met.
+    within_from c.max_depth.result depth (λ most is. c.max_depth.ensures.bounded most is row depth (rw c.question-question.ensures at met))

@@ -1,10 +1,15 @@
 use Rattle.std.proofs.Common.{◌∙◌, ◌++◌, ap}
+use Rattle.std.proofs.lemmas.Bool.{le-leb}
 use Rattle.gufi_list.specs.Listings.{ls_asks, ls_text}
 use Rattle.gufi_list.proofs.Shown.{shown_lines}
 use Rattle.gufi_walk.specs.Answer.{answer}
 use Rattle.gufi_top.specs.Asks.{ls_ask}
 use Rattle.gufi_top.proofs.AskLemmas.{replies_found, replies_refused}
 use Rattle.gufi_top.proofs.ask.listing_text.Goals as goal
+
+-- no row lies deeper than those that are shown
+pub answer_list-requires-clause-query : goal.answer_list-requires-clause-query
+answer_list-requires-clause-query g c = λ row depth met. le-leb depth c.max_depth.result (c.max_depth.ensures.bounded row depth met)
 
 pub returns-in_ok-put_lines-in-Ok : goal.returns-in_ok-put_lines-in-Ok
 returns-in_ok-put_lines-in-Ok g c =

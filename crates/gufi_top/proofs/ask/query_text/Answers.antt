@@ -24,7 +24,7 @@ returns-in_ok-put_lines-in-Ok g c =
     let select = c.args.select.now in
     let rows = answer c.args.snap.now.tree c.args.who.now c.args.start.now (select_holds select) in
     replies_found c.args.snap.now.tree c.args.who.now c.args.start.now (query_ask select) c.put_lines.new.text c.in-Ok.ensures.found
-    (c.in_ok-put_lines-in-Ok.ensures rows (rw c.question.ensures at c.in-Ok.ensures.rows) (rw c.question.ensures at c.answer_list.ensures.ascends)
+    (c.in_ok-put_lines-in-Ok.ensures rows (rw c.question-question.ensures at c.in-Ok.ensures.rows) (rw c.question-question.ensures at c.answer_list.ensures.ascends)
     ∙ ap (λ (n : ℕ). c.new-text.result.items ++ flat_map (λ (row : Row). projected select row (depth_below n row)) rows) c.depth.ensures
     ∙ ap (λ t. t ++ select_lines select c.args.start.now rows) c.new-text.ensures.items)
 
