@@ -21,8 +21,8 @@ use std::marker::Model;
 
 /// Lines of which each entry's stands behind its directory's, or behind that of another entry of it.
 ///
-/// The path of an entry isn't kept: it is its directory's and its name. When the next stanza begins, the entries of the one before
-/// are put in name order, in as much memory as they take. Contracts see the lines, numbered from 1.
+/// The path of an entry isn't kept: it is its directory's and its name, and its bytes are packed as it comes. When the next stanza
+/// begins, the entries of the one before are put in name order. Contracts see the lines, numbered from 1.
 #[derive(Drop)]
 pub struct Stanzas {
     closing: Closing,
