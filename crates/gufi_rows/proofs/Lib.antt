@@ -1,8 +1,10 @@
 pub mod Arranged
 pub mod Behind
+pub mod Laid
 pub mod PathLists
 pub mod RowLists
 pub mod RowParts
+pub mod Runs
 pub mod SameRow
 pub mod Spots
 pub mod Stretches

@@ -1,6 +1,6 @@
 -- Lists of paths: one more, the path at a place, and places in order.
 use Rattle.std.proofs.Common.{◌≡◌, ℕ, zero, suc, ◌-◌, ◌<◌, ◌≤◌, true, false, cond, List, [], ◌∷◌, ◌++◌, length, get_or, refl, sym, ap, ◌∙◌, subst, arith, append_assoc, length-append, ⊎_elim}
-use Rattle.std.specs.Prelude.{Option, Some, None, All, Result, Ok, Err, OnErr, OnOk}
+use Rattle.std.specs.Prelude.{Option, Some, None, All, Result, Ok, Err, OnErr}
 use Rattle.std.specs.Ordering.{is_lt}
 use Rattle.std.specs.List.{flat_map, range_with_len}
 use Rattle.std.specs.List.Sorted.{IsPermutation}
@@ -123,18 +123,13 @@ OnErr-always (Ok x) P h = tt
 OnErr-always (Err e) P h = h
 
 -- what a list of paths stands for, with one row more and with those of another list
-module _ {E : Type 0} where
-  pub OnOk-paths_push : (r : Result (Unit {0}) E) (old new : List Components) (ref : RowRef)
-      → OnOk r ((path : Components) → ArePartsOf ref.stem.now ref.base.now path → new ≡ old ++ path ∷ [])
-      → OnOk r ((of : Row) (rows : List Row) → Stands ref of → ArePathsOf old rows → ArePathsOf new (rows ++ of ∷ []))
-  OnOk-paths_push (Ok x) old new ref h = λ of rows stands are.
-      subst (λ l. IsPermutation l (row_paths (rows ++ of ∷ []))) (sym (h of.path (record { names = stands.names; stem = stands.stem; base = stands.base })))
-      (subst (IsPermutation (old ++ of.path ∷ [])) (sym (map-append (λ (row : Row). row.path) rows (of ∷ []))) (IsPermutation-append_left (of.path ∷ []) old (row_paths rows) are))
-  OnOk-paths_push (Err e) old new ref h = tt
+pub paths_pushed : (old new : List Components) (ref : RowRef) → ((path : Components) → ArePartsOf ref.stem.now ref.base.now path → new ≡ old ++ path ∷ [])
+    → (of : Row) (rows : List Row) → Stands ref of → ArePathsOf old rows → ArePathsOf new (rows ++ of ∷ [])
+paths_pushed old new ref h of rows stands are =
+    subst (λ l. IsPermutation l (row_paths (rows ++ of ∷ []))) (sym (h of.path (record { names = stands.names; stem = stands.stem; base = stands.base })))
+    (subst (IsPermutation (old ++ of.path ∷ [])) (sym (map-append (λ (row : Row). row.path) rows (of ∷ []))) (IsPermutation-append_left (of.path ∷ []) old (row_paths rows) are))
 
-  pub OnOk-paths_append : (r : Result (Unit {0}) E) (old new other : List Components) → OnOk r (new ≡ old ++ other)
-      → OnOk r ((rows more : List Row) → ArePathsOf old rows → ArePathsOf other more → ArePathsOf new (rows ++ more))
-  OnOk-paths_append (Ok x) old new other h = λ rows more are also.
-      subst (λ l. IsPermutation l (row_paths (rows ++ more))) (sym h)
-      (subst (IsPermutation (old ++ other)) (sym (map-append (λ (row : Row). row.path) rows more)) (IsPermutation-append old (row_paths rows) other (row_paths more) are also))
-  OnOk-paths_append (Err e) old new other h = tt
+pub paths_joined : (old other new : List Components) → IsPermutation (old ++ other) new → (rows more : List Row) → ArePathsOf old rows → ArePathsOf other more → ArePathsOf new (rows ++ more)
+paths_joined old other new h rows more are also =
+    IsPermutation-trans new (old ++ other) (row_paths (rows ++ more)) (IsPermutation-sym (old ++ other) new h)
+    (subst (IsPermutation (old ++ other)) (sym (map-append (λ (row : Row). row.path) rows more)) (IsPermutation-append old (row_paths rows) other (row_paths more) are also))

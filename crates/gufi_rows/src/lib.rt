@@ -6,13 +6,18 @@
 #![tactic(auto)]
 
 mod kept;
+mod kept_paths;
+mod lines;
 mod path_lines;
 mod path_list;
 mod path_order;
+mod places;
 mod row_line;
 mod row_lines;
 mod row_list;
 mod row_parts;
+mod run;
+mod run_places;
 mod spot;
 mod stretch;
 

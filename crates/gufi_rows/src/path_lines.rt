@@ -11,7 +11,7 @@ ghost use Rattle.gufi_rows.specs.PathLists.{picked};
 ghost use Rattle.gufi_rows.specs.PathPlaces.{places_between, places_of};
 ghost use Rattle.gufi_rows.specs.PathLines.{path_line, path_lines, ArePathsOf};
 
-use crate::path_list::PathList;
+use crate::kept_paths::KeptPaths;
 use crate::path_order::order;
 use crate::spot::Parts;
 use crate::stretch::Stretch;
@@ -28,11 +28,11 @@ fn put_line(text: &mut Vec<u8>, parts: Parts<'_>) -> Result<(), AllocError>
 }
 
 /// Adds the lines of a stretch.
-fn put_stretch(text: &mut Vec<u8>, list: &PathList, stretch: Stretch) -> Result<(), AllocError>
+fn put_stretch(text: &mut Vec<u8>, list: &KeptPaths, stretch: Stretch) -> Result<(), AllocError>
     ensures { OnOk result (text.new.items ≡ text.old.items ++ flat_map path_line (picked list.now [] (places_between stretch.from stretch.end))) }
 {
     for place in stretch.from..stretch.end {
-        put_line(text, list.parts(place))?;
+        put_line(text, list.parts_at(place))?;
     }
     Ok(())
 }
@@ -40,7 +40,7 @@ fn put_stretch(text: &mut Vec<u8>, list: &PathList, stretch: Stretch) -> Result<
 /// Adds the lines of stretches.
 fn put_stretches(
     text: &mut Vec<u8>,
-    list: &PathList,
+    list: &KeptPaths,
     stretches: &[Stretch],
 ) -> Result<(), AllocError>
     ensures { OnOk result (text.new.items ≡ text.old.items ++ flat_map path_line (picked list.now [] (places_of stretches.now))) }
@@ -51,28 +51,17 @@ fn put_stretches(
     Ok(())
 }
 
-impl PathList {
+impl KeptPaths {
     /// Appends the printed paths in path order, each with a newline behind it. Memory for all of them is taken once.
     ///
     /// Takes time in proportion to the bytes where the rows come as a walk gives them. Where memory runs out, the text may
     /// hold a part of the lines.
-    pub fn put_lines(self, alloc: Global, text: &mut Vec<u8>) -> Result<(), Memory>
+    pub(crate) fn put_lines(self, alloc: Global, text: &mut Vec<u8>) -> Result<(), Memory>
         ensures { OnOk result ((rows : List Row) → ArePathsOf self rows → IsTrue (ascends row_cmp rows) → text.new.items ≡ text.old.items ++ path_lines rows) }
     {
         let stretches = order(&self, alloc)?;
         text.reserve(self.line_bytes())?;
         put_stretches(text, &self, stretches.as_slice())?;
         Ok(())
-    }
-
-    /// The printed paths in path order, each with a newline behind it. One allocation for the text.
-    ///
-    /// Takes time in proportion to the bytes where the rows come as a walk gives them.
-    pub fn lines(self, alloc: Global) -> Result<Vec<u8>, Memory>
-        ensures { IfOk result (λ text. (rows : List Row) → ArePathsOf self rows → IsTrue (ascends row_cmp rows) → text.items ≡ path_lines rows) }
-    {
-        let mut text = Vec::new(alloc);
-        self.put_lines(alloc, &mut text)?;
-        Ok(text)
     }
 }

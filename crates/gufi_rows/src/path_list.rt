@@ -1,79 +1,84 @@
-//! Lists of paths in one text.
+//! Lists of paths, as a walk collects them.
 
-ghost use Rattle.std.specs.Prelude.{◌≡◌, ℕ, ◌++◌, ◌∷◌, [], ◌<◌, ◌≤◌, ◌-◌, true, length, take, map, All, OnOk, OnErr, slice_index_or};
-ghost use Rattle.gufi_base.specs.Paths.{Components, path_cmp};
-ghost use Rattle.gufi_rows.specs.PathLines.{ArePathsOf, ArePathsOf-counted, ArePathsOf-reordered};
-ghost use Rattle.gufi_base.specs.PathParts.{ArePartsOf};
-ghost use Rattle.gufi_rows.specs.PathLists.{AreMarked, IsLast, SpotFitsBehind, picked, spot_behind};
-ghost use Rattle.gufi_rows.specs.PathPlaces.{places_of, Ascend};
+ghost use Rattle.std.specs.Prelude.{◌≡◌, ◌+◌, ◌^◌, ◌<◌, ◌++◌, [], List, length, IsTrue, IfOk, OnOk};
+ghost use Rattle.std.specs.List.Sorted.{IsPermutation};
+ghost use Rattle.gufi_base.specs.declared.record.Row.{Row};
+ghost use Rattle.gufi_base.specs.Basics.{ascends};
+ghost use Rattle.gufi_base.specs.Rows.{row_cmp};
+ghost use Rattle.gufi_rows.specs.PathLines.{path_lines, ArePathsOf, ArePathsOf-counted, ArePathsOf-reordered};
+ghost use Rattle.gufi_rows.specs.Runs.{run_paths};
 
-use crate::path_order::{are_in_order, arranged, merged};
-use crate::spot::{Parts, Spot, bytes_at, keep, put_text, spot_behind};
-use crate::stretch::Stretch;
+use crate::kept_paths::KeptPaths;
+use crate::lines::Lines;
+use crate::path_order::{are_in_order, merged, order};
+use crate::run::Run;
+use crate::run_places::RunPlaces;
+use crate::spot::Parts;
 use gufi_base::{Memory, RowRef, Yield};
 use std::alloc::Global;
-use std::cmp::Ordering;
 use std::marker::Model;
+use std::mem;
 
-/// The paths of rows, in the order in which they were taken. Two arrays: a row has no memory of its own, and
-/// the rows of one directory have one stem.
+/// The paths of rows. What a walker has settled stands as lines in runs, which ascend; the rest in the order in which it was
+/// taken.
 #[derive(Drop)]
 pub struct PathList {
-    text: Vec<u8>,
-    spots: Vec<Spot>,
+    runs: Vec<Run>,
+    rest: KeptPaths,
+    count: usize,
 }
 
 impl Model for PathList {
-    ghost use Rattle.std.specs.Prelude.{ℕ, List};
-    ghost use Rattle.gufi_rows.specs.PathLists.{AreSpots, paths_in};
+    ghost use Rattle.std.specs.Prelude.{◌≡◌, ℕ, ◌++◌, List, length};
+    ghost use Rattle.gufi_rows.specs.Runs.{run_paths};
 
     ghost Value = { List (List (List ℕ)) };
 
-    ghost view = { λ l. paths_in l.text.items l.spots.items };
+    ghost view = { λ l. run_paths l.runs.items ++ l.rest };
 
-    ghost invariant = { λ l. AreSpots l.text.items l.spots.items };
+    ghost invariant = { λ l. l.count ≡ length (run_paths l.runs.items ++ l.rest) };
 }
 
-/// The last of the spots.
-fn last_of(spots: &[Spot]) -> Option<Spot>
-    ensures { IsLast spots.now result }
+/// Appends the lines of all runs, in path order.
+fn put_runs(alloc: Global, text: &mut Vec<u8>, runs: &[Run]) -> Result<(), Memory>
+    ensures { OnOk result ((rows : List Row) → ArePathsOf (run_paths runs.now) rows → IsTrue (ascends row_cmp rows) → text.new.items ≡ text.old.items ++ path_lines rows) }
 {
-    if spots.is_empty() {
-        return None;
-    }
-    Some(spots[spots.len() - 1])
+    let places = RunPlaces::of(alloc, runs)?;
+    let stretches = order(&places, alloc)?;
+    text.reserve(places.bytes())?;
+    places.put_stretches(text, stretches.as_slice())?;
+    Ok(())
 }
 
-/// Puts the spots of another text behind others.
-fn put_spots(spots: &mut Vec<Spot>, more: &[Spot], by: u32) -> Result<(), Memory>
-    requires { All (SpotFitsBehind by) more.now }
-    ensures put { OnOk result (spots.new.items ≡ spots.old.items ++ map (spot_behind by) more.now) }
-    ensures begun { OnErr result (take (length spots.old.items) spots.new.items ≡ spots.old.items) }
+/// Adds paths that stand as lines.
+fn push_lines(rest: &mut KeptPaths, lines: &Lines) -> Result<(), Memory>
+    ensures { OnOk result (rest.new ≡ rest.old ++ lines.now) }
 {
-    spots.reserve(more.len())?;
-    for spot in more {
-        spots.push(spot_behind(*spot, by))?;
+    for place in 0..lines.len() {
+        rest.push(lines.parts_at(place))?;
     }
     Ok(())
 }
 
-/// Marks each spot but the first as one that follows.
-fn mark(spots: &mut Vec<Spot>)
-    ensures { AreMarked spots.old.items spots.new.items }
+/// Adds the paths of all runs.
+fn push_runs(rest: &mut KeptPaths, runs: &[Run]) -> Result<(), Memory>
+    ensures { OnOk result (rest.new ≡ rest.old ++ run_paths runs.now) }
 {
-    for k in 0..spots.len() {
-        spots[k].follows = k > 0;
+    for run in runs {
+        push_lines(rest, &run.lines)?;
     }
+    Ok(())
 }
 
 impl PathList {
     /// No path.
-    pub(crate) fn new(alloc: Global) -> PathList
+    fn new(alloc: Global) -> PathList
         ensures { result ≡ [] }
     {
         PathList {
-            text: Vec::new(alloc),
-            spots: Vec::new(alloc),
+            runs: Vec::new(alloc),
+            rest: KeptPaths::new(alloc),
+            count: 0,
         }
     }
 
@@ -81,89 +86,56 @@ impl PathList {
     pub fn len(&self) -> usize
         ensures { result ≡ length self.now }
     {
-        self.spots.len()
+        self.count
     }
 
-    /// Adds the path of these parts.
-    pub(crate) fn push(&mut self, parts: Parts<'_>) -> Result<(), Memory>
-        requires { (path : Components) × ArePartsOf parts.stem.now parts.base.now path }
-        ensures pushed { OnOk result ((path : Components) → ArePartsOf parts.entry.stem.now parts.entry.base.now path → self.new ≡ self.old ++ path ∷ []) }
-        ensures unchanged { OnErr result (self.new ≡ self.old) }
+    /// These paths and those of another list. The runs of both are moved.
+    fn joined(self, other: PathList) -> Result<PathList, Memory>
+        requires { length self + length other < 2 ^ 40 }
+        ensures { IfOk result (λ all. IsPermutation (self ++ other) all) }
     {
-        let last = last_of(self.spots.as_slice());
-        let spot = keep(&mut self.text, last, parts.stem, parts.base)?;
-        self.spots.push(spot)?;
-        Ok(())
+        let PathList {
+            mut runs,
+            mut rest,
+            count,
+        } = self;
+        let PathList {
+            runs: mut more,
+            rest: others,
+            count: added,
+        } = other;
+        runs.append(&mut more)?;
+        rest.append(others)?;
+        let count = count + added;
+        Ok(PathList { runs, rest, count })
     }
 
-    /// Adds the paths of another list: its text stands behind this one's, and its spots are moved with it.
-    pub(crate) fn append(&mut self, other: PathList) -> Result<(), Memory>
-        ensures appended { OnOk result (self.new ≡ self.old ++ other) }
-        ensures unchanged { OnErr result (self.new ≡ self.old) }
+    /// Appends the printed paths in path order, each with a newline behind it. Memory for all of them is taken once.
+    ///
+    /// Takes time in proportion to the bytes where the rows come as a walk gives them. Of what walkers have settled it looks
+    /// at few paths, and copies the lines of many at once. Where memory runs out, the text may hold a part of the lines.
+    pub fn put_lines(self, alloc: Global, text: &mut Vec<u8>) -> Result<(), Memory>
+        ensures { OnOk result ((rows : List Row) → ArePathsOf self rows → IsTrue (ascends row_cmp rows) → text.new.items ≡ text.old.items ++ path_lines rows) }
     {
-        if self.len() == 0 {
-            *self = other;
+        let PathList { runs, mut rest, .. } = self;
+        if rest.len() == 0 {
+            put_runs(alloc, text, runs.as_slice())?;
             return Ok(());
         }
-        let count = self.spots.len();
-        let by = put_text(&mut self.text, other.text.as_slice())?;
-        match put_spots(&mut self.spots, other.spots.as_slice(), by) {
-            Ok(()) => Ok(()),
-            Err(Memory) => {
-                self.spots.truncate(count);
-                Err(Memory)
-            }
-        }
-    }
-
-    /// The parts of the path at a place; past the end they are those of the root.
-    pub(crate) fn parts(&self, place: usize) -> Parts<'_>
-        ensures { ArePartsOf result.stem.now result.base.now (slice_index_or self.now place []) }
-    {
-        if place >= self.spots.len() {
-            return Parts {
-                stem: &[],
-                base: b"/".as_slice(),
-            };
-        }
-        let spot = self.spots[place];
-        Parts {
-            stem: bytes_at(self.text.as_slice(), spot.stem),
-            base: bytes_at(self.text.as_slice(), spot.base),
-        }
-    }
-
-    /// Whether a path is known to stand behind the one before it.
-    pub(crate) fn follows(&self, place: usize) -> bool
-        ensures { result ≡ true → (0 < place) × (path_cmp (slice_index_or self.now (place - 1) []) (slice_index_or self.now place []) ≡ Ordering.Less) }
-    {
-        if place >= self.spots.len() {
-            return false;
-        }
-        let spot = self.spots[place];
-        spot.follows
-    }
-
-    /// Puts the paths at the places of stretches, where they ascend. The text stays.
-    pub(crate) fn arrange(&mut self, alloc: Global, stretches: &[Stretch]) -> Result<(), Memory>
-        requires within { All (λ stretch. stretch.end ≤ length self.old) stretches.now }
-        requires ascend { Ascend (picked self.old [] (places_of stretches.now)) }
-        ensures arranged { OnOk result (self.new ≡ picked self.old [] (places_of stretches.entry.now)) }
-        ensures unchanged { OnErr result (self.new ≡ self.old) }
-    {
-        let mut spots = arranged(alloc, self.spots.as_slice(), stretches)?;
-        mark(&mut spots);
-        self.spots = spots;
+        push_runs(&mut rest, runs.as_slice())?;
+        rest.put_lines(alloc, text)?;
         Ok(())
     }
 
-    /// How many bytes the paths have as lines, where that is a number of 64 bits.
-    pub(crate) fn line_bytes(&self) -> usize {
-        let mut total: usize = 0;
-        for spot in &self.spots {
-            total = total.saturating_add(line_length(*spot));
-        }
-        total
+    /// The printed paths in path order, each with a newline behind it. One allocation for the text.
+    ///
+    /// Takes time in proportion to the bytes where the rows come as a walk gives them.
+    pub fn lines(self, alloc: Global) -> Result<Vec<u8>, Memory>
+        ensures { IfOk result (λ text. (rows : List Row) → ArePathsOf self rows → IsTrue (ascends row_cmp rows) → text.items ≡ path_lines rows) }
+    {
+        let mut text = Vec::new(alloc);
+        self.put_lines(alloc, &mut text)?;
+        Ok(text)
     }
 }
 
@@ -185,26 +157,26 @@ impl Yield for PathList {
             stem: row.stem,
             base: row.base,
         };
-        self.push(parts)
+        self.rest.push(parts)?;
+        self.count += 1;
+        Ok(())
     }
 
-    fn merge(&mut self, _alloc: Global, other: PathList) -> Result<(), Memory> {
-        self.append(other)
+    fn merge(&mut self, alloc: Global, other: PathList) -> Result<(), Memory> {
+        let kept = mem::replace(self, PathList::new(alloc));
+        *self = kept.joined(other)?;
+        Ok(())
     }
 
     fn settle(&mut self, alloc: Global) -> Result<(), Memory> {
-        let merged = merged(self, alloc)?;
+        let merged = merged(&self.rest, alloc)?;
         let stretches = merged.as_slice();
-        if stretches.len() < 2 || !are_in_order(self, stretches) {
+        if !are_in_order(&self.rest, stretches) {
             return Ok(());
         }
-        self.arrange(alloc, stretches)?;
+        let run = Run::of(alloc, &self.rest, stretches)?;
+        self.runs.push(run)?;
+        self.rest = KeptPaths::new(alloc);
         Ok(())
     }
-}
-
-fn line_length(spot: Spot) -> usize {
-    let stem = spot.stem.end.saturating_sub(spot.stem.from);
-    let base = spot.base.end.saturating_sub(spot.base.from);
-    stem as usize + base as usize + 1
 }

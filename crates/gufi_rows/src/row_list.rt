@@ -12,7 +12,7 @@ ghost use Rattle.gufi_rows.specs.PathPlaces.{places_between, places_of};
 ghost use Rattle.gufi_rows.specs.RowLists.{kept_behind, no_row};
 
 use crate::kept::Kept;
-use crate::path_list::PathList;
+use crate::kept_paths::KeptPaths;
 use crate::path_order::{are_in_order, arranged, merged, order};
 use crate::spot::{Parts, bytes_at, put, put_text, span_behind};
 use crate::stretch::Stretch;
@@ -23,7 +23,7 @@ use std::marker::Model;
 /// Rows, in the order in which they were taken. No row has memory of its own, and the rows of one directory have one stem.
 #[derive(Drop)]
 pub struct RowList {
-    paths: PathList,
+    paths: KeptPaths,
     records: Vec<Kept>,
     links: Vec<u8>,
 }
@@ -75,7 +75,7 @@ impl RowList {
         ensures { result ≡ [] }
     {
         RowList {
-            paths: PathList::new(alloc),
+            paths: KeptPaths::new(alloc),
             records: Vec::new(alloc),
             links: Vec::new(alloc),
         }
@@ -114,7 +114,7 @@ impl RowList {
         requires { place < length self.now }
         ensures { Stands result (slice_index_or self.now place no_row) }
     {
-        let parts = self.paths.parts(place);
+        let parts = self.paths.parts_at(place);
         let kept = &self.records[place];
         RowRef {
             stem: parts.stem,

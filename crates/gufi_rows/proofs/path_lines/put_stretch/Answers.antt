@@ -16,7 +16,7 @@ loop-place-preserved c =
     let list = c.args.list.now in
     let path = get_or list c.loop-place.place [] in
     place_more (texts_at path_line list []) (texts-join path_line list []) c.args.stretch.from c.loop-place.place c.args.text.now.items c.loop-place.text.items c.put_line.new.text.items (omega arith) c.loop-place.invariant
-    (c.in_ok-put_line.ensures path c.parts.ensures ∙ ap (λ l. c.loop-place.text.items ++ l) (sym (append-nil (path_line path))))
+    (c.in_ok-put_line.ensures path c.parts_at.ensures ∙ ap (λ l. c.loop-place.text.items ++ l) (sym (append-nil (path_line path))))
 
 pub returns : goal.returns
 returns c =

@@ -1,5 +1,8 @@
-use Rattle.gufi_rows.proofs.PathLists.{OnOk-paths_append}
+use Rattle.std.proofs.Common.{◌++◌, subst}
+use Rattle.std.specs.List.Sorted.{IsPermutation}
+use Rattle.gufi_rows.proofs.PathLists.{paths_joined}
 use Rattle.gufi_rows.proofs.path_list.PathListYield.merge.Goals as goal
 
 pub returns : goal.returns
-returns c = OnOk-paths_append c.append.result c.args.self.now c.append.new.self c.args.other c.append.ensures.appended
+returns c = λ rows more are also.
+    paths_joined c.args.self.now c.args.other c.in_ok-self.field-0 (subst (λ l. IsPermutation (l ++ c.args.other) c.in_ok-self.field-0) c.replace-kept.ensures.value c.in_ok-self.ensures) rows more are also

@@ -27,4 +27,4 @@ returns c =
     omega (arith, c.requires, length-rows_in s.links.items s.paths s.records.items c.self.invariant.alike, ap length c.self.view_is) in
     let at = row_in s.links.items s.paths s.records.items place kept c.self.invariant.alike within c.index-kept.ensures in
     subst (Stands _) (sym (ap (λ rows. get_or rows place no_row) (sym c.self.view_is) ∙ at))
-    (Stands-row _ (get_or s.paths place []) (rec_in s.links.items kept) c.parts-parts.ensures refl (c.bytes_at.ensures ∙ ap (λ t. bytes_in t kept.link) c.as_slice.ensures.value))
+    (Stands-row _ (get_or s.paths place []) (rec_in s.links.items kept) c.parts_at-parts.ensures refl (c.bytes_at.ensures ∙ ap (λ t. bytes_in t kept.link) c.as_slice.ensures.value))

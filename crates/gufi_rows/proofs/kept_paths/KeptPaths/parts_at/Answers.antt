@@ -2,7 +2,7 @@ use Rattle.std.proofs.Common.{◌<◌, ◌∙◌, [], get_or, length, sym, ap, a
 use Rattle.gufi_rows.specs.PathLists.{bytes_in}
 use Rattle.gufi_rows.proofs.PathLists.{parts_at}
 use Rattle.gufi_rows.proofs.Spots.{parts_same}
-use Rattle.gufi_rows.proofs.path_list.PathList.parts.Goals as goal
+use Rattle.gufi_rows.proofs.kept_paths.KeptPaths.parts_at.Goals as goal
 
 pub returns : goal.returns
 returns c =

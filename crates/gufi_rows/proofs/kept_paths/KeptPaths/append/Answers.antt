@@ -3,7 +3,7 @@ use Rattle.std.specs.Prelude.{All, map}
 use Rattle.gufi_rows.specs.PathLists.{AreSpots, SpotFitsBehind, paths_in, spot_behind}
 use Rattle.gufi_rows.proofs.Behind.{AreSpots-append, paths_in-append, spots_fit}
 use Rattle.gufi_rows.proofs.PathLists.{AreSpots-grows, paths_in-grows, OnErr-always}
-use Rattle.gufi_rows.proofs.path_list.PathList.append.Goals as goal
+use Rattle.gufi_rows.proofs.kept_paths.KeptPaths.append.Goals as goal
 
 pub invariant_of-self-in_err-by : goal.invariant_of-self-in_err-by
 invariant_of-self-in_err-by c = AreSpots-grows _ _ _ c.put_text.ensures.grown c.self.invariant

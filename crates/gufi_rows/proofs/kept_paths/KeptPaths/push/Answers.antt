@@ -2,7 +2,7 @@ use Rattle.std.proofs.Common.{◌∙◌, [], ◌∷◌, ◌++◌, ap, subst}
 use Rattle.std.proofs.lemmas.List.{map-append}
 use Rattle.gufi_rows.specs.PathLists.{IsLast, path_in, paths_in}
 use Rattle.gufi_rows.proofs.PathLists.{AreSpots-grows, AreSpots-push, paths_in-grows, OnErr-always}
-use Rattle.gufi_rows.proofs.path_list.PathList.push.Goals as goal
+use Rattle.gufi_rows.proofs.kept_paths.KeptPaths.push.Goals as goal
 
 pub invariant_of-self : goal.invariant_of-self
 invariant_of-self c = AreSpots-grows _ _ _ c.keep.ensures.grown c.self.invariant

@@ -1,7 +1,7 @@
 use Rattle.std.proofs.Common.{◌≡◌, ℕ, ◌<◌, ◌≤◌, length, get_or, nat_lt}
 use Rattle.gufi_rows.specs.declared.spot.Spot.{Spot}
 use Rattle.gufi_rows.specs.PathLists.{follower}
-use Rattle.gufi_rows.proofs.path_list.mark.Given as goal
+use Rattle.gufi_rows.proofs.kept_paths.mark.Given as goal
 
 abbrev pub invariant-loop-k : goal.invariant-loop-k
 invariant-loop-k l = record {

@@ -4,7 +4,7 @@ use Rattle.gufi_rows.specs.declared.stretch.Stretch.{Stretch}
 use Rattle.gufi_rows.specs.PathLists.{picked}
 use Rattle.gufi_rows.specs.PathPlaces.{Ascend, places_of}
 use Rattle.gufi_rows.proofs.Arranged.{AreSpots-arranged, no_spot, paths_in-arranged}
-use Rattle.gufi_rows.proofs.path_list.PathList.arrange.Goals as goal
+use Rattle.gufi_rows.proofs.kept_paths.KeptPaths.arrange.Goals as goal
 
 pub invariant_of-self : goal.invariant_of-self
 invariant_of-self c =
