@@ -1,9 +1,10 @@
 -- Directories read one after the other, from bytes that come in pieces.
-use Rattle.std.proofs.Common.{◌≡◌, ℕ, suc, ◌+◌, ◌-◌, ◌<◌, ◌≤◌, List, [], ◌∷◌, ◌++◌, length, map, length-append, Result, Ok, Err, refl, sym, ap, ◌∙◌, arith}
+use Rattle.std.proofs.Common.{◌≡◌, ℕ, suc, ◌+◌, ◌-◌, ◌<◌, ◌≤◌, List, [], ◌∷◌, ◌++◌, length, map, length-append, Result, Ok, Err, refl, sym, ap, subst, ◌∙◌, arith}
 use Rattle.std.specs.Prelude.{Option, Some, None}
 use Rattle.std.proofs.lemmas.List.{map-append}
 use Rattle.gufi_base.specs.Basics.{◌>>=◌}
 use Rattle.gufi_tree.specs.declared.tree.Entry.{Entry}
+use Rattle.gufi_tree.specs.Packs.{Placed, entries_of}
 use Rattle.gufi_tree.specs.Tree.{Directory, entry_count}
 use Rattle.gufi_image.specs.declared.fault.Flaw.{Flaw}
 use Rattle.gufi_image.specs.declared.fault.Refused.{Refused}
@@ -18,7 +19,7 @@ use Rattle.gufi_image.specs.Entries.{entries_at, one_entry}
 use Rattle.gufi_image.specs.Directories.{Heading, Flagged, Front, with_entries, with_one, one_directory, directory_at, heading_at}
 use Rattle.gufi_image.specs.Repeated.{repeated}
 use Rattle.gufi_image.specs.Views.{directory_in, heading, headed, nearer, front_near}
-use Rattle.gufi_image.specs.Placed.{IsNext, IsOpen}
+use Rattle.gufi_image.specs.Placed.{AreEntries, IsNext, IsOpen, IsPart}
 use Rattle.gufi_image.specs.Pieces.{Stops, OnFlaw, UnlessMemory, entries_from, rest_from, rest_with, rest_behind, rest_of, IsRead, IsNextOpen}
 use Rattle.gufi_image.proofs.Longer.{heading_goes}
 use Rattle.gufi_image.proofs.Parents.{parents_push}
@@ -44,18 +45,18 @@ heading_refused total dirs bytes (refusals.Flaw f) h = λ more only. (heading_go
 
 module _ (k : ℕ) (head : Head) (before : Kept) where
   -- behind a heading its entries come
-  pub rest_opened : (part : Open) (bytes after : List ℕ) → length before.stored < head.dirs → heading_at head.entries before.stored bytes ≡ Ok (headed k part, after) → part.entries.items ≡ []
+  pub rest_opened : (part : Open) (bytes after : List ℕ) → length before.packing.dirs < head.dirs → heading_at head.entries before.packing.dirs bytes ≡ Ok (headed k part, after) → before.packing.pending ≡ []
       → rest_behind k head before None bytes ≡ rest_behind k head before (Some part) after
   unfolding directory_at entries_at
   rest_opened part bytes after lt h none =
-      let n = head.dirs - (length before.stored + 1) in
-      let left : head.dirs - length before.stored ≡ suc n = omega arith in
+      let n = head.dirs - (length before.packing.dirs + 1) in
+      let left : head.dirs - length before.packing.dirs ≡ suc n = omega arith in
       let none_yet : part.count - 0 ≡ part.count = omega arith in
-      let own : entries_from part.path part.count part.entries.items after ≡ entries_at part.count part.path after =
-      ap (λ (es : List Entry). entries_from part.path part.count es after) none ∙ ap (λ m. repeated (one_entry part.path) m [] after) none_yet
+      let own : entries_from part.path part.count (entries_of before.packing.pending) after ≡ entries_at part.count part.path after =
+      ap (λ (ps : List Placed). entries_from part.path part.count (entries_of ps) after) none ∙ ap (λ m. repeated (one_entry part.path) m [] after) none_yet
       in
       let all : rest_with head.entries head.dirs k (front_near k before) part (entries_at part.count part.path after) ≡ rest_behind k head before (Some part) after = ap (rest_with head.entries head.dirs k (front_near k before) part) (sym own) in
-      rw (left, h) (by n (entries_at part.count part.path after) (λ es. omega (arith, length-append before.stored ((with_entries (headed k part) es).dir ∷ []))) ∙ all)
+      rw (left, h) (by n (entries_at part.count part.path after) (λ es. omega (arith, length-append before.packing.dirs ((with_entries (headed k part) es).dir ∷ []))) ∙ all)
     where
       closing : List Entry × List ℕ → Result (Flagged × List ℕ) Flaw
       closing es = Ok (with_entries (headed k part) es.0, es.1)
@@ -66,61 +67,105 @@ module _ (k : ℕ) (head : Head) (before : Kept) where
       going : ℕ → Front × List ℕ → Result (Front × List ℕ) Flaw
       going n more = repeated (one_directory head.entries) n more.0 more.1
 
-      by : (n : ℕ) (r : Result (List Entry × List ℕ) Flaw) → ((es : List Entry) → n ≡ head.dirs - length (before.stored ++ (with_entries (headed k part) es).dir ∷ []))
+      by : (n : ℕ) (r : Result (List Entry × List ℕ) Flaw) → ((es : List Entry) → n ≡ head.dirs - length (before.packing.dirs ++ (with_entries (headed k part) es).dir ∷ []))
           → (((r >>= closing) >>= pushing) >>= going n) ≡ rest_with head.entries head.dirs k (front_near k before) part r
       by n (Ok es) count = ap (λ m. repeated (one_directory head.entries) m (with_one (front_near k before) (with_entries (headed k part) es.0)) es.1) (count es.0)
       by n (Err f) count = refl
 
-  pub unopened_stops : (f : Flaw) (bytes more : List ℕ) → length before.stored < head.dirs → Stops f more (heading_at head.entries before.stored bytes) → Stops f more (rest_behind k head before None bytes)
+  pub unopened_stops : (f : Flaw) (bytes more : List ℕ) → length before.packing.dirs < head.dirs → Stops f more (heading_at head.entries before.packing.dirs bytes) → Stops f more (rest_behind k head before None bytes)
   unfolding directory_at
   unopened_stops f bytes more lt h only =
-      let left : head.dirs - length before.stored ≡ suc (head.dirs - (length before.stored + 1)) = omega arith in
+      let left : head.dirs - length before.packing.dirs ≡ suc (head.dirs - (length before.packing.dirs + 1)) = omega arith in
       let fault = h only in
       rw (left, fault) refl
 
   -- behind its last entry the next directory comes
-  pub rest_closed : (part : Open) (pushed : Kept) (bytes : List ℕ) → part.count ≤ length part.entries.items → pushed.stored ≡ before.stored ++ directory_in part ∷ [] → pushed.flags.items ≡ before.flags.items ++ part.flag ∷ []
+  pub rest_closed : (part : Open) (pushed : Kept) (bytes : List ℕ) → part.count ≤ length (entries_of before.packing.pending) → pushed.packing.dirs ≡ before.packing.dirs ++ directory_in part (entries_of before.packing.pending) ∷ [] → pushed.flags.items ≡ before.flags.items ++ part.flag ∷ []
       → rest_behind k head before (Some part) bytes ≡ rest_behind k head pushed None bytes
   rest_closed part pushed bytes whole push flag =
-      let none : part.count - length part.entries.items ≡ 0 = omega arith in
-      let own : entries_from part.path part.count part.entries.items bytes ≡ Ok (part.entries.items, bytes) = rw none refl in
+      let none : part.count - length (entries_of before.packing.pending) ≡ 0 = omega arith in
+      let own : entries_from part.path part.count (entries_of before.packing.pending) bytes ≡ Ok (entries_of before.packing.pending, bytes) = rw none refl in
       let flags : map (nearer k) pushed.flags.items ≡ map (nearer k) before.flags.items ++ nearer k part.flag ∷ [] = ap (map (nearer k)) flag ∙ map-append (nearer k) before.flags.items (part.flag ∷ []) in
-      let more : front_near k pushed ≡ with_one (front_near k before) (with_entries (headed k part) part.entries.items) =
-      ap (λ (ds : List Directory). front_of ds (map (nearer k) pushed.flags.items)) push ∙ ap (front_of (before.stored ++ directory_in part ∷ [])) flags in
+      let more : front_near k pushed ≡ with_one (front_near k before) (with_entries (headed k part) (entries_of before.packing.pending)) =
+      ap (λ (ds : List Directory). front_of ds (map (nearer k) pushed.flags.items)) push ∙ ap (front_of (before.packing.dirs ++ directory_in part (entries_of before.packing.pending) ∷ [])) flags in
       ap (rest_with head.entries head.dirs k (front_near k before) part) own ∙ ap (λ (f : Front). rest_from head.entries head.dirs f bytes) (sym more)
     where
       front_of : List Directory → List Flag → Front
       front_of dirs flags = record { dirs = dirs; flags = flags }
 
+-- more of the entries of a directory were read
+pub rest_filled : (k : ℕ) (head : Head) (old new : Kept) (part : Open) (bytes after : List ℕ) → new.packing.dirs ≡ old.packing.dirs → new.flags.items ≡ old.flags.items
+    → entries_from part.path part.count (entries_of old.packing.pending) bytes ≡ entries_from part.path part.count (entries_of new.packing.pending) after
+    → rest_behind k head old (Some part) bytes ≡ rest_behind k head new (Some part) after
+rest_filled k head old new part bytes after dirs flags same =
+    let front : front_near k new ≡ front_near k old = λ i. record { dirs = dirs i; flags = map (nearer k) (flags i) } in
+    ap (rest_with head.entries head.dirs k (front_near k old) part) same
+    ∙ ap (λ (f : Front). rest_with head.entries head.dirs k f part (entries_from part.path part.count (entries_of new.packing.pending) after)) (sym front)
+
 -- all are read
-pub rest_none : (k : ℕ) (p : Progress) (bytes : List ℕ) → IsRead p → p.head.dirs ≤ length p.directories.stored → rest_of k p bytes ≡ Ok (front_near k p.directories, bytes)
+pub rest_none : (k : ℕ) (p : Progress) (bytes : List ℕ) → IsRead p → p.head.dirs ≤ length p.directories.packing.dirs → rest_of k p bytes ≡ Ok (front_near k p.directories, bytes)
 rest_none k p bytes h whole = by p.part h.part where
-  by : (part : Option Open) → IsNextOpen p.head.dirs p.head.entries p.directories.stored part → rest_behind k p.head p.directories part bytes ≡ Ok (front_near k p.directories, bytes)
-  by None is = let none : p.head.dirs - length p.directories.stored ≡ 0 = omega arith in rw none refl
+  by : (part : Option Open) → IsNextOpen p.head.dirs p.head.entries p.directories.packing part → rest_behind k p.head p.directories part bytes ≡ Ok (front_near k p.directories, bytes)
+  by None is = let none : p.head.dirs - length p.directories.packing.dirs ≡ 0 = omega arith in rw none refl
   by (Some part) is = absurd (omega (arith, is.0))
 
 -- ---- what was read
 
-pub next_of : (total : ℕ) (dirs : List Directory) (part : Open) → IsOpen total dirs part → IsNext total dirs (directory_in part)
-next_of total dirs part h = record { few = omega (arith, h.few, h.within); kind = h.kind; entries = h.entries; placed = h.placed }
+pub next_of : (total : ℕ) (dirs : List Directory) (part : Open) (entries : List Entry) → IsPart total dirs part entries → IsNext total dirs (directory_in part entries)
+next_of total dirs part entries h = record { few = omega (arith, h.heading.few, h.within); kind = h.heading.kind; entries = h.entries_are; placed = h.heading.placed }
 
-pub closed_read : (p closed : Progress) (part : Open) → IsRead p → IsOpen p.head.entries p.directories.stored part → length p.directories.stored < p.head.dirs
+pub closed_read : (p closed : Progress) (part : Open) (entries : List Entry) → IsRead p → IsPart p.head.entries p.directories.packing.dirs part entries → length p.directories.packing.dirs < p.head.dirs
     → closed.head ≡ p.head → closed.part ≡ None
-    → closed.directories.stored ≡ p.directories.stored ++ directory_in part ∷ [] → closed.directories.parents.items ≡ p.directories.parents.items ++ part.parent ∷ []
-    → closed.directories.entries ≡ p.directories.entries + length part.entries.items → IsRead closed
-closed_read p closed part h o lt same none push grown more =
-    let dirs = p.directories.stored in
-    let dir = directory_in part in
-    let len : length closed.directories.stored ≡ length dirs + 1 = omega (arith, ap (λ (ds : List Directory). length ds) push, length-append dirs (dir ∷ [])) in
-    let next = next_of p.head.entries dirs part o in
-    let counted : entry_count closed.directories.stored ≡ entry_count (dirs ++ dir ∷ []) = ap (λ (ds : List Directory). entry_count ds) push in
-    let all = directories_push (length dirs) p.head.entries dirs closed.directories.stored dir push h.directories next in
+    → closed.directories.packing.dirs ≡ p.directories.packing.dirs ++ directory_in part entries ∷ [] → closed.directories.packing.pending ≡ [] → closed.directories.parents.items ≡ p.directories.parents.items ++ part.parent ∷ []
+    → closed.directories.entries ≡ p.directories.entries + length entries → IsRead closed
+closed_read p closed part entries h o lt same none push empty grown more =
+    let dirs = p.directories.packing.dirs in
+    let dir = directory_in part entries in
+    let len : length closed.directories.packing.dirs ≡ length dirs + 1 = omega (arith, ap (λ (ds : List Directory). length ds) push, length-append dirs (dir ∷ [])) in
+    let next = next_of p.head.entries dirs part entries o in
+    let counted : entry_count closed.directories.packing.dirs ≡ entry_count (dirs ++ dir ∷ []) = ap (λ (ds : List Directory). entry_count ds) push in
+    let all = directories_push (length dirs) p.head.entries dirs closed.directories.packing.dirs dir push h.directories next in
     record {
       head = rw same h.head;
       directories = rw (same, len) all;
-      parents = parents_push dirs closed.directories.stored p.directories.parents.items closed.directories.parents.items dir part.parent push grown h.parents next.placed o.parent;
+      parents = parents_push dirs closed.directories.packing.dirs p.directories.parents.items closed.directories.parents.items dir part.parent push grown h.parents next.placed o.heading.parent;
       count = omega (arith, more, counted, count_push dirs dir, h.count);
-      part = rw (none, same, len) (omega arith);
+      part = rw (none, same, len) (omega arith, empty);
+    }
+
+-- the one whose entries are being read
+pub part_read : (p : Progress) (part : Open) → IsRead p → p.part ≡ Some part → (length p.directories.packing.dirs < p.head.dirs) × IsPart p.head.entries p.directories.packing.dirs part (entries_of p.directories.packing.pending)
+part_read p part h is = subst (λ (o : Option Open). IsNextOpen p.head.dirs p.head.entries p.directories.packing o) is h.part
+
+-- none is
+pub none_read : (p : Progress) → IsRead p → p.part ≡ None → p.directories.packing.pending ≡ []
+none_read p h is = (subst (λ (o : Option Open). IsNextOpen p.head.dirs p.head.entries p.directories.packing o) is h.part).1
+
+-- the next one
+pub opened_read : (p q : Progress) (part : Open) → IsRead p → p.part ≡ None → length p.directories.packing.dirs < p.head.dirs → IsOpen p.head.entries p.directories.packing.dirs part
+    → q.head ≡ p.head → q.directories ≡ p.directories → q.part ≡ Some part → IsRead q
+opened_read p q part h none lt next head directories is =
+    let empty = none_read p h none in
+    record {
+      head = rw head h.head;
+      directories = rw (head, directories) h.directories;
+      parents = rw directories h.parents;
+      count = rw directories h.count;
+      part = rw (is, head, directories, empty) (lt, record { heading = next; entries_are = record { order = refl; kinds = refl }; within = omega arith });
+    }
+
+-- more of its entries
+pub filled_read : (p q : Progress) (part : Open) → IsRead p → p.part ≡ Some part → q.head ≡ p.head → q.part ≡ Some part
+    → q.directories.packing.dirs ≡ p.directories.packing.dirs → q.directories.parents.items ≡ p.directories.parents.items → q.directories.entries ≡ p.directories.entries
+    → AreEntries (entries_of q.directories.packing.pending) → (length (entries_of p.directories.packing.pending) ≤ part.count → length (entries_of q.directories.packing.pending) ≤ part.count) → IsRead q
+filled_read p q part h was head is dirs parents entries are few =
+    let o = part_read p part h was in
+    record {
+      head = rw head h.head;
+      directories = rw (head, dirs) h.directories;
+      parents = rw (dirs, parents) h.parents;
+      count = entries ∙ h.count ∙ ap (λ (ds : List Directory). entry_count ds) (sym dirs);
+      part = rw (is, head, dirs) (o.0, record { heading = o.1.heading; entries_are = are; within = few o.1.within });
     }
 
 -- ---- one reading behind the other
@@ -136,10 +181,10 @@ refusal_map (refusals.Flaw f) P Q then h = then f h
 
 -- ---- the directory whose entries are being read
 
-pub few_read : (p : Progress) → IsRead p → length p.directories.stored ≤ p.head.dirs
+pub few_read : (p : Progress) → IsRead p → length p.directories.packing.dirs ≤ p.head.dirs
 few_read p h = by p.part h.part where
-  by : (part : Option Open) → IsNextOpen p.head.dirs p.head.entries p.directories.stored part → length p.directories.stored ≤ p.head.dirs
-  by None is = is
+  by : (part : Option Open) → IsNextOpen p.head.dirs p.head.entries p.directories.packing part → length p.directories.packing.dirs ≤ p.head.dirs
+  by None is = is.0
   by (Some part) is = omega (arith, is.0)
 
 pub rest_at : (k : ℕ) (p : Progress) (part : Option Open) (bytes : List ℕ) → p.part ≡ part → rest_of k p bytes ≡ rest_behind k p.head p.directories part bytes

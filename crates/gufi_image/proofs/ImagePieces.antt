@@ -68,7 +68,7 @@ unfinished room refusals.Memory p q bytes rest same halts = tt
 unfinished room (refusals.Flaw f) p q bytes rest same halts =
     ap (judged (counted room p.head)) (rest_at_end room p bytes ∙ same [] (omega arith) ∙ fault_at_end f _ (halts [] (omega arith)))
 
-pub finished : (room : ℕ) (p q : Progress) (bytes rest : List ℕ) → Alike room (rest_by p bytes) (rest_by q rest) → q.head ≡ p.head → IsRead q → q.head.dirs ≤ length q.directories.stored
+pub finished : (room : ℕ) (p q : Progress) (bytes rest : List ℕ) → Alike room (rest_by p bytes) (rest_by q rest) → q.head ≡ p.head → IsRead q → q.head.dirs ≤ length q.directories.packing.dirs
     → judged (counted room p.head) (rest_of room p bytes) ≡ judged (counted room q.head) (Ok (front_near room q.directories, rest))
 finished room p q bytes rest same head h whole =
     ap (judged (counted room p.head)) (rest_at_end room p bytes ∙ same [] (omega arith) ∙ sym (rest_at_end room q rest) ∙ rest_none room q rest h whole)

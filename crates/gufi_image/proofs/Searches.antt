@@ -1,5 +1,5 @@
 -- What stands last, and the directory at a place.
-use Rattle.std.proofs.Common.{◌≡◌, ℕ, zero, suc, ◌-◌, ◌<◌, Bool, true, false, List, [], ◌∷◌, length, get_or, Some, refl, sym, ap, subst, ◌∙◌, arith}
+use Rattle.std.proofs.Common.{◌≡◌, ℕ, zero, suc, ◌-◌, ◌<◌, Bool, true, false, List, [], ◌∷◌, length, get_or, Some, None, refl, sym, ap, subst, ◌∙◌, arith}
 use Rattle.std.specs.Prelude.{slice_get}
 use Rattle.std.specs.declared.cmp.Ordering.TheVariants.{Less}
 use Rattle.std.specs.declared.cmp.Ordering.{Ordering}
@@ -34,6 +34,11 @@ last_entry [] last name e = absurd cc
 last_entry (x ∷ xs) last name e =
     let same : last ≡ last_of x xs = some_same last (last_of x xs) (e ∙ last_there x x xs) in
     ap (λ (v : Entry). is_lt (slice_cmp nat_cmp v.name name)) same
+
+-- the same, where it may be none
+pub last_pending : (before : List Entry) (name : List ℕ) → slice_get before (length before - 1) ≡ None → follows before name ≡ true
+last_pending [] name e = refl
+last_pending (x ∷ xs) name e = let there = last_there x x xs in absurd cc
 
 -- the last directory
 get_last : {X : Type 0} (d x : X) (xs : List X) → get_or (x ∷ xs) (length (x ∷ xs) - 1) d ≡ last_of x xs

@@ -4,7 +4,8 @@ use Rattle.gufi_base.specs.Limits.{max_dirs, max_entries, max_image}
 use Rattle.gufi_base.specs.Basics.{◌>>=◌, result_map_err}
 use Rattle.gufi_base.specs.Paths.{Components}
 use Rattle.gufi_tree.specs.declared.tree.Entry.{Entry}
-use Rattle.gufi_tree.specs.Tree.{Directory, entry_count}
+use Rattle.gufi_tree.specs.Packs.{Packs, entries_of}
+use Rattle.gufi_tree.specs.Tree.{entry_count}
 use Rattle.gufi_snap.specs.Snap.{Snap}
 use Rattle.gufi_image.specs.declared.fault.Flaw.{Flaw}
 use Rattle.gufi_image.specs.declared.fault.ImageError.{ImageError}
@@ -20,7 +21,7 @@ use Rattle.gufi_image.specs.Repeated.{repeated}
 use Rattle.gufi_image.specs.Entries.{one_entry}
 use Rattle.gufi_image.specs.Directories.{Front, with_entries, with_one, one_directory}
 use Rattle.gufi_image.specs.Reading.{Counts, all_from, rolled, snapshot_at, fault_in}
-use Rattle.gufi_image.specs.Placed.{AreDirectories, AreParents, IsOpen}
+use Rattle.gufi_image.specs.Placed.{AreDirectories, AreParents, IsPart}
 use Rattle.gufi_image.specs.Parts.{counted}
 use Rattle.gufi_image.specs.Views.{headed, front_near}
 
@@ -67,7 +68,7 @@ rest_with total count k front part entries = entries >>= λ es. rest_from total 
 
 abbrev pub rest_behind : ℕ → Head → Kept → Option Open → List ℕ → Result (Front × List ℕ) Flaw
 rest_behind k head before None bytes = rest_from head.entries head.dirs (front_near k before) bytes
-rest_behind k head before (Some part) bytes = rest_with head.entries head.dirs k (front_near k before) part (entries_from part.path part.count part.entries.items bytes)
+rest_behind k head before (Some part) bytes = rest_with head.entries head.dirs k (front_near k before) part (entries_from part.path part.count (entries_of before.packing.pending) bytes)
 
 abbrev pub rest_of : ℕ → Progress → List ℕ → Result (Front × List ℕ) Flaw
 rest_of k p bytes = rest_behind k p.head p.directories p.part bytes
@@ -104,16 +105,16 @@ pub record HasFew (head : Head) : Type 0 where
   pub entries : head.entries ≤ max_entries
 
 -- so many directories with the one whose entries are being read
-abbrev pub IsNextOpen : ℕ → ℕ → List Directory → Option Open → Type 0
-IsNextOpen count total dirs None = length dirs ≤ count
-IsNextOpen count total dirs (Some part) = (length dirs < count) × IsOpen total dirs part
+abbrev pub IsNextOpen : ℕ → ℕ → Packs → Option Open → Type 0
+IsNextOpen count total packs None = (length packs.dirs ≤ count) × (packs.pending ≡ [])
+IsNextOpen count total packs (Some part) = (length packs.dirs < count) × IsPart total packs.dirs part (entries_of packs.pending)
 
 pub record IsRead (p : Progress) : Type 0 where
   pub head : HasFew p.head
-  pub directories : AreDirectories (length p.directories.stored) p.head.entries p.directories.stored
-  pub parents : AreParents p.directories.stored p.directories.parents.items
-  pub count : p.directories.entries ≡ entry_count p.directories.stored
-  pub part : IsNextOpen p.head.dirs p.head.entries p.directories.stored p.part
+  pub directories : AreDirectories (length p.directories.packing.dirs) p.head.entries p.directories.packing.dirs
+  pub parents : AreParents p.directories.packing.dirs p.directories.parents.items
+  pub count : p.directories.entries ≡ entry_count p.directories.packing.dirs
+  pub part : IsNextOpen p.head.dirs p.head.entries p.directories.packing p.part
 
 abbrev pub IsReadBy : Option Progress → Type 0
 IsReadBy None = Unit {0}
@@ -121,6 +122,6 @@ IsReadBy (Some p) = IsRead p
 
 -- no directory is read yet
 pub record IsBegun (p : Progress) : Type 0 where
-  pub dirs : p.directories.stored ≡ []
+  pub dirs : p.directories.packing.dirs ≡ []
   pub flags : p.directories.flags.items ≡ []
   pub part : p.part ≡ None

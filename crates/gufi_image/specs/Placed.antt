@@ -76,11 +76,15 @@ pub record IsWholeTree (dirs : List Directory) : Type 0 where
   pub dirs_fit : length dirs < 2 ^ 32
   pub rows_fit : length (flat_map own_rows dirs) < 2 ^ 32
 
--- a directory that comes next, of which some entries are read
+-- a directory that comes next, before its entries
 pub record IsOpen (total : ℕ) (dirs : List Directory) (part : Open) : Type 0 where
   pub few : entry_count dirs + part.count ≤ total
   pub kind : IsTrue (is_dir part.rec.meta.kind)
   pub placed : IsPlaced dirs part.path
   pub parent : LiesIn dirs part.path part.parent
-  pub entries : AreEntries part.entries.items
-  pub within : length part.entries.items ≤ part.count
+
+-- the same, of which some entries are read
+pub record IsPart (total : ℕ) (dirs : List Directory) (part : Open) (entries : List Entry) : Type 0 where
+  pub heading : IsOpen total dirs part
+  pub entries_are : AreEntries entries
+  pub within : length entries ≤ part.count

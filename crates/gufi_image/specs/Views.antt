@@ -1,16 +1,21 @@
 -- What the values of the code stand for.
-use Rattle.std.specs.Prelude.{ℕ, ◌-◌, map}
+use Rattle.std.specs.Prelude.{ℕ, ◌-◌, List, map}
+use Rattle.gufi_tree.specs.declared.tree.Entry.{Entry}
 use Rattle.gufi_tree.specs.Tree.{Directory}
 use Rattle.gufi_image.specs.declared.directory.Flag.{Flag}
 use Rattle.gufi_image.specs.declared.directory.Open.{Open}
+use Rattle.gufi_image.specs.declared.entry.EntryAt.{EntryAt}
 use Rattle.gufi_image.specs.declared.progress.Directories.{Directories as Kept}
 use Rattle.gufi_image.specs.Directories.{Heading, Front}
 
 abbrev pub heading : Open → Heading
 heading o = record { path = o.path; rec = o.rec; flag = o.flag; count = o.count }
 
-abbrev pub directory_in : Open → Directory
-directory_in o = record { path = o.path; rec = o.rec; entries = o.entries.items }
+abbrev pub directory_in : Open → List Entry → Directory
+directory_in o entries = record { path = o.path; rec = o.rec; entries = entries }
+
+abbrev pub entry_seen : EntryAt → Entry
+entry_seen e = record { name = e.name.now; rec = record { meta = e.rec.meta; link = e.rec.link.now } }
 
 -- A flag that is kept has as many bytes left as in the longest image that may be. It has so many fewer in one that has so many bytes fewer.
 abbrev pub nearer : ℕ → Flag → Flag
@@ -20,4 +25,4 @@ abbrev pub headed : ℕ → Open → Heading
 headed k o = record { path = o.path; rec = o.rec; flag = nearer k o.flag; count = o.count }
 
 abbrev pub front_near : ℕ → Kept → Front
-front_near k d = record { dirs = d.stored; flags = map (nearer k) d.flags.items }
+front_near k d = record { dirs = d.packing.dirs; flags = map (nearer k) d.flags.items }

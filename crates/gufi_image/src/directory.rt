@@ -2,6 +2,7 @@
 
 ghost use Rattle.std.specs.Prelude.{◌≡◌, ◌<◌, ◌^◌, ◌++◌, ◌∷◌, [], slice_get, None, IsTrue, IfOk, MatchOption};
 ghost use Rattle.gufi_base.specs.Basics.{ascends};
+ghost use Rattle.gufi_base.specs.Names.{is_name};
 ghost use Rattle.gufi_tree.specs.Tree.{entry_cmp, entry_count};
 ghost use Rattle.gufi_image.specs.Fields.{Gives};
 ghost use Rattle.gufi_image.specs.Directories.{root_at, below_at, follows, first_at, other_at, path_at, flag_at, heading_at};
@@ -9,12 +10,11 @@ ghost use Rattle.gufi_image.specs.Sorted.{AreSorted, IsParent};
 ghost use Rattle.gufi_image.specs.Placed.{IsBelow, IsChild, IsPlaced, IsAbove, LiesIn, IsOpen};
 ghost use Rattle.gufi_image.specs.Views.{heading};
 
-use crate::entry::room_for;
 use crate::fault::{ImageKind, Refused};
 use crate::fields::{flaw, record_at, u8_at, u32_at};
 use crate::name::{Above, name_at};
-use gufi_base::{Kind, Name, Path, PathRef, Rec, text_cmp};
-use gufi_tree::{DirRef, Dirs, Entry, has_entry};
+use gufi_base::{Kind, Path, PathRef, Rec, text_cmp};
+use gufi_tree::{DirRef, Packing, has_entry};
 use std::alloc::{AllocError, Global};
 
 /// A flag, with how many bytes are left from it on.
@@ -36,7 +36,6 @@ pub(crate) struct Located {
 pub(crate) struct Open {
     pub path: Path,
     pub rec: Rec,
-    pub entries: Vec<Entry>,
     pub parent: u32,
     pub flag: Flag,
     pub count: u32,
@@ -56,10 +55,11 @@ fn root_at(alloc: Global, bytes: &[u8]) -> Result<(Path, &[u8]), Refused>
 }
 
 /// A path followed by a name. One allocation.
-fn child_of(alloc: Global, parent: &PathRef<'_>, name: &Name) -> Result<Path, AllocError>
+fn child_of(alloc: Global, parent: &PathRef<'_>, name: &[u8]) -> Result<Path, AllocError>
+    requires { IsTrue (is_name name.now) }
     ensures { IfOk result (λ path. path ≡ parent.now ++ name.now ∷ []) }
 {
-    Path::of_parts(alloc, parent.text(), name.as_slice())
+    Path::of_parts(alloc, parent.text(), name)
 }
 
 /// A path, by its name below its parent, which has no such entry.
@@ -74,17 +74,17 @@ fn below_at<'a>(
     ensures below { IfOk result (λ x. IsBelow parent.now x.0) }
 {
     let above = Above::of(parent.path());
-    let (name, rest) = name_at(alloc, bytes, &above)?;
-    if has_entry(parent, name.as_slice()) {
+    let (name, rest) = name_at(bytes, &above)?;
+    if has_entry(parent, name) {
         return Err(flaw(bytes, ImageKind::Name));
     }
-    let path = child_of(alloc, &parent.path(), &name)?;
+    let path = child_of(alloc, &parent.path(), name)?;
     Ok((path, rest))
 }
 
 /// Whether a path is above that of the last directory.
-fn follows(before: &Dirs, path: &Path) -> bool
-    ensures { result ≡ follows before.now path.now }
+fn follows(before: &Packing, path: &Path) -> bool
+    ensures { result ≡ follows before.now.dirs path.now }
 {
     let count = before.len();
     if count == 0 {
@@ -94,11 +94,11 @@ fn follows(before: &Dirs, path: &Path) -> bool
 }
 
 /// The directory at a place.
-fn parent_of(before: &Dirs, number: u32) -> Option<DirRef<'_>>
-    requires { AreSorted before.now }
+fn parent_of(before: &Packing, number: u32) -> Option<DirRef<'_>>
+    requires { AreSorted before.now.dirs }
     ensures { MatchOption result
-        (slice_get before.now number ≡ None)
-        (λ parent. IsParent before.now number parent) }
+        (slice_get before.now.dirs number ≡ None)
+        (λ parent. IsParent before.now.dirs number parent) }
 {
     let place = number as usize;
     if place >= before.len() {
@@ -130,13 +130,13 @@ fn other_at<'a>(
     alloc: Global,
     bytes: &'a [u8],
     rest: &'a [u8],
-    before: &Dirs,
+    before: &Packing,
     number: u32,
 ) -> Result<(Path, &'a [u8]), Refused>
-    requires { AreSorted before.now }
-    ensures gives { Gives (λ x. (x.0, x.1.now)) result (other_at before.now number rest.now bytes.now) }
-    ensures child { IfOk result (λ x. IsChild before.now x.0) }
-    ensures above { IfOk result (λ x. IsAbove before.now number x.0) }
+    requires { AreSorted before.now.dirs }
+    ensures gives { Gives (λ x. (x.0, x.1.now)) result (other_at before.now.dirs number rest.now bytes.now) }
+    ensures child { IfOk result (λ x. IsChild before.now.dirs x.0) }
+    ensures above { IfOk result (λ x. IsAbove before.now.dirs number x.0) }
 {
     let Some(parent) = parent_of(before, number) else {
         return Err(flaw(bytes, ImageKind::Parent));
@@ -153,12 +153,12 @@ fn other_at<'a>(
 fn path_at<'a>(
     alloc: Global,
     bytes: &'a [u8],
-    before: &Dirs,
+    before: &Packing,
 ) -> Result<(Located, &'a [u8]), Refused>
-    requires { AreSorted before.now }
-    ensures gives { Gives (λ x. (x.0.path, x.1.now)) result (path_at before.now bytes.now) }
-    ensures placed { IfOk result (λ x. IsPlaced before.now x.0.path) }
-    ensures parent { IfOk result (λ x. LiesIn before.now x.0.path x.0.parent) }
+    requires { AreSorted before.now.dirs }
+    ensures gives { Gives (λ x. (x.0.path, x.1.now)) result (path_at before.now.dirs bytes.now) }
+    ensures placed { IfOk result (λ x. IsPlaced before.now.dirs x.0.path) }
+    ensures parent { IfOk result (λ x. LiesIn before.now.dirs x.0.path x.0.parent) }
 {
     let (number, rest) = u32_at(bytes)?;
     if before.len() == 0 {
@@ -191,30 +191,28 @@ fn flag_at(bytes: &[u8]) -> Result<(Flag, &[u8]), Refused>
 pub(crate) fn heading_at<'a>(
     alloc: Global,
     bytes: &'a [u8],
-    before: &Dirs,
+    before: &Packing,
     so_far: u32,
     total: u32,
 ) -> Result<(Open, &'a [u8]), Refused>
-    requires sorted { AreSorted before.now }
-    requires so_far { so_far ≡ entry_count before.now }
-    ensures gives { Gives (λ x. (heading x.0, x.1.now)) result (heading_at total before.now bytes.now) }
-    ensures part { IfOk result (λ x. IsOpen total before.now x.0) }
-    ensures none { IfOk result (λ x. x.0.entries.items ≡ []) }
+    requires sorted { AreSorted before.now.dirs }
+    requires so_far { so_far ≡ entry_count before.now.dirs }
+    ensures gives { Gives (λ x. (heading x.0, x.1.now)) result (heading_at total before.now.dirs bytes.now) }
+    ensures part { IfOk result (λ x. IsOpen total before.now.dirs x.0) }
     ensures left { IfOk result (λ x. x.0.flag.left < 2 ^ 63) }
 {
     let (located, rest) = path_at(alloc, bytes, before)?;
     let Located { path, parent } = located;
     let (flag, rest) = flag_at(rest)?;
-    let (rec, counts) = record_at(alloc, rest, Kind::Dir)?;
+    let (own, counts) = record_at(rest, Kind::Dir)?;
     let (count, rest) = u32_at(counts)?;
     if count as u64 + so_far as u64 > total as u64 {
         return Err(flaw(counts, ImageKind::Number));
     }
-    let entries = room_for(alloc, count, rest)?;
+    let rec = own.as_rec_ref().copy(alloc)?;
     let part = Open {
         path,
         rec,
-        entries,
         parent,
         flag,
         count,

@@ -1,21 +1,20 @@
 //! The entries of a directory in an image.
 
-ghost use Rattle.std.specs.Prelude.{◌≡◌, ◌≤◌, ◌++◌, ℕ, List, [], true, false, length, IfOk, IfErr, OnOk, IfSome};
+ghost use Rattle.std.specs.Prelude.{◌≡◌, ◌≤◌, ◌++◌, ℕ, List, true, false, length, IsTrue, IfOk, IfErr, OnOk, IfSome};
 ghost use Rattle.gufi_base.specs.Kinds.{is_dir};
 ghost use Rattle.gufi_image.specs.Fields.{Gives};
 ghost use Rattle.gufi_image.specs.Entries.{entry_kind, follows, entry_at};
 ghost use Rattle.gufi_image.specs.Placed.{AreEntries};
+ghost use Rattle.gufi_image.specs.Views.{entry_seen};
+ghost use Rattle.gufi_tree.specs.Packs.{entries_of};
+ghost use Rattle.gufi_base.specs.Names.{is_name};
 ghost use Rattle.gufi_image.specs.Pieces.{OnFlaw, Stops, entries_from};
 
 use crate::fault::{ImageKind, Refused};
-use crate::fields::{flaw, record_at, u8_at};
+use crate::fields::{Borrowed, flaw, record_at, u8_at};
 use crate::name::{Above, name_at};
-use gufi_base::{Kind, Name, name_cmp, read_kind};
-use gufi_tree::Entry;
-use std::alloc::{AllocError, Global};
-
-/// The fewest bytes of an entry.
-const LEAST_ENTRY: usize = 79;
+use gufi_base::{Kind, read_kind};
+use gufi_tree::Packing;
 
 fn entry_kind(letter: u8) -> Option<Kind>
     ensures is { result ≡ entry_kind letter }
@@ -28,66 +27,67 @@ fn entry_kind(letter: u8) -> Option<Kind>
 }
 
 /// Whether a name is above that of the last entry.
-fn follows(before: &[Entry], name: &Name) -> bool
-    ensures { result ≡ follows before.now name.now }
+fn follows(before: &Packing, name: &[u8]) -> bool
+    ensures { result ≡ follows (entries_of before.now.pending) name.now }
 {
-    match before.last() {
+    match before.last_pending() {
         None => true,
-        Some(last) => name_cmp(&last.name, name).is_lt(),
+        Some(last) => last.name().cmp(name).is_lt(),
     }
 }
 
-/// An entry, behind those before it. Two allocations at most.
+/// An entry whose parts stay where they stand in the image.
+#[derive(Drop)]
+struct EntryAt<'a> {
+    name: &'a [u8],
+    rec: Borrowed<'a>,
+}
+
+/// An entry, behind those before it.
 #[inline(always)]
 #[tactic(auto, unfolding(crate::specs::Entries::entry_at))]
 fn entry_at<'a>(
-    alloc: Global,
     bytes: &'a [u8],
     above: &Above<'_>,
-    before: &[Entry],
-) -> Result<(Entry, &'a [u8]), Refused>
-    ensures gives { Gives (λ x. (x.0, x.1.now)) result (entry_at above.now before.now bytes.now) }
+    before: &Packing,
+) -> Result<(EntryAt<'a>, &'a [u8]), Refused>
+    ensures gives { Gives (λ x. (entry_seen x.0, x.1.now)) result (entry_at above.now (entries_of before.now.pending) bytes.now) }
+    ensures name { IfOk result (λ x. IsTrue (is_name x.0.name.now)) }
     ensures kind { IfOk result (λ x. is_dir x.0.rec.meta.kind ≡ false) }
-    ensures order { IfOk result (λ x. follows before.now x.0.name ≡ true) }
+    ensures order { IfOk result (λ x. follows (entries_of before.now.pending) x.0.name.now ≡ true) }
 {
     let (letter, rest) = u8_at(bytes)?;
     let Some(kind) = entry_kind(letter) else {
         return Err(flaw(bytes, ImageKind::Number));
     };
-    let (name, rest) = name_at(alloc, rest, above)?;
-    if !follows(before, &name) {
+    let (name, rest) = name_at(rest, above)?;
+    if !follows(before, name) {
         return Err(flaw(bytes, ImageKind::Order));
     }
-    let (rec, rest) = record_at(alloc, rest, kind)?;
-    Ok((Entry { name, rec }, rest))
-}
-
-/// Room for so many entries, as far as the bytes at hand may hold them.
-pub(crate) fn room_for(alloc: Global, count: u32, bytes: &[u8]) -> Result<Vec<Entry>, AllocError>
-    ensures { IfOk result (λ entries. entries.items ≡ []) }
-{
-    let few = (count as usize).min(bytes.len() / LEAST_ENTRY);
-    Vec::with_capacity(alloc, few)
+    let (rec, rest) = record_at(rest, kind)?;
+    Ok((EntryAt { name, rec }, rest))
 }
 
 /// Reads on to so many entries, in name order. After a fault the rest begins with the entry that has it.
+///
+/// The bytes of an entry go straight behind those of the others: none has memory of its own.
 pub(crate) fn take_entries<'a>(
-    alloc: Global,
     rest: &mut &'a [u8],
     above: &Above<'_>,
     count: u32,
-    entries: &mut Vec<Entry>,
+    packing: &mut Packing,
 ) -> Result<(), Refused>
-    requires { AreEntries entries.old.items }
-    ensures same { (more : List ℕ) → entries_from above.now count entries.old.items (rest.old.now ++ more) ≡ entries_from above.now count entries.new.items (rest.new.now ++ more) }
-    ensures entries { AreEntries entries.new.items }
-    ensures few { length entries.old.items ≤ count → length entries.new.items ≤ count }
-    ensures whole { OnOk result (count ≤ length entries.new.items) }
-    ensures halts { IfErr result (λ e. OnFlaw e (λ f. (more : List ℕ) → Stops f more (entries_from above.now count entries.new.items (rest.new.now ++ more)))) }
+    requires { AreEntries (entries_of packing.old.pending) }
+    ensures dirs { packing.new.dirs ≡ packing.old.dirs }
+    ensures same { (more : List ℕ) → entries_from above.now count (entries_of packing.old.pending) (rest.old.now ++ more) ≡ entries_from above.now count (entries_of packing.new.pending) (rest.new.now ++ more) }
+    ensures entries { AreEntries (entries_of packing.new.pending) }
+    ensures few { length (entries_of packing.old.pending) ≤ count → length (entries_of packing.new.pending) ≤ count }
+    ensures whole { OnOk result (count ≤ length (entries_of packing.new.pending)) }
+    ensures halts { IfErr result (λ e. OnFlaw e (λ f. (more : List ℕ) → Stops f more (entries_from above.now count (entries_of packing.new.pending) (rest.new.now ++ more)))) }
 {
-    'entries: while entries.len() < count as usize {
-        let (entry, after) = entry_at(alloc, *rest, above, entries)?;
-        entries.push(entry)?;
+    'entries: while packing.pending_len() < count as usize {
+        let (entry, after) = entry_at(*rest, above, packing)?;
+        packing.push(0, entry.name, &entry.rec.as_rec_ref())?;
         *rest = after;
     }
     Ok(())

@@ -10,8 +10,7 @@ ghost use Rattle.gufi_image.specs.Fields.{Gives, flaw, bytes_at, number_at, sign
 
 use crate::fault::{Flaw, ImageKind, Refused};
 use byteorder::{ByteOrder, LittleEndian};
-use gufi_base::{Bytes, Kind, Meta, Rec};
-use std::alloc::Global;
+use gufi_base::{Kind, Meta, RecRef};
 
 const MAX_LINK: u16 = 4096;
 
@@ -137,15 +136,29 @@ fn link_at(bytes: &[u8]) -> Result<(&[u8], &[u8]), Refused>
     Ok((link, rest))
 }
 
-/// A record of this kind. One allocation where there is a link.
+/// A record whose link stays where it stands in the image.
+#[derive(Drop)]
+pub(crate) struct Borrowed<'a> {
+    pub meta: Meta,
+    pub link: &'a [u8],
+}
+
+impl Borrowed<'_> {
+    pub(crate) fn as_rec_ref(&self) -> RecRef<'_>
+        ensures { result ≡ record { meta = self.now.meta; link = self.now.link.now } }
+    {
+        RecRef::of(&self.meta, self.link)
+    }
+}
+
+/// A record of this kind.
 #[inline(always)]
 #[tactic(auto, unfolding(crate::specs::Fields::record_at))]
-pub(crate) fn record_at(alloc: Global, bytes: &[u8], kind: Kind) -> Result<(Rec, &[u8]), Refused>
-    ensures gives { Gives (λ x. (x.0, x.1.now)) result (record_at kind bytes.now) }
+pub(crate) fn record_at(bytes: &[u8], kind: Kind) -> Result<(Borrowed<'_>, &[u8]), Refused>
+    ensures gives { Gives (λ x. (record { meta = x.0.meta; link = x.0.link.now }, x.1.now)) result (record_at kind bytes.now) }
     ensures kind { IfOk result (λ x. x.0.meta.kind ≡ kind) }
 {
     let (meta, rest) = meta_at(bytes, kind)?;
     let (link, rest) = link_at(rest)?;
-    let link = Bytes::from_slice(alloc, link)?;
-    Ok((Rec { meta, link }, rest))
+    Ok((Borrowed { meta, link }, rest))
 }

@@ -6,6 +6,7 @@ ghost use Rattle.gufi_tree.specs.Tree.{entry_count};
 ghost use Rattle.gufi_image.specs.Directories.{heading_at};
 ghost use Rattle.gufi_image.specs.Sorted.{AreSorted};
 ghost use Rattle.gufi_image.specs.Placed.{IsOpen};
+ghost use Rattle.gufi_tree.specs.Packs.{entries_of};
 ghost use Rattle.gufi_image.specs.Views.{headed, directory_in};
 ghost use Rattle.gufi_image.specs.Pieces.{OnFlaw, UnlessMemory, Stops, Alike, Halts, HasFew, IsRead, IsBegun, rest_behind, rest_of, rest_by};
 
@@ -15,7 +16,7 @@ use crate::fault::Refused;
 use crate::head::Head;
 use crate::name::Above;
 use gufi_base::Memory;
-use gufi_tree::{Dirs, Stored};
+use gufi_tree::Packing;
 use std::alloc::Global;
 
 /// Directories with the places of their parents and their flags, and how many entries they have.
@@ -23,7 +24,7 @@ use std::alloc::Global;
 /// A flag that is kept has as many bytes left as it would have if the image were as long as one may be.
 #[derive(Drop)]
 pub(crate) struct Directories {
-    pub stored: Dirs,
+    pub packing: Packing,
     pub parents: Vec<u32>,
     pub flags: Vec<Flag>,
     pub entries: u32,
@@ -38,15 +39,14 @@ fn next_open<'a>(
     total: u32,
 ) -> Result<Open, Refused>
     requires room { room ≤ max_image }
-    requires sorted { AreSorted before.now.stored }
-    requires entries { before.now.entries ≡ entry_count before.now.stored }
-    ensures part { IfOk result (IsOpen total before.now.stored) }
-    ensures none { IfOk result (λ dir. dir.entries.items ≡ []) }
-    ensures heading { IfOk result (λ dir. (more : List ℕ) → length more ≤ room → heading_at total before.now.stored (rest.old.now ++ more) ≡ Ok (headed (room - length more) dir, rest.new.now ++ more)) }
-    ensures halts { IfErr result (λ e. OnFlaw e (λ f. (more : List ℕ) → Stops f more (heading_at total before.now.stored (rest.old.now ++ more)))) }
+    requires sorted { AreSorted before.now.packing.dirs }
+    requires entries { before.now.entries ≡ entry_count before.now.packing.dirs }
+    ensures part { IfOk result (IsOpen total before.now.packing.dirs) }
+    ensures heading { IfOk result (λ dir. (more : List ℕ) → length more ≤ room → heading_at total before.now.packing.dirs (rest.old.now ++ more) ≡ Ok (headed (room - length more) dir, rest.new.now ++ more)) }
+    ensures halts { IfErr result (λ e. OnFlaw e (λ f. (more : List ℕ) → Stops f more (heading_at total before.now.packing.dirs (rest.old.now ++ more)))) }
     ensures rest { IfErr result (λ e. rest.new.now ≡ rest.old.now) }
 {
-    let (mut part, after) = heading_at(alloc, *rest, &before.stored, before.entries, total)?;
+    let (mut part, after) = heading_at(alloc, *rest, &before.packing, before.entries, total)?;
     part.flag.left += room;
     *rest = after;
     Ok(part)
@@ -54,40 +54,39 @@ fn next_open<'a>(
 
 impl Directories {
     fn new(alloc: Global) -> Directories
-        ensures dirs { result.stored ≡ [] }
+        ensures packing { result.packing ≡ record { dirs = []; pending = [] } }
         ensures parents { result.parents.items ≡ [] }
         ensures flags { result.flags.items ≡ [] }
         ensures entries { result.entries ≡ 0 }
     {
         Directories {
-            stored: Dirs::new(alloc),
+            packing: Packing::new(alloc),
             parents: Vec::new(alloc),
             flags: Vec::new(alloc),
             entries: 0,
         }
     }
 
-    /// Takes one more.
+    /// Takes one more, whose entries are packed.
     fn close(&mut self, alloc: Global, dir: Open) -> Result<(), Memory>
-        requires { self.old.entries + length dir.entries.items < 2 ^ 32 }
-        ensures dirs { OnOk result (self.new.stored ≡ self.old.stored ++ directory_in dir ∷ []) }
+        requires { self.old.entries + length (entries_of self.old.packing.pending) < 2 ^ 32 }
+        ensures packing { OnOk result (self.new.packing ≡ record { dirs = self.old.packing.dirs ++ directory_in dir (entries_of self.old.packing.pending) ∷ []; pending = [] }) }
         ensures parents { OnOk result (self.new.parents.items ≡ self.old.parents.items ++ dir.parent ∷ []) }
         ensures flags { OnOk result (self.new.flags.items ≡ self.old.flags.items ++ dir.flag ∷ []) }
-        ensures entries { OnOk result (self.new.entries ≡ self.old.entries + length dir.entries.items) }
+        ensures entries { OnOk result (self.new.entries ≡ self.old.entries + length (entries_of self.old.packing.pending)) }
     {
         let Open {
             path,
             rec,
-            entries,
             parent,
             flag,
             count: _,
         } = dir;
-        self.entries += entries.len() as u32;
+        self.entries += self.packing.pending_len() as u32;
         self.parents.push(parent)?;
         self.flags.push(flag)?;
-        let stored = Stored { path, rec, entries };
-        self.stored.push(alloc, stored)?;
+        self.packing
+            .close(alloc, &path.as_path_ref(), &rec.as_rec_ref())?;
         Ok(())
     }
 }
@@ -116,19 +115,17 @@ impl Progress {
     }
 
     /// Reads the entries that a directory lacks, and takes it. After a fault it stays the one whose entries are being read.
-    fn fill<'a>(&mut self, alloc: Global, rest: &mut &'a [u8], mut dir: Open) -> Result<(), Refused>
-        requires read { IsRead self.old }
+    fn fill<'a>(&mut self, alloc: Global, rest: &mut &'a [u8], dir: Open) -> Result<(), Refused>
         requires none { self.old.part ≡ None }
-        requires few { length self.old.directories.stored < self.old.head.dirs }
-        requires part { IsOpen self.old.head.entries self.old.directories.stored dir }
+        requires read { IsRead (record self.old { part = Some dir }) }
         ensures head { self.new.head ≡ self.old.head }
         ensures read { UnlessMemory result (IsRead self.new) }
         ensures same { UnlessMemory result ((k : ℕ) (more : List ℕ) → rest_behind k self.old.head self.old.directories (Some dir) (rest.old.now ++ more) ≡ rest_of k self.new (rest.new.now ++ more)) }
         ensures halts { IfErr result (λ e. OnFlaw e (λ f. (k : ℕ) (more : List ℕ) → Stops f more (rest_of k self.new (rest.new.now ++ more)))) }
-        ensures taken { OnOk result (length self.new.directories.stored ≡ length self.old.directories.stored + 1) }
+        ensures taken { OnOk result (length self.new.directories.packing.dirs ≡ length self.old.directories.packing.dirs + 1) }
     {
         let above = Above::of(dir.path.as_path_ref());
-        match take_entries(alloc, rest, &above, dir.count, &mut dir.entries) {
+        match take_entries(rest, &above, dir.count, &mut self.directories.packing) {
             Ok(()) => {
                 self.directories.close(alloc, dir)?;
                 Ok(())
@@ -149,12 +146,12 @@ impl Progress {
     ) -> Result<(), Refused>
         requires room { room ≤ max_image }
         requires read { IsRead self.old }
-        requires few { length self.old.directories.stored < self.old.head.dirs }
+        requires few { length self.old.directories.packing.dirs < self.old.head.dirs }
         ensures head { self.new.head ≡ self.old.head }
         ensures read { UnlessMemory result (IsRead self.new) }
         ensures same { UnlessMemory result (Alike room (rest_by self.old rest.old.now) (rest_by self.new rest.new.now)) }
         ensures halts { IfErr result (λ e. OnFlaw e (Halts room (rest_by self.new rest.new.now))) }
-        ensures taken { OnOk result (length self.new.directories.stored ≡ length self.old.directories.stored + 1) }
+        ensures taken { OnOk result (length self.new.directories.packing.dirs ≡ length self.old.directories.packing.dirs + 1) }
     {
         match self.part.take() {
             Some(part) => self.fill(alloc, rest, part),
@@ -180,9 +177,9 @@ impl Progress {
         ensures read { UnlessMemory result (IsRead self.new) }
         ensures same { UnlessMemory result (Alike room (rest_by self.old rest.old.now) (rest_by self.new rest.new.now)) }
         ensures halts { IfErr result (λ e. OnFlaw e (Halts room (rest_by self.new rest.new.now))) }
-        ensures whole { OnOk result (self.new.head.dirs ≤ length self.new.directories.stored) }
+        ensures whole { OnOk result (self.new.head.dirs ≤ length self.new.directories.packing.dirs) }
     {
-        'directories: while self.directories.stored.len() < self.head.dirs as usize {
+        'directories: while self.directories.packing.len() < self.head.dirs as usize {
             self.take_directory(alloc, rest, room)?;
         }
         Ok(())

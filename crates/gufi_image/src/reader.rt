@@ -55,7 +55,7 @@ fn begin<'a>(alloc: Global, rest: &mut &'a [u8], room: usize) -> Result<Progress
 /// Nothing may stand behind the last directory. Where the entries aren't as many as the head says, that comes first, at the end.
 fn end<'a>(progress: &Progress, rest: &mut &'a [u8]) -> Result<(), Refused>
     requires read { IsRead progress.now }
-    requires whole { progress.now.head.dirs ≤ length progress.now.directories.stored }
+    requires whole { progress.now.head.dirs ≤ length progress.now.directories.packing.dirs }
     ensures same { (k : ℕ) (more : List ℕ) → resume k (Some progress.now) (rest.old.now ++ more) ≡ resume k (Some progress.now) (rest.new.now ++ more) }
     ensures halts { IfErr result (λ e. OnFlaw e (λ f. (k : ℕ) (more : List ℕ) → Stops f more (resume k (Some progress.now) (rest.new.now ++ more)))) }
 {
@@ -204,10 +204,10 @@ fn take_piece(
 /// The directories of a whole image, before their flags are looked at.
 fn all_of(progress: Progress, rest: &[u8], room: usize) -> Result<Parts, Refused>
     requires read { IsRead progress }
-    requires whole { progress.head.dirs ≤ length progress.directories.stored }
+    requires whole { progress.head.dirs ≤ length progress.directories.packing.dirs }
     ensures gives { Gives (flags_of room) result (all_from (counted room progress.head) (Ok (front_near room progress.directories, rest.now))) }
-    ensures whole { IfOk result (λ parts. IsWholeTree parts.directories.stored) }
-    ensures parents { IfOk result (λ parts. HasParents parts.directories.stored parts.directories.parents.items) }
+    ensures whole { IfOk result (λ parts. IsWholeTree parts.directories.packing.dirs) }
+    ensures parents { IfOk result (λ parts. HasParents parts.directories.packing.dirs parts.directories.parents.items) }
 {
     let Progress {
         head,
@@ -253,14 +253,14 @@ fn flags_hold(snap: &Snapshot, flags: &[Flag], room: usize) -> Result<(), Refuse
 
 /// The snapshot of directories whose flags are those of the rule.
 fn roll(alloc: Global, parts: Parts, room: usize) -> Result<Snapshot, Refused>
-    requires whole { IsWholeTree parts.directories.stored }
-    requires parents { HasParents parts.directories.stored parts.directories.parents.items }
+    requires whole { IsWholeTree parts.directories.packing.dirs }
+    requires parents { HasParents parts.directories.packing.dirs parts.directories.parents.items }
     ensures { Gives (λ snap. snap) result (rolled (flags_of room parts)) }
 {
     let limit = parts.limit;
     let directories = parts.directories;
     let flags = directories.flags;
-    let tree = tree_of_directories(alloc, directories.stored, directories.parents)?;
+    let tree = tree_of_directories(alloc, directories.packing.into_dirs(), directories.parents)?;
     let snap = Snapshot::build_uncounted(alloc, tree, limit)?;
     flags_hold(&snap, flags.as_slice(), room)?;
     Ok(snap)

@@ -3,4 +3,4 @@ use Rattle.gufi_image.proofs.Searches.{parent_there}
 use Rattle.gufi_image.proofs.directory.parent_of.Goals as goal
 
 pub returns : goal.returns
-returns c = parent_there c.args.before.now c.args.number c.at.result c.requires (omega (arith, c.len.ensures, c.if-place-len.false)) c.at.ensures
+returns c = parent_there c.args.before.now.dirs c.args.number c.at.result c.requires (omega (arith, c.len.ensures, c.if-place-len.false)) c.at.ensures

@@ -8,10 +8,10 @@ pub returns-clause-whole : goal.returns-clause-whole
 returns-clause-whole c =
     let p = c.args.progress in
     let h = c.requires.read in
-    whole_from (length p.directories.stored) p.head.entries p.directories.stored h.directories (omega (arith, h.head.some, c.requires.whole)) (omega (arith, h.head.few, few_read p h)) h.head.entries
+    whole_from (length p.directories.packing.dirs) p.head.entries p.directories.packing.dirs h.directories (omega (arith, h.head.some, c.requires.whole)) (omega (arith, h.head.few, few_read p h)) h.head.entries
 
 pub returns-clause-parents : goal.returns-clause-parents
 returns-clause-parents c =
     let p = c.args.progress in
     let h = c.requires.read in
-    parents_of_tree p.directories.stored p.directories.parents.items h.directories.front.order h.parents
+    parents_of_tree p.directories.packing.dirs p.directories.parents.items h.directories.front.order h.parents

@@ -5,8 +5,8 @@ use Rattle.gufi_image.proofs.progress.Progress.new.Goals as goal
 pub returns-clause-read : goal.returns-clause-read
 returns-clause-read c = record {
   head = c.requires;
-  directories = rw c.new.ensures.dirs (directories_none c.args.head.entries);
-  parents = rw (c.new.ensures.dirs, c.new.ensures.parents) (record { len = refl; each = λ k lt. absurd (omega (arith, lt)) });
-  count = rw (c.new.ensures.dirs, c.new.ensures.entries) refl;
-  part = rw c.new.ensures.dirs (omega arith);
+  directories = rw c.new.ensures.packing (directories_none c.args.head.entries);
+  parents = rw (c.new.ensures.packing, c.new.ensures.parents) (record { len = refl; each = λ k lt. absurd (omega (arith, lt)) });
+  count = rw (c.new.ensures.packing, c.new.ensures.entries) refl;
+  part = rw c.new.ensures.packing (omega arith, refl);
 }

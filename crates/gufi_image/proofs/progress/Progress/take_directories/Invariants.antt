@@ -10,4 +10,4 @@ invariant-directories l = record {
 }
 
 abbrev pub decreases-directories : goal.decreases-directories
-decreases-directories l = l.self.head.dirs - length l.self.directories.stored
+decreases-directories l = l.self.head.dirs - length l.self.directories.packing.dirs

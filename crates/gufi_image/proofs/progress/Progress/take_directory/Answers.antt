@@ -3,7 +3,7 @@ use Rattle.std.specs.Prelude.{Option, None}
 use Rattle.gufi_image.specs.declared.directory.Open.{Open}
 use Rattle.std.proofs.lemmas.Result.{err_from_is_err_and}
 use Rattle.gufi_image.specs.Pieces.{rest_behind}
-use Rattle.gufi_image.proofs.DirectoryLoop.{unless_map, refusal_map, rest_at, rest_opened, unopened_stops}
+use Rattle.gufi_image.proofs.DirectoryLoop.{unless_map, refusal_map, rest_at, none_read, rest_opened, unopened_stops}
 use Rattle.gufi_image.proofs.progress.Progress.take_directory.Goals as goal
 
 pub returns-in_err-part-in-None-clause-halts : goal.returns-in_err-part-in-None-clause-halts
@@ -22,5 +22,5 @@ returns-in_ok-part-in-None-clause-same c =
     unless_map c.fill-in-None.result _ _ (λ same more within.
     let k = c.args.room - length more in
     rest_at k self None (c.args.rest.now.now ++ more) (sym c.take.ensures.value ∙ c.in-None.is)
-    ∙ rest_opened k self.head self.directories part (c.args.rest.now.now ++ more) (c.next_open.new.rest.now ++ more) c.requires.few (c.in_ok-part-in-None.ensures.heading more within) c.in_ok-part-in-None.ensures.none
+    ∙ rest_opened k self.head self.directories part (c.args.rest.now.now ++ more) (c.next_open.new.rest.now ++ more) c.requires.few (c.in_ok-part-in-None.ensures.heading more within) (none_read self c.requires.read (sym c.take.ensures.value ∙ c.in-None.is))
     ∙ same k more) c.fill-in-None.ensures.same
