@@ -1,5 +1,5 @@
 -- Lemmas on what a command asks of one tree.
-use Rattle.std.proofs.Common.{◌≡◌, ◌≢◌, ℕ, ◌≤◌, true, not, List, [], ◌∷◌, length, get_or, refl, sym, ap, ◌∙◌, subst, arith}
+use Rattle.std.proofs.Common.{◌≡◌, ◌≢◌, ℕ, ◌≤◌, true, not, cond, List, [], ◌∷◌, length, get_or, refl, sym, ap, ◌∙◌, subst, arith}
 use Rattle.std.specs.Prelude.{Bool, Option, Some, None, Result, Ok, Err, filter, Vec}
 use Rattle.std.specs.declared.alloc.Global.{Global}
 use Rattle.std.specs.List.{flat_map}
@@ -94,6 +94,15 @@ answer-few tree who start asks =
     let listed = filter-few (λ row. is_listed tree who start (home row)) (all_rows tree) in
     let asked = filter-few (λ row. asks row (depth_below (length start) row)) (listed_rows tree who start) in
     omega (arith, listed, asked)
+
+-- what meets a question of the row alone, of all that is listed
+kept : (p : Row → Bool) (rows : List Row) → filter (λ row. p row) rows ≡ filter p (filter (λ row. true) rows)
+kept p [] = refl
+kept p (row ∷ rows) = ap (λ (rest : List Row). cond (p row) (row ∷ rest) rest) (kept p rows)
+
+pub answer-kept : (tree : List Directory) (who : Principal) (start : Components) (p : Row → Bool) → answer tree who start (λ row depth. p row) ≡ filter p (answer tree who start (λ row depth. true))
+unfolding answer
+answer-kept tree who start p = kept p (listed_rows tree who start)
 
 -- ---- what is written of it
 

@@ -1,5 +1,8 @@
 //! What a command asks of one tree, and what it writes of the answer.
-ghost use Rattle.std.specs.Prelude.{◌≡◌, IfOk};
+ghost use Rattle.std.specs.Prelude.{◌≡◌, ◌≢◌, true, Some, None, IfOk, IfErr, OnOk};
+ghost use Rattle.gufi_tree.specs.Resolve.{resolve};
+ghost use Rattle.gufi_stats.specs.Grouped.{grouped};
+ghost use Rattle.gufi_walk.specs.Answer.{answer, refusal_of};
 ghost use Rattle.gufi_top.specs.Asks.{walk_ask, find_ask, ls_ask, stat_ask, stats_ask, total_ask, query_ask, total_line, ask_reply};
 ghost use Rattle.gufi_top.specs.Calls.{Replies};
 
@@ -10,11 +13,15 @@ use gufi_io::Gate;
 use gufi_list::{LsLine, OneBelow, stat_text, total_text};
 use gufi_select::{Select, SelectLine};
 use gufi_snap::Snapshot;
-use gufi_stats::{Report, stats_text};
+use gufi_stats::{
+    Counts, Depth, Directories, Gid, Report, RowNumber, Uid, gids_text, leaves_text, levels_text,
+    uids_text,
+};
 use gufi_sums::{NoDeeper, NoSkip, Summary};
 use gufi_users::Users;
 use gufi_walk::{
-    Refusal, Walkers, answer_lines, answer_list, answer_rows, answer_total, found_start, total_from,
+    Refusal, Walkers, answer, answer_lines, answer_list, answer_rows, answer_total, found_start,
+    total_from,
 };
 use std::alloc::Global;
 use std::sync::Wait;
@@ -84,6 +91,49 @@ pub(crate) fn listing_text<R: Threads + Wait + Sync, G: Gate + Sync>(
     }
 }
 
+/// The counts by a number of all rows that the principal lists from the start. No row is kept.
+fn counts_from<K: RowNumber + Send + Sync, R: Threads + Wait + Sync, G: Gate + Sync>(
+    walkers: &Walkers<'_, R, G>,
+    alloc: Global,
+    snap: &Snapshot,
+    who: &Principal,
+    start: &Path,
+) -> Result<Counts<K>, Refusal>
+    ensures counts { IfOk result (λ counts. counts ≡ grouped K.number (answer snap.now.tree who.now start.now (λ row depth. true))) }
+    ensures found { OnOk result (refusal_of (resolve snap.now.tree who.now start.now) ≡ None) }
+    ensures refusal { IfErr result (λ refusal. refusal ≢ Refusal.Memory → refusal_of (resolve snap.now.tree who.now start.now) ≡ Some refusal) }
+{
+    answer::<R, Always, Counts<K>, NoSkip, G>(
+        walkers.rt,
+        alloc,
+        snap,
+        who,
+        start,
+        &Always,
+        &NoSkip,
+        walkers.count,
+        walkers.gate,
+    )
+}
+
+/// The report of the leaves among the directories that the principal lists from the start.
+fn leaves_from<R: Threads + Wait + Sync, G: Gate + Sync>(
+    walkers: &Walkers<'_, R, G>,
+    alloc: Global,
+    snap: &Snapshot,
+    who: &Principal,
+    start: &Path,
+) -> Result<Vec<u8>, Refusal>
+    ensures { Replies result (ask_reply snap.now.tree who.now start.now (stats_ask Report.Leaves)) }
+{
+    // The tree's shape tells that the rows of an answer are in path order.
+    let _tree = snap.tree();
+    match answer_rows(walkers, alloc, snap, who, start, &Directories, &NoSkip) {
+        Ok(rows) => Ok(leaves_text(alloc, &rows)?),
+        Err(refusal) => Err(refusal),
+    }
+}
+
 /// A report over all rows that the principal lists from the start.
 pub(crate) fn report_text<R: Threads + Wait + Sync, G: Gate + Sync>(
     walkers: &Walkers<'_, R, G>,
@@ -95,11 +145,22 @@ pub(crate) fn report_text<R: Threads + Wait + Sync, G: Gate + Sync>(
 ) -> Result<Vec<u8>, Refusal>
     ensures { Replies result (ask_reply snap.now.tree who.now start.now (stats_ask report)) }
 {
-    // The tree's shape tells that the rows of an answer are in path order, and its count that they are few.
+    // The tree's count tells that the rows of an answer are few.
     let _tree = snap.tree();
-    match answer_rows(walkers, alloc, snap, who, start, &Always, &NoSkip) {
-        Ok(rows) => Ok(stats_text(alloc, &rows, start, report)?),
-        Err(refusal) => Err(refusal),
+    match report {
+        Report::Levels => match counts_from::<Depth, R, G>(walkers, alloc, snap, who, start) {
+            Ok(counts) => Ok(levels_text(alloc, counts, start)?),
+            Err(refusal) => Err(refusal),
+        },
+        Report::Uids => match counts_from::<Uid, R, G>(walkers, alloc, snap, who, start) {
+            Ok(counts) => Ok(uids_text(alloc, counts)?),
+            Err(refusal) => Err(refusal),
+        },
+        Report::Gids => match counts_from::<Gid, R, G>(walkers, alloc, snap, who, start) {
+            Ok(counts) => Ok(gids_text(alloc, counts)?),
+            Err(refusal) => Err(refusal),
+        },
+        Report::Leaves => leaves_from(walkers, alloc, snap, who, start),
     }
 }
 
