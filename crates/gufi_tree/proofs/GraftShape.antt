@@ -119,18 +119,18 @@ module _ (tree part : List Directory) (p : Components) where
 
     has_parent : (d : Directory) → Has (graft tree p part) d → has_dir (graft tree p part) (parent_path d.path) ≡ true
     has_parent d h = elim (came_from d h) [
-        | inl k ↦ there (parent_path d.path) (all_at (λ (dir : Directory). has_dir tree (parent_path dir.path)) tree d shape.parents k.0)
+      | inl k ↦ there (parent_path d.path) (all_at (λ (dir : Directory). has_dir tree (parent_path dir.path)) tree d shape.parents k.0)
           (false_from_ne_true _ (λ b. true≢false (sym (from_parent p d.path b) ∙ k.1)))
-        | inr k ↦ ap (λ (dir : Directory). has_dir (graft tree p part) (parent_path dir.path)) (sym k.2)
+      | inr k ↦ ap (λ (dir : Directory). has_dir (graft tree p part) (parent_path dir.path)) (sym k.2)
           ∙ below_parent (k.0).path (all_at (λ (dir : Directory). has_dir part (parent_path dir.path)) part k.0 own.parents k.1)
-      ]
+    ]
 
     -- what holds of directories by their records and entries
     holds_still : (t : Directory → Bool) → ((d : Directory) → t (put_below p d) ≡ t d) → list_all t tree ≡ true → list_all t part ≡ true → list_all t (graft tree p part) ≡ true
     holds_still t same inside also = all-true t (graft tree p part) (λ d h. elim (came_from d h) [
-        | inl k ↦ all_at t tree d inside k.0
-        | inr k ↦ ap t (sym k.2) ∙ same k.0 ∙ all_at t part k.0 also k.1
-      ])
+      | inl k ↦ all_at t tree d inside k.0
+      | inr k ↦ ap t (sym k.2) ∙ same k.0 ∙ all_at t part k.0 also k.1
+    ])
 
     abbrev apart_in : List Directory → Directory → Entry → Bool
     apart_in all dir entry = not (has_dir all (dir.path ++ entry.name ∷ []))
@@ -161,10 +161,10 @@ module _ (tree part : List Directory) (p : Components) where
 
     entries_apart : (d : Directory) → Has (graft tree p part) d → list_all (apart_in (graft tree p part) d) d.entries ≡ true
     entries_apart d h = elim (came_from d h) [
-        | inl k ↦ all-true (apart_in (graft tree p part) d) d.entries (λ e m. ap not (other_apart d k.0 k.1 e m))
-        | inr k ↦ subst (λ (dir : Directory). list_all (apart_in (graft tree p part) dir) dir.entries ≡ true) k.2
+      | inl k ↦ all-true (apart_in (graft tree p part) d) d.entries (λ e m. ap not (other_apart d k.0 k.1 e m))
+      | inr k ↦ subst (λ (dir : Directory). list_all (apart_in (graft tree p part) dir) dir.entries ≡ true) k.2
           (all-true (apart_in (graft tree p part) (put_below p k.0)) (k.0).entries (λ e m. ap not (part_apart k.0 k.1 e m)))
-      ]
+    ]
 
     rooted : (q : Components) → q ≡ p → has_dir (graft tree p part) [] ≡ true
     rooted [] e = ap (has_dir (graft tree p part)) (e ∙ sym (append-nil p)) ∙ there_below [] own.root

@@ -19,11 +19,7 @@ use std::alloc::{AllocError, Global};
 
 /// The kept text of a path that is put below another.
 #[tactic(auto, using(crate::proofs::Joined::joined_names))]
-fn join_paths(
-    text: &mut Vec<u8>,
-    path: &PathRef<'_>,
-    below: &PathRef<'_>,
-) -> Result<(), AllocError>
+fn join_paths(text: &mut Vec<u8>, path: &PathRef<'_>, below: &PathRef<'_>) -> Result<(), AllocError>
     ensures text { OnOk result (text.new.items ≡ kept_text (path.now ++ below.now)) }
     ensures names { IsTrue (list_all is_name (path.now ++ below.now)) }
 {
@@ -77,14 +73,7 @@ fn push_all_below(
     let mut pending = Pending::new(alloc);
     let mut text = Vec::new(alloc);
     for place in 0..part.len() {
-        push_below(
-            alloc,
-            dirs,
-            path,
-            &part.at(place),
-            &mut pending,
-            &mut text,
-        )?;
+        push_below(alloc, dirs, path, &part.at(place), &mut pending, &mut text)?;
     }
     Ok(())
 }
@@ -113,13 +102,7 @@ impl Tree {
     /// The tree in which a directory and all below it, so many in all, are replaced by another tree. Its root takes the directory's place.
     ///
     /// Directories outside are shared, in bundles; those of the part are copied. Linear in the directories.
-    pub fn graft(
-        &self,
-        alloc: Global,
-        at: DirId,
-        count: u32,
-        part: &Tree,
-    ) -> Result<Tree, Memory>
+    pub fn graft(&self, alloc: Global, at: DirId, count: u32, part: &Tree) -> Result<Tree, Memory>
         requires within { at.0 < length self.now }
         requires count { count ≡ length (filter (λ dir. is_prefix (path_at self.now at.0) dir.path) self.now) }
         requires rows { length (flat_map own_rows (graft self.now (path_at self.now at.0) part.now)) < 2 ^ 32 }
