@@ -141,33 +141,6 @@ part_read p part h is = subst (λ (o : Option Open). IsNextOpen p.head.dirs p.he
 pub none_read : (p : Progress) → IsRead p → p.part ≡ None → p.directories.packing.pending ≡ []
 none_read p h is = (subst (λ (o : Option Open). IsNextOpen p.head.dirs p.head.entries p.directories.packing o) is h.part).1
 
--- the next one
-pub opened_read : (p q : Progress) (part : Open) → IsRead p → p.part ≡ None → length p.directories.packing.dirs < p.head.dirs → IsOpen p.head.entries p.directories.packing.dirs part
-    → q.head ≡ p.head → q.directories ≡ p.directories → q.part ≡ Some part → IsRead q
-opened_read p q part h none lt next head directories is =
-    let empty = none_read p h none in
-    record {
-      head = rw head h.head;
-      directories = rw (head, directories) h.directories;
-      parents = rw directories h.parents;
-      count = rw directories h.count;
-      part = rw (is, head, directories, empty) (lt, record { heading = next; entries_are = record { order = refl; kinds = refl }; within = omega arith });
-    }
-
--- more of its entries
-pub filled_read : (p q : Progress) (part : Open) → IsRead p → p.part ≡ Some part → q.head ≡ p.head → q.part ≡ Some part
-    → q.directories.packing.dirs ≡ p.directories.packing.dirs → q.directories.parents.items ≡ p.directories.parents.items → q.directories.entries ≡ p.directories.entries
-    → AreEntries (entries_of q.directories.packing.pending) → (length (entries_of p.directories.packing.pending) ≤ part.count → length (entries_of q.directories.packing.pending) ≤ part.count) → IsRead q
-filled_read p q part h was head is dirs parents entries are few =
-    let o = part_read p part h was in
-    record {
-      head = rw head h.head;
-      directories = rw (head, dirs) h.directories;
-      parents = rw (dirs, parents) h.parents;
-      count = entries ∙ h.count ∙ ap (λ (ds : List Directory). entry_count ds) (sym dirs);
-      part = rw (is, head, dirs) (o.0, record { heading = o.1.heading; entries_are = are; within = few o.1.within });
-    }
-
 -- ---- one reading behind the other
 
 pub unless_map : (r : Result (Unit {0}) Refused) (P Q : Type 0) → (P → Q) → UnlessMemory r P → UnlessMemory r Q

@@ -35,11 +35,6 @@ last_entry (x ∷ xs) last name e =
     let same : last ≡ last_of x xs = some_same last (last_of x xs) (e ∙ last_there x x xs) in
     ap (λ (v : Entry). is_lt (slice_cmp nat_cmp v.name name)) same
 
--- the same, where it may be none
-pub last_pending : (before : List Entry) (name : List ℕ) → slice_get before (length before - 1) ≡ None → follows before name ≡ true
-last_pending [] name e = refl
-last_pending (x ∷ xs) name e = let there = last_there x x xs in absurd cc
-
 -- the last directory
 get_last : {X : Type 0} (d x : X) (xs : List X) → get_or (x ∷ xs) (length (x ∷ xs) - 1) d ≡ last_of x xs
 get_last {X} d x xs = let k : length (x ∷ xs) - 1 ≡ length xs = omega arith in ap (λ n. get_or (x ∷ xs) n d) k ∙ by x xs

@@ -1,22 +1,16 @@
 -- The directories at a path and below it stand side by side, and a sum of their rows counts them.
-use Rattle.std.proofs.Common.{◌≡◌, ℕ, zero, suc, ◌+◌, ◌<◌, ◌≤◌, Bool, true, false, not, cond, List, [], ◌∷◌, length, take, drop, map, refl, sym, ap, ◌∙◌, subst, arith, length-append, length-drop}
+use Rattle.std.proofs.Common.{◌≡◌, ℕ, ◌+◌, ◌<◌, ◌≤◌, Bool, true, false, not, cond, List, [], ◌∷◌, length, take, drop, map, refl, sym, ap, ◌∙◌, arith, length-append}
 use Rattle.std.specs.Prelude.{All}
-use Rattle.std.specs.List.{AllByRecursion, filter, flat_map, list_all}
-use Rattle.std.specs.declared.cmp.Ordering.TheVariants.{Less, Greater}
-use Rattle.std.proofs.lemmas.Bool.{false≢true, false_from_ne_true, and_parts, and_from}
-use Rattle.std.proofs.lemmas.List.{append-nil, length-take}
+use Rattle.std.specs.List.{filter, flat_map, list_all}
+use Rattle.std.proofs.lemmas.Bool.{false≢true, and_parts, and_from}
 use Rattle.std.proofs.lemmas.List.Elements.{All-nil, All-cons}
 use Rattle.gufi_base.specs.Kinds.{is_dir}
-use Rattle.gufi_base.specs.Paths.{Components, path_cmp, is_prefix}
-use Rattle.gufi_base.specs.Basics.{ascends}
-use Rattle.gufi_base.proofs.Prefixes.{paths_total, stands_after_subtree, prefix_stands_before}
-use Rattle.gufi_base.proofs.SortedOnce.{below_all, ascends-tail, less_turned}
+use Rattle.gufi_base.specs.Paths.{Components, is_prefix}
 use Rattle.gufi_tree.specs.declared.tree.Entry.{Entry}
-use Rattle.gufi_tree.specs.Tree.{Directory, dir_cmp, dir_row, own_rows, entry_row, is_kinded, subtree_rows, HasTreeShape}
+use Rattle.gufi_tree.specs.Tree.{Directory, dir_row, own_rows, entry_row, is_kinded, subtree_rows, HasTreeShape}
 use Rattle.gufi_tree.specs.Places.{path_at}
 use Rattle.gufi_tree.proofs.Below.{below_dirs}
-use Rattle.gufi_tree.proofs.Built.{dir_cmp-total}
-use Rattle.gufi_tree.proofs.Flat.{is_prefix-append, is_prefix-rest}
+use Rattle.gufi_tree.proofs.Flat.{is_prefix-rest}
 use Rattle.gufi_tree.proofs.Kids.{subtree_rows-under}
 use Rattle.gufi_tree.proofs.Ranges.{below_range, below_within}
 use Rattle.gufi_sums.specs.declared.summary.Summary.{Summary}

@@ -3,7 +3,7 @@ use Rattle.std.specs.declared.cmp.Ordering.{Ordering}
 use Rattle.std.specs.Ordering.{is_lt, nat_cmp}
 use Rattle.std.specs.Cmp.Lexicographic.{slice_cmp}
 use Rattle.gufi_tree.specs.Packs.{entries_of}
-use Rattle.gufi_image.proofs.Searches.{last_entry, last_pending}
+use Rattle.gufi_image.proofs.Searches.{last_entry}
 use Rattle.gufi_image.proofs.entry.follows.Goals as goal
 
 pub returns-in-Some : goal.returns-in-Some
