@@ -13,5 +13,5 @@ returns-then-has_no_words-clause-sum g c =
 
 -- no row lies deeper than the expression allows
 pub answer_sum-requires-clause-query : goal.answer_sum-requires-clause-query
-answer_sum-requires-clause-query g c = λ row depth met.
+answer_sum-requires-clause-query g c κs within = λ row depth met.
     within_from c.max_depth.result depth (λ most is. c.max_depth.ensures.bounded most is row depth (rw c.question-question.ensures at met))

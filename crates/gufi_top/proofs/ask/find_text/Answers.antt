@@ -5,7 +5,7 @@ use Rattle.gufi_top.proofs.ask.find_text.Goals as goal
 
 -- no row lies deeper than the expression allows
 pub answer_lines-requires-clause-query : goal.answer_lines-requires-clause-query
-answer_lines-requires-clause-query g c = λ row depth met.
+answer_lines-requires-clause-query g c κs within = λ row depth met.
     within_from c.max_depth.result depth (λ most is. c.max_depth.ensures.bounded most is row depth (rw c.question-question.ensures at met))
 
 pub returns-in-Ok : goal.returns-in-Ok

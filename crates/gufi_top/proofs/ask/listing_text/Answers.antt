@@ -9,7 +9,7 @@ use Rattle.gufi_top.proofs.ask.listing_text.Goals as goal
 
 -- no row lies deeper than those that are shown
 pub answer_list-requires-clause-query : goal.answer_list-requires-clause-query
-answer_list-requires-clause-query g c = λ row depth met. le-leb depth c.max_depth.result (c.max_depth.ensures.bounded row depth met)
+answer_list-requires-clause-query g c κs within = λ row depth met. le-leb depth c.max_depth.result (c.max_depth.ensures.bounded row depth met)
 
 pub returns-in_ok-put_lines-in-Ok : goal.returns-in_ok-put_lines-in-Ok
 returns-in_ok-put_lines-in-Ok g c =
