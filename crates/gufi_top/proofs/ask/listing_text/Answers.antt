@@ -1,6 +1,8 @@
-use Rattle.std.proofs.Common.{◌∙◌, ◌++◌, ap}
+use Rattle.std.proofs.Common.{◌∙◌, ◌++◌, ℕ, List, ap}
+use Rattle.std.specs.List.{flat_map}
 use Rattle.std.proofs.lemmas.Bool.{le-leb}
-use Rattle.gufi_list.specs.Listings.{ls_asks, ls_text}
+use Rattle.gufi_list.specs.Listings.{ls_asks}
+use Rattle.gufi_list.specs.Columns.{shown_line}
 use Rattle.gufi_list.proofs.Shown.{shown_lines}
 use Rattle.gufi_walk.specs.Answer.{answer}
 use Rattle.gufi_top.specs.Asks.{ls_ask}
@@ -16,7 +18,7 @@ returns-in_ok-put_lines-in-Ok g c =
     let rows = answer c.args.snap.now.tree c.args.who.now c.args.start.now (ls_asks c.args.all) in
     replies_found c.args.snap.now.tree c.args.who.now c.args.start.now (ls_ask c.args.users.now c.args.long c.args.all) c.put_lines.new.text c.in-Ok.ensures.found
     (c.in_ok-put_lines-in-Ok.ensures rows c.in-Ok.ensures.rows c.answer_list.ensures.ascends
-    ∙ ap (λ t. t ++ ls_text rows c.args.users.now c.args.long c.args.all) c.new-text.ensures.items
+    ∙ ap (λ (t : List ℕ). t ++ flat_map (shown_line c.args.users.now c.args.long c.args.all) rows) c.new-text.ensures.items
     ∙ shown_lines c.args.users.now c.args.long c.args.all rows)
 
 pub returns-in-Err : goal.returns-in-Err
