@@ -1,12 +1,12 @@
 -- What is known at and below a directory.
-use Rattle.std.specs.Prelude.{◌≡◌, ℕ, ◌≤◌, ◌<◌, Bool, not, ◌||◌, List, [], filter, take, length, slice_index_or}
+use Rattle.std.specs.Prelude.{◌≡◌, ℕ, ◌≤◌, ◌<◌, Bool, not, ◌||◌, List, [], filter, take, length, slice_index_or, Option, None, Some}
 use Rattle.std.specs.List.{list_all, flat_map}
 use Rattle.gufi_base.specs.Paths.{Components, is_proper_prefix}
 use Rattle.gufi_tree.specs.Tree.{Directory, own_rows}
 use Rattle.gufi_tree.specs.Places.{path_at}
 use Rattle.gufi_roll.specs.declared.report.RollReport.{RollReport}
 use Rattle.gufi_roll.specs.declared.below.Below.{Below}
-use Rattle.gufi_roll.specs.CanRoll.{rows_below, is_covered, roll_flags, is_under, rolled_dirs}
+use Rattle.gufi_roll.specs.CanRoll.{rows_below, is_covered, can_roll, roll_flags, is_under, rolled_dirs}
 
 -- every directory below the path is covered by its parent
 abbrev pub are_covered : List Directory → Components → Bool
@@ -33,3 +33,8 @@ pub record IsReport (tree : List Directory) (flags : List Bool) (place : ℕ) (r
   pub rolled : report.rolled ≡ length (rolled_dirs (take place tree) (take place flags))
   pub tops : report.tops ≡ length (filter (λ dir. not (is_under (rolled_dirs tree flags) [] dir.path)) (rolled_dirs (take place tree) (take place flags)))
   pub rows : report.rows ≡ length (flat_map own_rows (rolled_dirs (take place tree) (take place flags)))
+
+-- There is a place for each directory, and a flag that is known is the directory's.
+pub record AreKnown (tree : List Directory) (limit : ℕ) (known : List (Option Bool)) : Type 0 where
+  pub len : length known ≡ length tree
+  pub each : (place : ℕ) (flag : Bool) → place < length tree → slice_index_or known place None ≡ Some flag → flag ≡ can_roll tree limit (path_at tree place)

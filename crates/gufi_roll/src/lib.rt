@@ -6,7 +6,9 @@
 
 mod below;
 mod flags;
+mod known;
 mod report;
 
 pub use flags::roll;
+pub use known::roll_from;
 pub use report::{RollReport, roll_report};

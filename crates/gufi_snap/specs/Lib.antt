@@ -1,4 +1,5 @@
 pub mod Pieces
 pub mod Snap
+pub mod Refreshed
 pub mod Kept
 pub mod SumsByPlace

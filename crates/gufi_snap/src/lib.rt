@@ -5,8 +5,10 @@
 #![tactic(auto)]
 
 mod contents;
+mod refresh;
 mod snapshot;
 mod stores;
 mod sums;
 
+pub use refresh::RefreshFault;
 pub use snapshot::Snapshot;

@@ -7,10 +7,12 @@
 
 mod counts;
 mod laws;
+mod shared;
 mod skip;
 mod summary;
 
 pub use counts::put_counts;
 pub use laws::sums_join;
+pub use shared::SharedSums;
 pub use skip::{NoDeeper, NoSkip, Skip};
 pub use summary::Summary;

@@ -1,8 +1,9 @@
 -- A subtree replaced by another tree.
-use Rattle.std.specs.Prelude.{not, List, ◌++◌, filter, map}
+use Rattle.std.specs.Prelude.{Bool, not, List, ◌++◌, filter, map}
+use Rattle.std.specs.List.{list_any, flat_map}
 use Rattle.gufi_base.specs.Basics.{sort_by}
-use Rattle.gufi_base.specs.Paths.{Components, is_prefix}
-use Rattle.gufi_tree.specs.Tree.{Directory, dir_cmp}
+use Rattle.gufi_base.specs.Paths.{Components, is_prefix, is_too_long}
+use Rattle.gufi_tree.specs.Tree.{Directory, dir_cmp, own_rows}
 
 -- the directory with its path put below another
 abbrev pub put_below : Components → Directory → Directory
@@ -11,3 +12,7 @@ put_below path dir = record { path = path ++ dir.path; rec = dir.rec; entries = 
 -- the tree without all at and below the path, with each directory of the part put below it
 unfoldable pub graft : List Directory → Components → List Directory → List Directory
 graft tree path part = sort_by dir_cmp (filter (λ dir. not (is_prefix path dir.path)) tree ++ map (put_below path) part)
+
+-- a path of more components, or of a longer text, than an index may have
+abbrev pub is_too_deep : List Directory → Bool
+is_too_deep tree = list_any (λ row. is_too_long row.path) (flat_map own_rows tree)
