@@ -1,5 +1,5 @@
 -- Two sums for each directory.
-use Rattle.std.specs.Prelude.{◌≡◌, List, length}
+use Rattle.std.specs.Prelude.{List}
 use Rattle.gufi_sums.specs.declared.summary.Summary.{Summary}
 
 -- by their places: of each directory's own rows, and of the rows at and below it

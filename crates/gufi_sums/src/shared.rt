@@ -2,46 +2,34 @@
 
 ghost use Rattle.std.specs.Prelude.{◌≡◌, ◌<◌, ◌≤◌, ◌++◌, ◌∷◌, [], length, take, drop, slice_index_or, slice_set, IfOk, OnOk};
 ghost use Rattle.gufi_sums.specs.declared.summary.Summary.{Summary as Sum};
-ghost use Rattle.gufi_sums.specs.SumLists.{SumLists};
 
+use crate::blocks::{Block, Slots, add_sum, join_blocks, splice_slots, sum_at, used_blocks};
 use crate::summary::Summary;
+use gufi_base::u32_of;
 use std::alloc::{AllocError, Global};
 use std::marker::Model;
+use std::sync::Arc;
 
 /// Two sums for each directory, by its place: of its own rows, and of the rows at and below it.
+///
+/// They stand in blocks that such lists share. A directory without others below it has one sum for both.
 #[derive(Drop)]
 pub struct SharedSums {
-    own: Vec<Summary>,
-    below: Vec<Summary>,
+    blocks: Vec<Arc<Block, Global>>,
+    last: Vec<Summary>,
+    slots: Vec<Slots>,
 }
 
 impl Model for SharedSums {
-    ghost use Rattle.std.specs.Prelude.{◌≡◌, length};
+    ghost use Rattle.std.specs.Prelude.{All};
     ghost use Rattle.gufi_sums.specs.SumLists.{SumLists};
+    ghost use Rattle.gufi_sums.specs.Blocks.{lists_of, sums_in, BothStand};
 
     ghost Value = { SumLists };
 
-    ghost view = { λ s. record { own = s.own.items; below = s.below.items } };
+    ghost view = { λ s. sums_in (lists_of s.blocks.items s.last.items) s.slots.items };
 
-    ghost invariant = { λ s. length s.own.items ≡ length s.below.items };
-}
-
-/// Sums, of which those between two places are replaced by others.
-fn replaced(
-    alloc: Global,
-    sums: &[Summary],
-    at: usize,
-    end: usize,
-    part: &[Summary],
-) -> Result<Vec<Summary>, AllocError>
-    requires { (at ≤ end) × (end ≤ length sums.now) }
-    ensures { IfOk result (λ new. new.items ≡ take at sums.now ++ (part.now ++ drop end sums.now)) }
-{
-    let mut new = Vec::new(alloc);
-    new.extend_from_slice(&sums[..at])?;
-    new.extend_from_slice(part)?;
-    new.extend_from_slice(&sums[end..])?;
-    Ok(new)
+    ghost invariant = { λ s. All (BothStand (lists_of s.blocks.items s.last.items)) s.slots.items };
 }
 
 impl SharedSums {
@@ -50,8 +38,9 @@ impl SharedSums {
         ensures { result ≡ record { own = []; below = [] } }
     {
         SharedSums {
-            own: Vec::new(alloc),
-            below: Vec::new(alloc),
+            blocks: Vec::new(alloc),
+            last: Vec::new(alloc),
+            slots: Vec::new(alloc),
         }
     }
 
@@ -60,30 +49,39 @@ impl SharedSums {
         ensures own { result ≡ length self.now.own }
         ensures below { result ≡ length self.now.below }
     {
-        self.own.len()
+        self.slots.len()
     }
 
-    /// The sum of a directory's own rows.
+    /// The sum of a directory's own rows. `O(1)`.
+    #[inline]
     pub fn own(&self, place: usize) -> &Summary
         requires { place < length self.now.own }
         ensures { (s : Sum) → result.now ≡ slice_index_or self.now.own place s }
     {
-        &self.own[place]
+        let both = self.slots[place];
+        sum_at(self.blocks.as_slice(), self.last.as_slice(), both.own)
     }
 
-    /// The sum of the rows at and below a directory.
+    /// The sum of the rows at and below a directory. `O(1)`.
+    #[inline]
     pub fn below(&self, place: usize) -> &Summary
         requires { place < length self.now.below }
         ensures { (s : Sum) → result.now ≡ slice_index_or self.now.below place s }
     {
-        &self.below[place]
+        let both = self.slots[place];
+        sum_at(self.blocks.as_slice(), self.last.as_slice(), both.below)
     }
 
     /// Adds the sum of a directory's own rows, and the same one for the rows at and below it.
     pub fn push(&mut self, alloc: Global, sum: Summary) -> Result<(), AllocError>
         ensures { OnOk result (self.new ≡ record { own = self.old.own ++ sum ∷ []; below = self.old.below ++ sum ∷ [] }) }
     {
-        Err(AllocError)
+        let slot = add_sum(alloc, &mut self.blocks, &mut self.last, sum)?;
+        self.slots.push(Slots {
+            own: slot,
+            below: slot,
+        })?;
+        Ok(())
     }
 
     /// Puts another sum of the rows at and below a directory.
@@ -91,11 +89,15 @@ impl SharedSums {
         requires { place < length self.old.below }
         ensures { OnOk result (self.new ≡ record { own = self.old.own; below = slice_set self.old.below place sum }) }
     {
-        self.below[place] = sum;
+        let below = add_sum(alloc, &mut self.blocks, &mut self.last, sum)?;
+        let Slots { own, .. } = self.slots[place];
+        self.slots[place] = Slots { own, below };
         Ok(())
     }
 
     /// The sums in which those between two places are replaced by others.
+    ///
+    /// Blocks are shared, but for two that are copied; those in which no sum is any more are let go. Linear in the places.
     pub fn spliced(
         &self,
         alloc: Global,
@@ -110,9 +112,27 @@ impl SharedSums {
           below = take at self.now.below ++ (part.now.below ++ drop end self.now.below);
         }) }
     {
+        let by = u32_of(self.blocks.len() + 1)?;
+        let slots = splice_slots(
+            alloc,
+            self.slots.as_slice(),
+            at,
+            end,
+            part.slots.as_slice(),
+            by,
+        )?;
+        let joined = join_blocks(
+            alloc,
+            self.blocks.as_slice(),
+            self.last.as_slice(),
+            part.blocks.as_slice(),
+        )?;
+        let last = Vec::from_slice(alloc, part.last.as_slice())?;
+        let blocks = used_blocks(alloc, joined.as_slice(), last.as_slice(), slots.as_slice())?;
         Ok(SharedSums {
-            own: replaced(alloc, &self.own, at, end, &part.own)?,
-            below: replaced(alloc, &self.below, at, end, &part.below)?,
+            blocks,
+            last,
+            slots,
         })
     }
 }
