@@ -34,3 +34,4 @@ pub mod Kept
 pub mod GoingOn
 pub mod Waiting
 pub mod Bundled
+pub mod TooLong

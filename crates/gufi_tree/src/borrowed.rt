@@ -1,6 +1,7 @@
 //! Directories and their entries, borrowed from where they are packed.
 
-ghost use Rattle.std.specs.Prelude.{◌≡◌, ◌+◌, ◌<◌, ◌≤◌, length, slice_index_or, All, IsTrue};
+ghost use Rattle.std.specs.Prelude.{◌≡◌, ◌+◌, ◌<◌, ◌≤◌, nat_lt, length, slice_index_or, All, IsTrue};
+ghost use Rattle.std.specs.List.{list_any};
 ghost use Rattle.gufi_base.specs.Names.{is_name};
 ghost use Rattle.gufi_tree.specs.declared.tree.Entry.{Entry as SeenEntry};
 ghost use Rattle.gufi_tree.specs.Bundles.{bytes_at, directory_in, entry_in, entries_in, IsHead, IsPacked};
@@ -109,6 +110,22 @@ impl<'a> EntriesRef<'a> {
     {
         let rows = self.rows;
         EntryRef::of(&rows[place], self.text)
+    }
+
+    /// Whether a name has more than so many bytes. None has more than 255.
+    pub(crate) fn has_name_over(&self, bytes: usize) -> bool
+        ensures { result ≡ list_any (λ entry. nat_lt bytes (length entry.name)) self.now }
+    {
+        let _rows = self.rows;
+        if bytes >= 255 {
+            return false;
+        }
+        for place in 0..self.len() {
+            if self.at(place).name().len() > bytes {
+                return true;
+            }
+        }
+        false
     }
 }
 

@@ -5,7 +5,7 @@ ghost use Rattle.std.specs.List.{flat_map, list_all};
 ghost use Rattle.gufi_base.specs.Names.{is_name};
 ghost use Rattle.gufi_base.specs.Paths.{is_prefix};
 ghost use Rattle.gufi_base.specs.PathTexts.{kept_text};
-ghost use Rattle.gufi_tree.specs.Graft.{graft, put_below};
+ghost use Rattle.gufi_tree.specs.Graft.{graft, is_too_deep, put_below};
 ghost use Rattle.gufi_tree.specs.Packs.{entries_of};
 ghost use Rattle.gufi_tree.specs.Places.{path_at};
 ghost use Rattle.gufi_tree.specs.Tree.{own_rows};
@@ -13,6 +13,7 @@ ghost use Rattle.gufi_tree.specs.Tree.{own_rows};
 use crate::borrowed::{DirRef, EntriesRef};
 use crate::dirs::Dirs;
 use crate::pending::Pending;
+use crate::too_long::{any_has_long_row, any_has_long_row_outside};
 use crate::tree::{DirId, Tree};
 use gufi_base::{Memory, PathRef};
 use std::alloc::{AllocError, Global};
@@ -112,5 +113,21 @@ impl Tree {
         let end = first + count as usize;
         let dirs = graft_dirs(alloc, self.kept(), first, end, part.kept())?;
         Ok(Tree::of(alloc, dirs)?)
+    }
+
+    /// Whether a path of the graft has more than 256 components or 4,096 bytes of text.
+    ///
+    /// Linear in the directories; entries are looked at where their directory's path is long.
+    pub fn is_graft_too_deep(&self, at: DirId, count: u32, part: &Tree) -> bool
+        requires within { at.0 < length self.now }
+        requires count { count ≡ length (filter (λ dir. is_prefix (path_at self.now at.0) dir.path) self.now) }
+        ensures { result ≡ is_too_deep (graft self.now (path_at self.now at.0) part.now) }
+    {
+        let first = at.0 as usize;
+        let end = first + count as usize;
+        let below = self.path(at);
+        let dirs = self.kept();
+        let put = part.kept();
+        any_has_long_row(&below, put, 0, put.len()) || any_has_long_row_outside(dirs, first, end)
     }
 }

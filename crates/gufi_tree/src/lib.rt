@@ -25,6 +25,7 @@ mod search;
 mod shape;
 mod sort;
 mod stanzas;
+mod too_long;
 mod tree;
 
 pub use borrowed::{DirRef, EntriesRef, EntryRef};
