@@ -29,7 +29,7 @@ module _ {X : Type 0} where
   at_left (y ∷ xs) ys x (inl e) = inl e
   at_left (y ∷ xs) ys x (inr h) = inr (at_left xs ys x h)
 
-  at_right : (xs ys : List X) (x : X) → Has ys x → Has (xs ++ ys) x
+  pub at_right : (xs ys : List X) (x : X) → Has ys x → Has (xs ++ ys) x
   at_right [] ys x h = h
   at_right (y ∷ xs) ys x h = inr (at_right xs ys x h)
 
@@ -45,7 +45,7 @@ module _ {X Y : Type 0} (f : X → Y) where
   in_map (y ∷ xs) x (inr h) = inr (in_map xs x h)
 
 -- what leads to a path's parent leads to the path
-from_parent : (p q : Components) → is_prefix p (parent_path q) ≡ true → is_prefix p q ≡ true
+pub from_parent : (p q : Components) → is_prefix p (parent_path q) ≡ true → is_prefix p q ≡ true
 from_parent p [] h = h
 from_parent p (n ∷ q) h =
     let last = split_last (n ∷ q) refl in

@@ -35,3 +35,4 @@ pub mod GoingOn
 pub mod Waiting
 pub mod Bundled
 pub mod TooLong
+pub mod GraftParents

@@ -1,5 +1,5 @@
 -- A subtree replaced by another tree.
-use Rattle.std.specs.Prelude.{ℕ, Bool, not, ◌&&◌, ◌||◌, nat_lt, List, ◌++◌, filter, map}
+use Rattle.std.specs.Prelude.{ℕ, ◌+◌, ◌-◌, Bool, not, ◌&&◌, ◌||◌, nat_lt, List, ◌++◌, length, take, drop, filter, map, if◌then◌else◌}
 use Rattle.std.specs.List.{list_any, flat_map}
 use Rattle.gufi_base.specs.Limits.{max_components, max_path}
 use Rattle.gufi_base.specs.Basics.{sort_by}
@@ -13,6 +13,14 @@ put_below path dir = record { path = path ++ dir.path; rec = dir.rec; entries = 
 -- the tree without all at and below the path, with each directory of the part put below it
 unfoldable pub graft : List Directory → Components → List Directory → List Directory
 graft tree path part = sort_by dir_cmp (filter (λ dir. not (is_prefix path dir.path)) tree ++ map (put_below path) part)
+
+-- where a parent stands, if what stands from the first place on is moved to the second
+abbrev pub moved : ℕ → ℕ → ℕ → ℕ
+moved from to parent = if nat_lt parent from then parent else parent - from + to
+
+-- The parents up to the place of what is replaced stay; those of the part are moved there, but for its root's, and those behind what is replaced are moved behind the part.
+abbrev pub graft_parents : List ℕ → ℕ → ℕ → List ℕ → List ℕ
+graft_parents parents at end part = take (at + 1) parents ++ (map (moved 0 at) (drop 1 part) ++ map (moved end (at + length part)) (drop end parents))
 
 -- so many components, or bytes of text, are more than a path may have
 abbrev pub is_over : ℕ → ℕ → Bool

@@ -1,11 +1,12 @@
 //! A tree with a subtree replaced by another tree.
 
-ghost use Rattle.std.specs.Prelude.{◌≡◌, ◌<◌, ◌≤◌, ◌^◌, ◌++◌, ◌∷◌, [], length, take, drop, filter, map, IfOk, OnOk, IsTrue};
+ghost use Rattle.std.specs.Prelude.{◌≡◌, ◌+◌, ◌-◌, ◌<◌, ◌≤◌, ◌^◌, ◌++◌, ◌∷◌, [], length, take, drop, filter, map, All, IfOk, OnOk, IsTrue};
 ghost use Rattle.std.specs.List.{flat_map, list_all};
 ghost use Rattle.gufi_base.specs.Names.{is_name};
 ghost use Rattle.gufi_base.specs.Paths.{is_prefix};
 ghost use Rattle.gufi_base.specs.PathTexts.{kept_text};
-ghost use Rattle.gufi_tree.specs.Graft.{graft, is_too_deep, put_below};
+ghost use Rattle.gufi_tree.specs.Graft.{graft, graft_parents, is_too_deep, moved, put_below};
+ghost use Rattle.gufi_tree.specs.Kept.{AreWithin};
 ghost use Rattle.gufi_tree.specs.Packs.{entries_of};
 ghost use Rattle.gufi_tree.specs.Places.{path_at};
 ghost use Rattle.gufi_tree.specs.Tree.{own_rows};
@@ -99,6 +100,52 @@ fn graft_dirs(
     Ok(grafted)
 }
 
+/// Where a parent stands, if what stands from one place on is moved to another.
+fn moved(parent: u32, from: u32, to: u32) -> u32
+    requires { moved from to parent < 2 ^ 32 }
+    ensures { result ≡ moved from to parent }
+{
+    if parent < from {
+        parent
+    } else {
+        parent - from + to
+    }
+}
+
+/// Adds parents, moved so.
+fn push_moved(parents: &mut Vec<u32>, some: &[u32], from: u32, to: u32) -> Result<(), AllocError>
+    requires { All (λ parent. moved from to parent < 2 ^ 32) some.now }
+    ensures { OnOk result (parents.new.items ≡ parents.old.items ++ map (moved from to) some.now) }
+{
+    for parent in some {
+        parents.push(moved(*parent, from, to))?;
+    }
+    Ok(())
+}
+
+/// The parents' places in a graft, by those in the tree and in the part.
+fn graft_parents(
+    alloc: Global,
+    parents: &[u32],
+    at: usize,
+    end: usize,
+    part: &[u32],
+) -> Result<Vec<u32>, AllocError>
+    requires at { at < end }
+    requires end { end ≤ length parents.now }
+    requires part { 0 < length part.now }
+    requires within { AreWithin parents.now × AreWithin part.now }
+    requires few { (length parents.now < 2 ^ 32) × (at + length part.now + (length parents.now - end) < 2 ^ 32) }
+    ensures { IfOk result (λ moved. moved.items ≡ graft_parents parents.now at end part.now) }
+{
+    let behind = at + part.len();
+    let mut moved = Vec::with_capacity(alloc, behind + (parents.len() - end))?;
+    moved.extend_from_slice(&parents[..at + 1])?;
+    push_moved(&mut moved, &part[1..], 0, at as u32)?;
+    push_moved(&mut moved, &parents[end..], end as u32, behind as u32)?;
+    Ok(moved)
+}
+
 impl Tree {
     /// The tree in which a directory and all below it, so many in all, are replaced by another tree. Its root takes the directory's place.
     ///
@@ -112,7 +159,8 @@ impl Tree {
         let first = at.0 as usize;
         let end = first + count as usize;
         let dirs = graft_dirs(alloc, self.kept(), first, end, part.kept())?;
-        Ok(Tree::of(alloc, dirs)?)
+        let parents = graft_parents(alloc, self.parents(), first, end, part.parents())?;
+        Ok(Tree::with_parents(alloc, dirs, parents)?)
     }
 
     /// Whether a path of the graft has more than 256 components or 4,096 bytes of text.

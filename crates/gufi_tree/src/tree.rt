@@ -102,6 +102,13 @@ impl Tree {
         &self.dirs
     }
 
+    /// Where the parents of the directories stand; the root's is its own.
+    pub(crate) fn parents(&self) -> &[u32]
+        ensures { HasParents self.now result.now }
+    {
+        self.links.parents()
+    }
+
     /// A directory, borrowed. `O(1)`.
     #[inline]
     pub fn dir(&self, id: DirId) -> DirRef<'_>
