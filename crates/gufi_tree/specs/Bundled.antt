@@ -1,5 +1,5 @@
 -- Directories by their places in bundles.
-use Rattle.std.specs.Prelude.{◌≡◌, ◌<◌, pos, List, [], ◌∷◌, ◌++◌, length, map, slice_index_or}
+use Rattle.std.specs.Prelude.{◌≡◌, ℕ, ◌<◌, Bool, true, false, pos, List, [], ◌∷◌, ◌++◌, length, map, slice_index_or}
 use Rattle.std.specs.declared.sync.Arc.{Arc}
 use Rattle.std.specs.Arc.{arc_value}
 use Rattle.gufi_base.specs.declared.record.Kind.TheVariants.{Dir}
@@ -36,3 +36,8 @@ pub record Stands (lists : List (List Directory)) (place : Place) : Type 0 where
 pub record Keep (lists after : List (List Directory)) : Type 0 where
   pub stand : (place : Place) → Stands lists place → Stands after place
   pub same : (place : Place) → Stands lists place → directory_at after place ≡ directory_at lists place
+
+-- the bundles that are marked have the directories that they had
+pub record AreKept (marks : List Bool) (lists after : List (List Directory)) : Type 0 where
+  pub len : length after ≡ length lists
+  pub each : (k : ℕ) → k < length lists → slice_index_or marks k false ≡ true → slice_index_or after k [] ≡ slice_index_or lists k []

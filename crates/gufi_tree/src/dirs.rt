@@ -1,11 +1,11 @@
 //! Directories as they are kept: by their places in bundles, which lists of directories share.
 
-ghost use Rattle.std.specs.Prelude.{◌≡◌, ◌<◌, ◌≤◌, take, drop, ◌++◌, ◌∷◌, [], length, map, slice_index_or, IfOk, OnOk};
+ghost use Rattle.std.specs.Prelude.{◌≡◌, ◌<◌, ◌≤◌, take, drop, ◌++◌, ◌∷◌, [], length, map, slice_index_or, true, false, All, IfOk, OnOk};
 ghost use Rattle.std.specs.Arc.{arc_value};
 ghost use Rattle.std.specs.List.Sorted.{IsPermutation};
 ghost use Rattle.gufi_tree.specs.Tree.{Directory};
 ghost use Rattle.gufi_tree.specs.Stored.{directory_of};
-ghost use Rattle.gufi_tree.specs.Bundled.{lists_of, directory_at, Keep, Stands};
+ghost use Rattle.gufi_tree.specs.Bundled.{lists_of, directory_at, AreKept, Keep, Stands};
 ghost use Rattle.gufi_tree.specs.Packs.{entries_of};
 
 use crate::borrowed::DirRef;
@@ -153,6 +153,37 @@ fn places_put(
     Ok(put)
 }
 
+/// Which of so many bundles places name.
+fn named_bundles(alloc: Global, places: &[Place], count: usize) -> Result<Vec<bool>, AllocError>
+    requires { All (λ place. place.bundle < count) places.now }
+    ensures len { IfOk result (λ marks. length marks.items ≡ count) }
+    ensures marked { IfOk result (λ marks. All (λ place. slice_index_or marks.items place.bundle false ≡ true) places.now) }
+{
+    let mut marks = vec![in alloc; false; count]?;
+    for place in places {
+        marks[place.bundle as usize] = true;
+    }
+    Ok(marks)
+}
+
+/// Puts an empty bundle in the place of each one that isn't marked.
+fn empty_others(
+    alloc: Global,
+    bundles: &mut [Arc<Bundle, Global>],
+    marks: &[bool],
+) -> Result<(), AllocError>
+    requires { length bundles.old ≤ length marks.now }
+    ensures { AreKept marks.now (map arc_value bundles.old) (map arc_value bundles.new) }
+{
+    let empty = Arc::new(alloc, Bundle::new(alloc))?;
+    for number in 0..bundles.len() {
+        if !marks[number] {
+            bundles[number] = Arc::try_clone(&empty)?;
+        }
+    }
+    Ok(())
+}
+
 /// The directory at a place, where there is one.
 fn found_at<'a>(
     bundles: &'a [Arc<Bundle, Global>],
@@ -266,6 +297,14 @@ impl Dirs {
     {
         self.places = places_put(alloc, self.places.as_slice(), at, end, from)?;
         Ok(())
+    }
+
+    /// Lets go of the bundles that no place names any more; their numbers stay. Linear in the directories.
+    pub(crate) fn let_go(&mut self, alloc: Global) -> Result<(), AllocError>
+        ensures { self.new ≡ self.old }
+    {
+        let marks = named_bundles(alloc, self.places.as_slice(), self.bundles.len() + 1)?;
+        empty_others(alloc, self.bundles.as_mut_slice(), marks.as_slice())
     }
 
     /// Moves each directory to its place, where each has another.

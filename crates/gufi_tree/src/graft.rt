@@ -97,6 +97,7 @@ fn graft_dirs(
     let mut grafted = dirs.again(alloc)?;
     push_all_below(alloc, &mut grafted, &path, part)?;
     grafted.put_in_place(alloc, at, end, dirs.len())?;
+    grafted.let_go(alloc)?;
     Ok(grafted)
 }
 

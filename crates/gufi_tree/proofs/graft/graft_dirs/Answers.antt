@@ -17,7 +17,7 @@ returns c =
     let more : c.push_all_below.new.dirs ≡ ds ++ map (put_below (path_at ds at)) c.args.part.now =
     c.in_ok-push_all_below.ensures ∙ ap (λ (gs : List Directory). gs ++ map (put_below c.path-path.result) c.args.part.now) c.in_ok-grafted.ensures
     ∙ ap (λ (p : Components). ds ++ map (put_below p) c.args.part.now) path in
-    c.in_ok-put_in_place.ensures
+    c.let_go.ensures ∙ c.in_ok-put_in_place.ensures
     ∙ ap (λ (n : ℕ). take at c.push_all_below.new.dirs ++ (drop n c.push_all_below.new.dirs ++ drop end (take n c.push_all_below.new.dirs))) c.len.ensures
     ∙ ap (λ (gs : List Directory). take at gs ++ (drop (length ds) gs ++ drop end (take (length ds) gs))) more
     ∙ put_back ds (map (put_below (path_at ds at)) c.args.part.now) at end (let w = c.requires.at in omega arith)
