@@ -23,6 +23,7 @@ pub mod Below
 pub mod Ranges
 pub mod Grafted
 pub mod GraftShape
+pub mod GraftBelow
 pub mod Joined
 pub mod Kids
 pub mod Entries
