@@ -40,14 +40,14 @@ all_at_place P (x ∷ xs) (suc i) d h lt = all_at_place P xs i d h.1 (omega arit
 
 module _ {X : Type 0} where
   -- a test of all that holds of those that another test leaves out
-  list_all-kept : (p q : X → Bool) (xs : List X) → ((x : X) → q x ≡ false → p x ≡ true) → list_all p xs ≡ list_all p (filter q xs)
+  pub list_all-kept : (p q : X → Bool) (xs : List X) → ((x : X) → q x ≡ false → p x ≡ true) → list_all p xs ≡ list_all p (filter q xs)
   list_all-kept p q [] h = refl
   list_all-kept p q (x ∷ xs) h = by (q x) refl (list_all-kept p q xs h) where
     by : (b : Bool) → q x ≡ b → list_all p xs ≡ list_all p (filter q xs) → (p x && list_all p xs) ≡ list_all p (cond b (x ∷ filter q xs) (filter q xs))
     by true e ih = ap (λ b. p x && b) ih
     by false e ih = ap (λ b. b && list_all p xs) (h x e) ∙ ih
 
-  list_all-same : (p q : X → Bool) (xs : List X) → ((x : X) → Has xs x → p x ≡ q x) → list_all p xs ≡ list_all q xs
+  pub list_all-same : (p q : X → Bool) (xs : List X) → ((x : X) → Has xs x → p x ≡ q x) → list_all p xs ≡ list_all q xs
   list_all-same p q [] h = refl
   list_all-same p q (x ∷ xs) h = ap (λ b. b && list_all p xs) (h x (inl refl)) ∙ ap (λ b. q x && b) (list_all-same p q xs (λ y k. h y (inr k)))
 
@@ -56,7 +56,7 @@ module _ {X Y : Type 0} where
   list_all-flat_map p f [] = refl
   list_all-flat_map p f (x ∷ xs) = list_all-append p (f x) (flat_map f xs) ∙ ap (λ b. list_all p (f x) && b) (list_all-flat_map p f xs)
 
-and_true : (b : Bool) → (b && true) ≡ b
+pub and_true : (b : Bool) → (b && true) ≡ b
 and_true true = refl
 and_true false = refl
 
@@ -80,6 +80,22 @@ list_all-ids_from test g f from (x ∷ xs) h =
           → list_all (λ (id : DirId). g id.0) (cond b (dir_id from ∷ ids_from test (from + 1) xs) (ids_from test (from + 1) xs)) ≡ list_all f (cond b (x ∷ filter test xs) (filter test xs))
       by true e k = ap (λ b. b && list_all (λ (id : DirId). g id.0) (ids_from test (from + 1) xs)) e ∙ ap (λ b. f x && b) k
       by false e k = k
+
+-- what is tested of a directory's subdirectories by their places, and the same by the directories
+pub kids_tested : (tree : List Directory) (g : Components → Bool) (k : ℕ) (d : Directory)
+    → list_all (λ (id : DirId). g (path_at tree id.0) && covers (rights_of (get_or tree k d).rec) (rights_of (get_or tree id.0 d).rec)) (child_ids tree (path_at tree k))
+    ≡ list_all (λ c. g c.path && covers (rights_of (get_or tree k d).rec) (rights_of c.rec)) (subdirs tree (path_at tree k))
+kids_tested tree g k d =
+    list_all-ids_from (λ c. is_child_of (path_at tree k) c.path) (λ j. g (path_at tree j) && covers (rights_of (get_or tree k d).rec) (rights_of (get_or tree j d).rec))
+    (λ c. g c.path && covers (rights_of (get_or tree k d).rec) (rights_of c.rec)) 0 tree (λ j x l e. at_zero j x l e) where
+      at_zero : (j : ℕ) (x : Directory) → j < length tree → x ≡ get_or tree j x
+          → (g (path_at tree (0 + j)) && covers (rights_of (get_or tree k d).rec) (rights_of (get_or tree (0 + j) d).rec)) ≡ (g x.path && covers (rights_of (get_or tree k d).rec) (rights_of x.rec))
+      at_zero j x l e =
+          let z : 0 + j ≡ j = omega arith in
+          let same : get_or tree j d ≡ x = get_or_other tree j d x l ∙ sym e in
+          ap (λ i. g (path_at tree i) && covers (rights_of (get_or tree k d).rec) (rights_of (get_or tree i d).rec)) z
+          ∙ ap (λ (p : Components). g p && covers (rights_of (get_or tree k d).rec) (rights_of (get_or tree j d).rec)) (path_at-get tree j d l)
+          ∙ ap (λ (v : Directory). g v.path && covers (rights_of (get_or tree k d).rec) (rights_of v.rec)) same
 
 -- what is below a child is below its parent
 proper_below : (parent child path : Components) → is_child_of parent child ≡ true → is_prefix child path ≡ true → is_proper_prefix parent path ≡ true
@@ -184,21 +200,12 @@ module _ (tree : List Directory) (shape : HasTreeShape tree) where
       let kid = Has-filter (λ dir. is_child_of own.path dir.path) tree c h in
       covered_with_own c kid.0 ∙ ap (λ b. b && are_covered tree c.path) (covered_by_parent own there c kid.1) ∙ and_flip (covers (rights_of own.rec) (rights_of c.rec)) (are_covered tree c.path))
       ∙ ap (λ (p : Components). list_all test (subdirs tree p)) (sym path)
-      ∙ sym (list_all-ids_from (λ c. is_child_of (path_at tree k) c.path) (λ j. are_covered tree (path_at tree j) && covers (rights_of (get_or tree k d).rec) (rights_of (get_or tree j d).rec)) test 0 tree (λ j x l e. at_zero j x l e)) where
+      ∙ sym (kids_tested tree (are_covered tree) k d) where
         and_flip : (a b : Bool) → (a && b) ≡ (b && a)
         and_flip true true = refl
         and_flip true false = refl
         and_flip false true = refl
         and_flip false false = refl
-
-        at_zero : (j : ℕ) (x : Directory) → j < length tree → x ≡ get_or tree j x
-            → (are_covered tree (path_at tree (0 + j)) && covers (rights_of (get_or tree k d).rec) (rights_of (get_or tree (0 + j) d).rec)) ≡ (are_covered tree x.path && covers (rights_of (get_or tree k d).rec) (rights_of x.rec))
-        at_zero j x l e =
-            let z : 0 + j ≡ j = omega arith in
-            let same : get_or tree j d ≡ x = get_or_other tree j d x l ∙ sym e in
-            ap (λ i. are_covered tree (path_at tree i) && covers (rights_of (get_or tree k d).rec) (rights_of (get_or tree i d).rec)) z
-            ∙ ap (λ (p : Components). are_covered tree p && covers (rights_of (get_or tree k d).rec) (rights_of (get_or tree j d).rec)) (path_at-get tree j d l)
-            ∙ ap (λ (v : Directory). are_covered tree v.path && covers (rights_of (get_or tree k d).rec) (rights_of v.rec)) same
 
 -- a subdirectory more
 module _ (tree : List Directory) (shape : HasTreeShape tree) (k : ℕ) (lt : k < length tree) (ids : List DirId) (are : ids ≡ child_ids tree (path_at tree k)) (found : List Below) (behind : AreBelow tree (k + 1) found)

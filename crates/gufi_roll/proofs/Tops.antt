@@ -63,7 +63,7 @@ leb-true a b e = elim (leb_tells a b) [
   | inr fails ↦ absurd (true≢false (sym e ∙ fails.0))
 ]
 
-prefix_trans : (a p x : Components) → is_prefix a p ≡ true → is_prefix p x ≡ true → is_prefix a x ≡ true
+pub prefix_trans : (a p x : Components) → is_prefix a p ≡ true → is_prefix p x ≡ true → is_prefix a x ≡ true
 prefix_trans [] p x h k = refl
 prefix_trans (n ∷ a) [] x h k = absurd (false≢true h)
 prefix_trans (n ∷ a) (m ∷ p) [] h k = absurd (false≢true k)

@@ -1,8 +1,10 @@
 -- What is known at and below a directory.
-use Rattle.std.specs.Prelude.{◌≡◌, ℕ, ◌≤◌, ◌<◌, Bool, not, ◌||◌, List, [], filter, take, length, slice_index_or, Option, None, Some}
+use Rattle.std.specs.Prelude.{◌≡◌, ℕ, ◌≤◌, ◌<◌, Bool, false, not, ◌&&◌, ◌||◌, List, [], filter, take, length, slice_index_or, Option, None, Some}
 use Rattle.std.specs.List.{list_all, flat_map}
 use Rattle.gufi_base.specs.Paths.{Components, is_proper_prefix}
-use Rattle.gufi_tree.specs.Tree.{Directory, own_rows}
+use Rattle.gufi_access.specs.Tried.{covers}
+use Rattle.gufi_tree.specs.declared.tree.DirId.{DirId}
+use Rattle.gufi_tree.specs.Tree.{Directory, rights_of, own_rows}
 use Rattle.gufi_tree.specs.Places.{path_at}
 use Rattle.gufi_roll.specs.declared.report.RollReport.{RollReport}
 use Rattle.gufi_roll.specs.declared.below.Below.{Below}
@@ -38,3 +40,13 @@ pub record IsReport (tree : List Directory) (flags : List Bool) (place : ℕ) (r
 pub record AreKnown (tree : List Directory) (limit : ℕ) (known : List (Option Bool)) : Type 0 where
   pub len : length known ≡ length tree
   pub each : (place : ℕ) (flag : Bool) → place < length tree → slice_index_or known place None ≡ Some flag → flag ≡ can_roll tree limit (path_at tree place)
+
+-- The flags of the directories from a place on.
+pub record AreFlagsFrom (tree : List Directory) (limit from : ℕ) (flags : List Bool) : Type 0 where
+  pub len : length flags ≡ length tree
+  pub each : (place : ℕ) → from ≤ place → place < length tree → slice_index_or flags place false ≡ can_roll tree limit (path_at tree place)
+
+-- a subdirectory's flag is set, and its directory covers it
+abbrev pub is_child_flagged : List Directory → List Bool → ℕ → Directory → DirId → Bool
+is_child_flagged tree flags place d id =
+    slice_index_or flags id.0 false && covers (rights_of (slice_index_or tree place d).rec) (rights_of (slice_index_or tree id.0 d).rec)

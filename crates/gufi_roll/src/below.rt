@@ -36,7 +36,7 @@ fn is_open(guard: &Guard) -> bool
 }
 
 /// Whether a guard covers another; no principal is tried where the two are equal or everyone may list the other.
-fn covers_next(parent: &Guard, child: &Guard) -> bool
+pub(crate) fn covers_next(parent: &Guard, child: &Guard) -> bool
     ensures { result ≡ covers (rights parent.now) (rights child.now) }
 {
     if is_open(child) {

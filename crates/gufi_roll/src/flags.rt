@@ -25,7 +25,7 @@ pub fn roll(alloc: Global, tree: &Tree, limit: u64) -> Result<Vec<bool>, Memory>
 }
 
 /// The flags under limit 0.
-fn none_rolled(alloc: Global, tree: &Tree) -> Result<Vec<bool>, AllocError>
+pub(crate) fn none_rolled(alloc: Global, tree: &Tree) -> Result<Vec<bool>, AllocError>
     ensures { IfOk result (λ flags. flags.items ≡ roll_flags tree.now 0) }
 {
     Vec::from_elem(alloc, false, tree.dirs() as usize)
