@@ -1,9 +1,11 @@
 -- Steps of a formula give it back, and its truth.
-use Rattle.std.proofs.Common.{◌≡◌, ℕ, zero, suc, Bool, true, false, List, [], ◌∷◌, ◌++◌, length, drop, refl, sym, ap, ◌∙◌, append_assoc, append-nil, arith}
+use Rattle.std.proofs.Common.{◌≡◌, ℕ, zero, suc, Bool, true, false, List, [], ◌∷◌, ◌++◌, length, drop, refl, sym, ap, ap₂, ◌∙◌, append_assoc, append-nil, arith}
 use Rattle.std.specs.Prelude.{◌&&◌, ◌||◌}
 use Rattle.std.specs.Prelude.{Some, None}
-use Rattle.gufi_formula.specs.Formulas.{Formula, test, negation, both, either, holds, only_test}
-use Rattle.gufi_formula.specs.Steps.{first_of, steps_of, run, with_steps, newest_or, formula_in, IsKept}
+use Rattle.std.specs.List.{list_all}
+use Rattle.std.proofs.lemmas.List.Folds.{list_all-append}
+use Rattle.gufi_formula.specs.Formulas.{Formula, test, negation, both, either, holds, is_positive, only_test}
+use Rattle.gufi_formula.specs.Steps.{first_of, steps_of, run, with_steps, newest_or, formula_in, is_no_inversion, IsKept}
 use Rattle.gufi_formula.specs.declared.step.Step.{Step}
 use Rattle.gufi_formula.specs.declared.step.Step.TheVariants.{Invert, IfTrue, IfFalse, BothEnd, EitherEnd}
 
@@ -80,6 +82,30 @@ module _ {A : Type 0} where
     by : (f : Formula A) → steps_of f ≡ steps → only_test f ≡ None
     by (test a) e = absurd (more (sym (ap length e)))
     by _ e = refl
+
+  -- two operands, with steps between and behind them that turn nothing round
+  pair : (f g : Formula A) (skip mark : Step A) → is_no_inversion skip ≡ true → is_no_inversion mark ≡ true → list_all is_no_inversion (steps_of f) ≡ is_positive f → list_all is_no_inversion (steps_of g) ≡ is_positive g
+      → list_all is_no_inversion (steps_of f ++ (skip ∷ (steps_of g ++ mark ∷ []))) ≡ is_positive f && is_positive g
+  pair f g skip mark s m left right =
+      list_all-append is_no_inversion (steps_of f) (skip ∷ (steps_of g ++ mark ∷ []))
+      ∙ ap₂ (λ (a : Bool) (b : Bool). a && (b && list_all is_no_inversion (steps_of g ++ mark ∷ []))) left s
+      ∙ ap (λ (b : Bool). is_positive f && b) (list_all-append is_no_inversion (steps_of g) (mark ∷ []) ∙ ap₂ (λ (a : Bool) (b : Bool). a && (b && true)) right m ∙ and-true (is_positive g)) where
+        and-true : (b : Bool) → b && true ≡ b
+        and-true true = refl
+        and-true false = refl
+
+  -- the steps of a formula without a negation turn nothing round
+  positive_steps : (f : Formula A) → list_all is_no_inversion (steps_of f) ≡ is_positive f
+  positive_steps (test a) = refl
+  positive_steps (negation f) = list_all-append is_no_inversion (steps_of f) (Invert ∷ []) ∙ last (list_all is_no_inversion (steps_of f)) where
+    last : (b : Bool) → b && false ≡ false
+    last true = refl
+    last false = refl
+  positive_steps (both f g) = pair f g (IfTrue (first_of g) (length (steps_of g))) BothEnd refl refl (positive_steps f) (positive_steps g)
+  positive_steps (either f g) = pair f g (IfFalse (first_of g) (length (steps_of g))) EitherEnd refl refl (positive_steps f) (positive_steps g)
+
+  pub kept_positive : (first : A) (steps : List (Step A)) → IsKept first steps → list_all is_no_inversion steps ≡ is_positive (formula_in first steps)
+  kept_positive first steps is = ap (list_all is_no_inversion) (sym is.steps_are) ∙ positive_steps (formula_in first steps)
 
   module _ (truth : A → Bool) where
     run_skip : (now : Bool) (front rest : List (Step A)) → run truth now (length front) (front ++ rest) ≡ run truth now 0 rest

@@ -17,6 +17,11 @@ steps_of (negation f) = steps_of f ++ Invert ∷ []
 steps_of (both f g) = steps_of f ++ (IfTrue (first_of g) (length (steps_of g)) ∷ (steps_of g ++ BothEnd ∷ []))
 steps_of (either f g) = steps_of f ++ (IfFalse (first_of g) (length (steps_of g)) ∷ (steps_of g ++ EitherEnd ∷ []))
 
+-- the step keeps what holds so far from being turned round
+abbrev pub is_no_inversion : {A : Type 0} → Step A → Bool
+is_no_inversion Invert = false
+is_no_inversion step = true
+
 -- the truth in the end; the number says how many steps are passed over
 abbrev pub run : {A : Type 0} → (A → Bool) → Bool → ℕ → List (Step A) → Bool
 run truth now skip [] = now

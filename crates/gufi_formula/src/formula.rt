@@ -1,5 +1,5 @@
 //! Formulas of tests, kept as steps.
-use crate::step::{Step, run};
+use crate::step::{Step, has_no_inversion, run};
 use crate::valuation::Valuation;
 use std::alloc::{AllocError, Global};
 use std::marker::Model;
@@ -86,7 +86,7 @@ impl<T: Drop> Formula<T> {
 
 impl<T> Formula<T> {
     ghost use Rattle.std.specs.Prelude.{◌≡◌, Some, None, MatchOption};
-    ghost use Rattle.gufi_formula.specs.Formulas.{holds, only_test};
+    ghost use Rattle.gufi_formula.specs.Formulas.{holds, is_positive, only_test};
 
     /// Its test, where it is no more than one.
     #[tactic(auto, using(crate::proofs::Running::kept_alone, crate::proofs::Running::kept_more))]
@@ -98,6 +98,14 @@ impl<T> Formula<T> {
         } else {
             None
         }
+    }
+
+    /// Whether it has no negation. Looks at each of its steps.
+    #[tactic(auto, using(crate::proofs::Running::kept_positive))]
+    pub fn is_positive(&self) -> bool
+        ensures { result ≡ is_positive self.now }
+    {
+        has_no_inversion(self.steps.as_slice())
     }
 
     /// Whether it is true where its tests have these truths.

@@ -1,6 +1,7 @@
 //! The steps of a formula.
 ghost use Rattle.std.specs.Prelude.{◌≡◌};
-ghost use Rattle.gufi_formula.specs.Steps.{run};
+ghost use Rattle.std.specs.List.{list_all};
+ghost use Rattle.gufi_formula.specs.Steps.{run, is_no_inversion};
 
 use crate::valuation::Valuation;
 use gufi_base::{behind, split_first};
@@ -17,6 +18,18 @@ pub enum Step<T> {
     /// The end of an "and" and of an "or".
     BothEnd,
     EitherEnd,
+}
+
+/// Whether no step turns the truth round.
+pub(crate) fn has_no_inversion<T>(steps: &[Step<T>]) -> bool
+    ensures { result ≡ list_all is_no_inversion steps.now }
+{
+    for step in steps {
+        if let Step::Invert = step {
+            return false;
+        }
+    }
+    true
 }
 
 /// The truth in the end, from that of the first test.

@@ -1,5 +1,6 @@
 pub mod Patterns
 pub mod Columns
+pub mod Depths
 pub mod Parts
 pub mod Names
 pub mod Tokens

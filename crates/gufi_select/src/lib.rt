@@ -6,6 +6,7 @@
 
 mod column;
 mod condition;
+mod depth;
 mod fault;
 mod laws;
 mod operator;

@@ -17,7 +17,7 @@ pub struct Select {
     pub(crate) columns: Vec<Column>,
     table: Table,
     regexp: Option<Regexp>,
-    condition: Option<Formula<Condition>>,
+    pub(crate) condition: Option<Formula<Condition>>,
 }
 
 impl Model for Select {

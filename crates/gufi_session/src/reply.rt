@@ -25,7 +25,7 @@ use gufi_plan::{Query, Search, SharedSearch};
 use gufi_rows::{PathList, RowList};
 use gufi_select::{Select, SelectLine};
 use gufi_snap::Snapshot;
-use gufi_sums::{NoDeeper, NoSkip, Summary};
+use gufi_sums::{NoDeeper, Summary};
 use gufi_walk::{
     Refusal, Walkers, answer_list, answer_paths, answer_sum, answer_total, put_refusal,
 };
@@ -175,7 +175,10 @@ fn put_selected<R: Threads + Wait + Sync, G: Gate + Sync>(
     ensures { OnOk result (text.new.items ≡ text.old.items ++ answer_or (record { who = who.now; start = start.now; query = Selects select.now }) (reply_rows snap.now.tree who.now start.now (select_holds select.now))) }
 {
     let question = select.question();
-    match answer_list(walkers, alloc, snap, who, start, &question, &NoSkip) {
+    let skip = NoDeeper {
+        than: select.max_depth(),
+    };
+    match answer_list(walkers, alloc, snap, who, start, &question, &skip) {
         Ok(rows) => put_rows(alloc, text, rows, select, start),
         Err(Refusal::Memory) => Err(Memory),
         Err(refusal) => put_refused(text, refusal),

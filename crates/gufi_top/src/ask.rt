@@ -227,7 +227,10 @@ pub(crate) fn query_text<R: Threads + Wait + Sync, G: Gate + Sync>(
         above: start.depth(),
     };
     let question = select.question();
-    match answer_list(walkers, alloc, snap, who, start, &question, &NoSkip) {
+    let skip = NoDeeper {
+        than: select.max_depth(),
+    };
+    match answer_list(walkers, alloc, snap, who, start, &question, &skip) {
         Ok(rows) => {
             let mut text = Vec::new(alloc);
             rows.put_lines(alloc, &line, &mut text)?;

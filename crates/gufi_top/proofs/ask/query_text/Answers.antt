@@ -6,6 +6,7 @@ use Rattle.gufi_base.specs.Rows.{depth_below}
 use Rattle.gufi_select.specs.Columns.{projected, select_holds, select_lines}
 use Rattle.gufi_select.proofs.Searching.{select_tester_send}
 use Rattle.gufi_select.proofs.Sharing.{question_sync}
+use Rattle.gufi_sums.specs.Depths.{within_from}
 use Rattle.gufi_walk.specs.Answer.{answer}
 use Rattle.gufi_top.specs.Asks.{query_ask}
 use Rattle.gufi_top.proofs.AskLemmas.{replies_found, replies_refused}
@@ -18,6 +19,11 @@ answer_list-requires-sync-P g c κs = search (question_sync, sendable) depth 10
 -- and each thread may be sent a tester of it
 pub answer_list-requires-send-P-Tester : goal.answer_list-requires-send-P-Tester
 answer_list-requires-send-P-Tester g c κs within = search (select_tester_send, sendable) depth 10
+
+-- no row lies deeper than the SELECT allows
+pub answer_list-requires-clause-query : goal.answer_list-requires-clause-query
+answer_list-requires-clause-query g c κs within = λ row depth met.
+    within_from c.max_depth.result depth (λ most is. c.max_depth.ensures.bounded most is row depth (rw c.question-question.ensures at met))
 
 pub returns-in_ok-put_lines-in-Ok : goal.returns-in_ok-put_lines-in-Ok
 returns-in_ok-put_lines-in-Ok g c =
