@@ -4,7 +4,7 @@ use Rattle.std.specs.List.{AllByRecursion, flat_map}
 use Rattle.std.specs.List.Sorted.{IsPermutation}
 use Rattle.std.proofs.lemmas.Bool.{cases_order}
 use Rattle.std.proofs.lemmas.Grind.{flat_map-append}
-use Rattle.std.proofs.lemmas.List.{take_more, take_all, map-append, append-nil, length-map, get_or_push, get_or_append_left, get_or-set_same, get_or-set_other}
+use Rattle.std.proofs.lemmas.List.{take_more, take_all, map-append, append-nil, length-map, get_or_push, get_or_append_left, get_or-set_same, get_or-set_other, length-set}
 use Rattle.std.proofs.lemmas.List.Folds.{length-flat_map-take}
 use Rattle.std.proofs.lemmas.List.Sorted.{IsPermutation-sym, length_permutation}
 use Rattle.gufi_base.specs.declared.record.Meta.{Meta}
@@ -15,9 +15,10 @@ use Rattle.gufi_tree.specs.declared.tree.Entry.{Entry}
 use Rattle.gufi_tree.specs.Tree.{Directory, own_rows, entry_row, HasTreeShape}
 use Rattle.gufi_tree.specs.Places.{path_at, child_ids}
 use Rattle.gufi_tree.proofs.Built.{All-Has}
-use Rattle.gufi_tree.proofs.Kids.{Has-get_or, IsLater, kids_later, rows_under, rows_under-few, rows_under-step}
-use Rattle.gufi_snap.specs.SumsByPlace.{AreUnderFrom}
+use Rattle.gufi_tree.proofs.Kids.{at_place, Has-get_or, IsLater, kids_later, rows_under, rows_under-few, rows_under-step}
+use Rattle.gufi_snap.specs.SumsByPlace.{AreUnderFrom, AreSumsFrom}
 use Rattle.gufi_sums.specs.declared.summary.Summary.{Summary}
+use Rattle.gufi_sums.specs.SumLists.{SumLists}
 use Rattle.gufi_sums.specs.Total.{total, empty, add, join, rows_in, IsBounded, IsTotal}
 use Rattle.gufi_sums.specs.Laws.{total_of-nil, total-add, total-append, IsTotal-counted, IsTotal-reordered}
 
@@ -72,9 +73,36 @@ under_set tree sums sum n within under own k s h g = elim (cases_order k n) [
   | inr (inr l) ↦ subst (λ (x : Summary). IsTotal x (rows_under tree (path_at tree k))) (sym (get_or-set_other sums n k sum s (λ e. omega arith))) (under k s (omega arith) g)
 ]
 
-pub own_kept : (tree : List Directory) (sums : List Summary) (sum : Summary) (n : ℕ) → ((k : ℕ) (d : Directory) (s : Summary) → k < n + 1 → IsTotal (get_or sums k s) (own_rows (get_or tree k d)))
-    → (k : ℕ) (d : Directory) (s : Summary) → k < n → IsTotal (get_or (set sums n sum) k s) (own_rows (get_or tree k d))
-own_kept tree sums sum n own k d s h = subst (λ (x : Summary). IsTotal x (own_rows (get_or tree k d))) (sym (get_or-set_other sums n k sum s (λ e. omega arith))) (own k d s (omega arith))
+-- so in both lists
+pub sums_put : (tree : List Directory) (sums : SumLists) (sum : Summary) (n : ℕ) → n < length tree → AreSumsFrom tree (n + 1) sums → IsTotal sum (rows_under tree (path_at tree n))
+    → AreSumsFrom tree n (record { own = sums.own; below = set sums.below n sum })
+sums_put tree sums sum n within old is = record {
+  own = old.own;
+  len = length-set sums.below n sum ∙ old.len;
+  under = under_set tree sums.below sum n (let e = old.len in omega arith) old.under is;
+  before = λ k s h. get_or-set_other sums.below n k sum s (λ e. omega arith) ∙ old.before k s (omega arith);
+}
+
+-- a directory with none below it has the same rows of its own as at and below it
+leaf_total : (tree : List Directory) (k : ℕ) (d : Directory) (sum : Summary) → HasTreeShape tree → k < length tree → child_ids tree (path_at tree k) ≡ [] → IsTotal sum (own_rows (get_or tree k d)) → IsTotal sum (rows_under tree (path_at tree k))
+leaf_total tree k d sum shape within leaf h =
+    let rows : List DirId → List Row = λ ids. own_rows (get_or tree k d) ++ flat_map (λ id. rows_under tree (path_at tree id.0)) ids in
+    IsTotal-reordered sum (rows (child_ids tree (path_at tree k))) _ (IsPermutation-sym _ _ (rows_under-step tree shape k d within))
+    (subst (λ ids. IsTotal sum (rows ids)) (sym leaf) (subst (IsTotal sum) (sym (append-nil (own_rows (get_or tree k d)))) h))
+
+pub sums_leaf : (tree : List Directory) (sums : SumLists) (n : ℕ) → HasTreeShape tree → n < length tree → child_ids tree (path_at tree n) ≡ [] → AreSumsFrom tree (n + 1) sums → AreSumsFrom tree n sums
+sums_leaf tree sums n shape within leaf old = record {
+  own = old.own;
+  len = old.len;
+  under = λ k s h g. elim (cases_order k n) [
+    | inl e ↦ (let d = (at_place tree n within).0 in
+        subst (λ i. IsTotal (get_or sums.below i s) (rows_under tree (path_at tree i))) (sym e)
+        (leaf_total tree n d (get_or sums.below n s) shape within leaf (subst (λ (x : Summary). IsTotal x (own_rows (get_or tree n d))) (sym (old.before n s (omega arith))) (old.own.each n d s within))))
+    | inr (inl l) ↦ absurd (omega arith)
+    | inr (inr l) ↦ old.under k s (omega arith) g
+  ];
+  before = λ k s h. old.before k s (omega arith);
+}
 
 module _ (tree : List Directory) (shape : HasTreeShape tree) (few : length (flat_map own_rows tree) < 2 ^ 32) (k : ℕ) (within : k < length tree) (ids : List DirId) (same : ids ≡ child_ids tree (path_at tree k)) where
   abbrev pub kid_rows : List DirId → List Row

@@ -1,4 +1,3 @@
 pub mod Growing
 pub mod Pieces
 pub mod Ranges
-pub mod Inner

@@ -10,10 +10,10 @@ ghost use Rattle.gufi_store.specs.Scan.{is_met};
 ghost use Rattle.gufi_sums.specs.Total.{IsTotal};
 
 use crate::stores::sum_stores;
-use crate::sums::{InnerSums, add_below, inner_sums};
+use crate::sums::add_below;
 use gufi_base::{Memory, Steps, Tester, Yield};
 use gufi_store::{DirStore, scan_fold};
-use gufi_sums::Summary;
+use gufi_sums::{SharedSums, Summary};
 use gufi_tree::{DirId, DirRange, Tree};
 use std::alloc::Global;
 use std::marker::Model;
@@ -25,8 +25,7 @@ use std::sync::ledger::Ledger;
 #[derive(Drop)]
 pub(crate) struct Contents {
     tree: Tree,
-    own: InnerSums,
-    tree_sums: Vec<Summary>,
+    sums: SharedSums,
 }
 
 impl Model for Contents {
@@ -39,7 +38,7 @@ impl Model for Contents {
 
     ghost view = { λ c. c.tree };
 
-    ghost invariant = { λ c. IsContents c.tree c.own.sums.items c.own.places.items c.tree_sums.items };
+    ghost invariant = { λ c. IsContents c.tree c.sums };
 }
 
 impl Contents {
@@ -53,14 +52,9 @@ impl Contents {
         ensures ticks { OnOk result (steps.new ≡ steps.old + length tree) }
         ensures at_most { steps.new ≤ steps.old + length tree }
     {
-        let mut tree_sums = sum_stores(alloc, &tree, steps)?;
-        let own = inner_sums(alloc, &tree, &tree_sums)?;
-        add_below(&tree, &mut tree_sums);
-        Ok(Contents {
-            tree,
-            own,
-            tree_sums,
-        })
+        let mut sums = sum_stores(alloc, &tree, steps)?;
+        add_below(alloc, &tree, &mut sums)?;
+        Ok(Contents { tree, sums })
     }
 
     pub(crate) fn tree(&self) -> &Tree
@@ -75,19 +69,14 @@ impl Contents {
         requires { id.0 < length self.now }
         ensures { IsTotal result.now (home_rows self.now (path_at self.now id.0)) }
     {
-        let place = self.own.places[id.0 as usize] as usize;
-        if place < self.own.sums.len() {
-            &self.own.sums[place]
-        } else {
-            &self.tree_sums[id.0 as usize]
-        }
+        self.sums.own(id.0 as usize)
     }
 
     pub(crate) fn tree_sum(&self, id: DirId) -> &Summary
         requires { id.0 < length self.now }
         ensures { IsTotal result.now (subtree_rows self.now (path_at self.now id.0)) }
     {
-        &self.tree_sums[id.0 as usize]
+        self.sums.below(id.0 as usize)
     }
 
     /// The stores of a directory and of all below it, which stand side by side. Its sum says how many they are.

@@ -8,9 +8,9 @@ ghost use Rattle.gufi_tree.specs.Places.{path_at, child_ids};
 ghost use Rattle.gufi_sums.specs.declared.summary.Summary.{Summary as Sum};
 ghost use Rattle.gufi_sums.specs.Total.{rows_in, IsBounded, IsTotal};
 ghost use Rattle.gufi_tree.proofs.Kids.{rows_under};
-ghost use Rattle.gufi_snap.specs.SumsByPlace.{AreOwn, AreUnderFrom, AreInner};
+ghost use Rattle.gufi_snap.specs.SumsByPlace.{AreOwn, AreUnderFrom, AreSumsFrom};
 
-use gufi_sums::Summary;
+use gufi_sums::{SharedSums, Summary};
 use gufi_tree::{DirId, DirRef, EntriesRef, Tree};
 use std::alloc::{AllocError, Global};
 
@@ -38,86 +38,48 @@ pub(crate) fn own_sum(dir: &DirRef<'_>) -> Summary
 }
 
 /// The sum of the rows at and below a directory, from its own and those of the directories behind it.
-fn sum_under(tree: &Tree, id: DirId, sums: &[Summary]) -> Summary
+fn sum_under(tree: &Tree, id: DirId, sums: &SharedSums) -> Summary
     requires id { id.0 < length tree.now }
-    requires len { length sums.now ≡ length tree.now }
     requires few { length (flat_map own_rows tree.now) < 2 ^ 32 }
     requires shape { HasTreeShape tree.now }
-    requires own { (d : Directory) (s : Sum) → IsTotal (slice_index_or sums.now id.0 s) (own_rows (slice_index_or tree.now id.0 d)) }
-    requires behind { AreUnderFrom tree.now (id.0 + 1) sums.now }
+    requires own { AreOwn tree.now sums.now.own }
+    requires len { length sums.now.below ≡ length tree.now }
+    requires behind { AreUnderFrom tree.now (id.0 + 1) sums.now.below }
     ensures { IsTotal result (rows_under tree.now (path_at tree.now id.0)) }
 {
-    let mut sum = sums[id.0 as usize];
+    let mut sum = *sums.own(id.0 as usize);
     for kid in tree.subdirs(id) {
-        sum.join(&sums[kid.0 as usize]);
+        sum.join(sums.below(kid.0 as usize));
     }
     sum
 }
 
-/// Makes sums of directories' own rows those of the rows at and below them. One pass, from the last directory on.
-pub(crate) fn add_below(tree: &Tree, sums: &mut Vec<Summary>)
+/// Puts the sum of the rows at and below a directory. Without a directory below it, that of its own rows stands there already.
+fn put_under(alloc: Global, tree: &Tree, id: DirId, sums: &mut SharedSums) -> Result<(), AllocError>
+    requires id { id.0 < length tree.now }
     requires few { length (flat_map own_rows tree.now) < 2 ^ 32 }
     requires shape { HasTreeShape tree.now }
-    requires own { AreOwn tree.now sums.old.items }
-    ensures len { length sums.new.items ≡ length tree.now }
-    ensures under { AreUnderFrom tree.now 0 sums.new.items }
+    requires sums { AreSumsFrom tree.now (id.0 + 1) sums.old }
+    ensures { OnOk result (AreSumsFrom tree.now id.0 sums.new) }
+{
+    if tree.subdirs(id).is_empty() {
+        return Ok(());
+    }
+    let sum = sum_under(tree, id, sums);
+    sums.put_below(alloc, id.0 as usize, sum)
+}
+
+/// Makes sums of directories' own rows those of the rows at and below them. One pass, from the last directory on.
+pub(crate) fn add_below(alloc: Global, tree: &Tree, sums: &mut SharedSums) -> Result<(), AllocError>
+    requires few { length (flat_map own_rows tree.now) < 2 ^ 32 }
+    requires shape { HasTreeShape tree.now }
+    requires sums { AreSumsFrom tree.now (length tree.now) sums.old }
+    ensures { OnOk result (AreSumsFrom tree.now 0 sums.new) }
 {
     let mut left = tree.dirs();
     while left > 0 {
         left -= 1;
-        let sum = sum_under(tree, DirId(left), sums);
-        sums[left as usize] = sum;
+        put_under(alloc, tree, DirId(left), sums)?;
     }
-}
-
-/// The place of no sum.
-const NOWHERE: u32 = u32::MAX;
-
-/// The sums of the own rows of directories that have directories below them, and the place of each directory's.
-///
-/// Without one below it a directory has the same rows of its own as at and below it, and needs no second sum.
-#[derive(Drop)]
-pub(crate) struct InnerSums {
-    pub(crate) sums: Vec<Summary>,
-    pub(crate) places: Vec<u32>,
-}
-
-/// Keeps the own sum of the next directory, where it has directories below it.
-fn keep_inner(
-    tree: &Tree,
-    id: DirId,
-    own: &[Summary],
-    inner: &mut InnerSums,
-) -> Result<(), AllocError>
-    requires id { id.0 < length tree.now }
-    requires own { AreOwn tree.now own.now }
-    requires inner { AreInner tree.now inner.old.sums.items inner.old.places.items id.0 }
-    ensures { OnOk result (AreInner tree.now inner.new.sums.items inner.new.places.items (id.0 + 1)) }
-{
-    if tree.subdirs(id).is_empty() {
-        inner.places.push(NOWHERE)?;
-        return Ok(());
-    }
-    inner.places.push(inner.sums.len() as u32)?;
-    inner.sums.push(own[id.0 as usize])?;
     Ok(())
-}
-
-/// The own sums that are kept beside those of the rows at and below each directory.
-pub(crate) fn inner_sums(
-    alloc: Global,
-    tree: &Tree,
-    own: &[Summary],
-) -> Result<InnerSums, AllocError>
-    requires { AreOwn tree.now own.now }
-    ensures { IfOk result (λ inner. AreInner tree.now inner.sums.items inner.places.items (length tree.now)) }
-{
-    let mut inner = InnerSums {
-        sums: Vec::new(alloc),
-        places: Vec::with_capacity(alloc, tree.dirs() as usize)?,
-    };
-    for place in 0..tree.dirs() {
-        keep_inner(tree, DirId(place), own, &mut inner)?;
-    }
-    Ok(inner)
 }

@@ -7,6 +7,7 @@ use Rattle.gufi_snap.proofs.stores.sum_stores.Given as goal
 abbrev pub invariant-loop-place : goal.invariant-loop-place
 invariant-loop-place g l = record {
   ticks : l.steps ≡ l.fn.steps + l.place;
-  len : length l.sums.items ≡ l.place;
-  each : (k : ℕ) (d : Directory) (s : Summary) → k < l.place → IsTotal (get_or l.sums.items k s) (own_rows (get_or l.tree k d));
+  len : length l.sums.own ≡ l.place;
+  both : l.sums.below ≡ l.sums.own;
+  each : (k : ℕ) (d : Directory) (s : Summary) → k < l.place → IsTotal (get_or l.sums.own k s) (own_rows (get_or l.tree k d));
 }
