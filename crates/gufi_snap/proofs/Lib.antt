@@ -1,3 +1,6 @@
 pub mod Growing
 pub mod Pieces
 pub mod Ranges
+pub mod Ancestors
+pub mod Spliced
+pub mod Raised

@@ -1,5 +1,6 @@
 -- Sums by places, as they are made.
-use Rattle.std.specs.Prelude.{◌≡◌, ℕ, ◌≤◌, ◌<◌, List, length, slice_index_or}
+use Rattle.std.specs.Prelude.{◌≡◌, ◌⊎◌, ℕ, false, ◌≤◌, ◌<◌, List, length, slice_index_or}
+use Rattle.gufi_base.specs.Paths.{Components, is_prefix}
 use Rattle.gufi_tree.specs.Tree.{Directory, own_rows}
 use Rattle.gufi_tree.specs.Places.{path_at}
 use Rattle.gufi_tree.proofs.Kids.{rows_under}
@@ -22,3 +23,9 @@ pub record AreSumsFrom (tree : List Directory) (from : ℕ) (sums : SumLists) : 
   pub len : length sums.below ≡ length tree
   pub under : AreUnderFrom tree from sums.below
   pub before : (k : ℕ) (s : Summary) → k < from → slice_index_or sums.below k s ≡ slice_index_or sums.own k s
+
+-- The sums of all directories' own rows; and of the rows at and below each directory, but for those before a place that lead to a path.
+pub record AreSumsBut (tree : List Directory) (path : Components) (from : ℕ) (sums : SumLists) : Type 0 where
+  pub own : AreOwn tree sums.own
+  pub len : length sums.below ≡ length tree
+  pub each : (k : ℕ) (s : Summary) → k < length tree → (from ≤ k) ⊎ (is_prefix (path_at tree k) path ≡ false) → IsTotal (slice_index_or sums.below k s) (rows_under tree (path_at tree k))

@@ -5,12 +5,13 @@ ghost use Rattle.std.specs.List.{flat_map};
 ghost use Rattle.gufi_base.specs.declared.record.Row.{Row};
 ghost use Rattle.gufi_base.specs.Paths.{is_prefix};
 ghost use Rattle.gufi_tree.specs.Tree.{own_rows, home_rows, subtree_rows, HasTreeShape};
+ghost use Rattle.gufi_tree.specs.Graft.{graft};
 ghost use Rattle.gufi_tree.specs.Places.{path_at};
 ghost use Rattle.gufi_store.specs.Scan.{is_met};
 ghost use Rattle.gufi_sums.specs.Total.{IsTotal};
 
 use crate::stores::sum_stores;
-use crate::sums::add_below;
+use crate::sums::{add_above, add_below};
 use gufi_base::{Memory, Steps, Tester, Yield};
 use gufi_store::{DirStore, scan_fold};
 use gufi_sums::{SharedSums, Summary};
@@ -54,6 +55,29 @@ impl Contents {
     {
         let mut sums = sum_stores(alloc, &tree, steps)?;
         add_below(alloc, &tree, &mut sums)?;
+        Ok(Contents { tree, sums })
+    }
+
+    /// The tree in which a directory and all below it, so many in all, are replaced by another tree, with its sums.
+    ///
+    /// Rows and sums outside and of the part are shared. Only the directories above it are summed again.
+    pub(crate) fn refreshed(
+        &self,
+        alloc: Global,
+        at: DirId,
+        count: u32,
+        part: &Contents,
+    ) -> Result<Contents, Memory>
+        requires within { at.0 < length self.now }
+        requires count { count ≡ length (filter (λ dir. is_prefix (path_at self.now at.0) dir.path) self.now) }
+        requires few { length (flat_map own_rows (graft self.now (path_at self.now at.0) part.now)) < 2 ^ 32 }
+        ensures { IfOk result (λ contents. contents ≡ graft self.now (path_at self.now at.0) part.now) }
+    {
+        let tree = self.tree.graft(alloc, at, count, &part.tree)?;
+        let first = at.0 as usize;
+        let end = first + count as usize;
+        let mut sums = self.sums.spliced(alloc, first, end, &part.sums)?;
+        add_above(alloc, &tree, at, &mut sums)?;
         Ok(Contents { tree, sums })
     }
 

@@ -8,7 +8,7 @@ ghost use Rattle.gufi_tree.specs.Places.{path_at, child_ids};
 ghost use Rattle.gufi_sums.specs.declared.summary.Summary.{Summary as Sum};
 ghost use Rattle.gufi_sums.specs.Total.{rows_in, IsBounded, IsTotal};
 ghost use Rattle.gufi_tree.proofs.Kids.{rows_under};
-ghost use Rattle.gufi_snap.specs.SumsByPlace.{AreOwn, AreUnderFrom, AreSumsFrom};
+ghost use Rattle.gufi_snap.specs.SumsByPlace.{AreOwn, AreUnderFrom, AreSumsFrom, AreSumsBut};
 
 use gufi_sums::{SharedSums, Summary};
 use gufi_tree::{DirId, DirRef, EntriesRef, Tree};
@@ -80,6 +80,28 @@ pub(crate) fn add_below(alloc: Global, tree: &Tree, sums: &mut SharedSums) -> Re
     while left > 0 {
         left -= 1;
         put_under(alloc, tree, DirId(left), sums)?;
+    }
+    Ok(())
+}
+
+/// Puts the sums of the rows at and below each directory above one. One step up at a time: nothing else is summed.
+pub(crate) fn add_above(
+    alloc: Global,
+    tree: &Tree,
+    at: DirId,
+    sums: &mut SharedSums,
+) -> Result<(), AllocError>
+    requires id { at.0 < length tree.now }
+    requires few { length (flat_map own_rows tree.now) < 2 ^ 32 }
+    requires shape { HasTreeShape tree.now }
+    requires sums { AreSumsBut tree.now (path_at tree.now at.0) at.0 sums.old }
+    ensures { OnOk result (AreSumsBut tree.now (path_at tree.now at.0) 0 sums.new) }
+{
+    let mut place = at;
+    while let Some(above) = tree.parent(place) {
+        let sum = sum_under(tree, above, sums);
+        sums.put_below(alloc, above.0 as usize, sum)?;
+        place = above;
     }
     Ok(())
 }
