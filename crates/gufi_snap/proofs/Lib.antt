@@ -4,3 +4,6 @@ pub mod Ranges
 pub mod Ancestors
 pub mod Spliced
 pub mod Raised
+pub mod Counting
+pub mod Known
+pub mod Refusing

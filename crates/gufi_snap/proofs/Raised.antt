@@ -14,7 +14,7 @@ use Rattle.gufi_snap.specs.SumsByPlace.{AreUnderFrom, AreSumsBut}
 use Rattle.gufi_snap.proofs.Ancestors.{parent_some, passed}
 
 module _ (tree : List Directory) (shape : HasTreeShape tree) (k : ℕ) (within : k < length tree) (path : Components) (id : DirId) (is : parent_id tree k ≡ Some id) (leads : is_prefix (path_at tree k) path ≡ true)
-  (sums : SumLists) (old : AreSumsBut tree path k sums) where
+    (sums : SumLists) (old : AreSumsBut tree path k sums) where
   before : id.0 < k
   before = (parent_some tree shape k within id is).0
 

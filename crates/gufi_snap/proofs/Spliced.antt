@@ -1,13 +1,13 @@
 -- Sums of which those of a subtree are replaced stay right, but for those of the directories above it.
-use Rattle.std.proofs.Common.{◌≡◌, ◌⊎◌, ℕ, ◌+◌, ◌-◌, ◌<◌, ◌≤◌, Bool, true, false, not, List, [], ◌∷◌, ◌++◌, length, take, drop, map, get_or, inl, inr, refl, sym, ap, ◌∙◌, subst, arith, length-drop}
-use Rattle.std.proofs.lemmas.Bool.{cases_lt, false_from_ne_true, not-true}
+use Rattle.std.proofs.Common.{◌≡◌, ◌⊎◌, ℕ, ◌+◌, ◌-◌, ◌<◌, ◌≤◌, false, not, List, [], ◌∷◌, ◌++◌, length, take, drop, map, get_or, inl, inr, refl, sym, ap, ◌∙◌, subst, arith, length-drop}
+use Rattle.std.proofs.lemmas.Bool.{cases_lt, not-true}
 use Rattle.std.proofs.lemmas.List.{append-nil, length-append, length-take, get_or_append_left, get_or-append-add, get_or-take, get_or-drop}
 use Rattle.gufi_base.specs.declared.record.Meta.{Meta}
 use Rattle.gufi_base.specs.declared.record.Row.{Row}
 use Rattle.gufi_base.specs.Paths.{Components, is_prefix}
 use Rattle.gufi_tree.specs.Tree.{Directory, own_rows, HasTreeShape}
 use Rattle.gufi_tree.specs.Places.{path_at}
-use Rattle.gufi_tree.specs.Graft.{put_below, graft}
+use Rattle.gufi_tree.specs.Graft.{graft}
 use Rattle.gufi_tree.proofs.Below.{below_dirs}
 use Rattle.gufi_tree.proofs.Filters.{Has-filter, filter-Has}
 use Rattle.gufi_tree.proofs.Flat.{has_dir-found}
@@ -19,7 +19,7 @@ use Rattle.gufi_tree.proofs.Built.{Has}
 use Rattle.gufi_sums.specs.declared.summary.Summary.{Summary}
 use Rattle.gufi_sums.specs.SumLists.{SumLists}
 use Rattle.gufi_sums.specs.Total.{total, total_of, IsTotal}
-use Rattle.gufi_snap.specs.SumsByPlace.{AreOwn, AreUnderFrom, AreSumsBut}
+use Rattle.gufi_snap.specs.SumsByPlace.{AreOwn, AreSumsBut}
 use Rattle.gufi_snap.specs.Kept.{IsContents}
 use Rattle.gufi_snap.proofs.Ancestors.{leads_on}
 
@@ -119,12 +119,12 @@ module _ (tree part : List Directory) (k : ℕ) (shape : HasTreeShape tree) (own
     in' = omega (arith, end_within, old.len)
 
   -- the directory itself is among those replaced
-  some_gone : 0 < gone
+  pub some_gone : 0 < gone
   some_gone =
       let d = at_place tree k within in
       Has-some (below_dirs tree (path_at tree k)) d.0 (filter-Has (λ (dir : Directory). is_prefix (path_at tree k) dir.path) tree d.0 d.1 (ap (is_prefix (path_at tree k)) d.2 ∙ own_prefix (path_at tree k)))
 
-  at_path : (j : ℕ) → j ≡ k → path_at after j ≡ path_at tree k
+  pub at_path : (j : ℕ) → j ≡ k → path_at after j ≡ path_at tree k
   at_path j e =
       let d = (at_place part 0 some).0 in
       let here : k + 0 ≡ j = omega arith in
@@ -140,13 +140,19 @@ module _ (tree part : List Directory) (k : ℕ) (shape : HasTreeShape tree) (own
     own = own_spliced sums.own others.own old.own new.own;
     len = omega (arith, spliced_length sums.below others.below k (k + gone) starts in', old.len, new.len, graft_length tree part k shape own within);
     each = λ j s h right. by_region (λ i. (k ≤ i) ⊎ (is_prefix (path_at after i) (path_at after k) ≡ false) → IsTotal (get_or (spliced sums.below k (k + gone) others.below) i s) (rows_under after (path_at after i)))
-        (λ i l out. rw (spliced_before sums.below others.below k (k + gone) starts in' i s l, path_before tree part k shape own within i l,
-            rows_outside tree part k (path_at tree i) shape own within (apart i out l) (leads_on tree shape i k l within)) (old.under i s (omega arith) (omega arith)))
+        (λ i l out. rw (
+          spliced_before sums.below others.below k (k + gone) starts in' i s l,
+          path_before tree part k shape own within i l,
+          rows_outside tree part k (path_at tree i) shape own within (apart i out l) (leads_on tree shape i k l within),
+        ) (old.under i s (omega arith) (omega arith)))
         (λ i l out. rw (spliced_in sums.below others.below k (k + gone) starts in' i s (omega (arith, new.len)), path_in tree part k shape own within i l, rows_inside tree part k (path_at part i) shape own within)
-            (total_below (path_at tree k) _ _ (new.under i s (omega arith) l)))
+        (total_below (path_at tree k) _ _ (new.under i s (omega arith) l)))
         (λ i l out. subst (λ n. IsTotal (get_or (spliced sums.below k (k + gone) others.below) (k + (n + i)) s) (rows_under after (path_at after (k + (length part + i))))) new.len
-            (rw (spliced_behind sums.below others.below k (k + gone) starts in' i s, path_behind tree part k shape own within i l,
-            rows_outside tree part k (path_at tree (k + gone + i)) shape own within (leads_on tree shape k (k + gone + i) (behind i) l) (apart_behind i l)) (old.under (k + gone + i) s (omega arith) l)))
+        (rw (
+          spliced_behind sums.below others.below k (k + gone) starts in' i s,
+          path_behind tree part k shape own within i l,
+          rows_outside tree part k (path_at tree (k + gone + i)) shape own within (leads_on tree shape k (k + gone + i) (behind i) l) (apart_behind i l),
+        ) (old.under (k + gone + i) s (omega arith) l)))
         j h right;
   } where
     in' : k + gone ≤ length sums.below
@@ -175,5 +181,5 @@ module _ (tree part : List Directory) (k count : ℕ) (sums others : SumLists) (
         subst (λ (s : SumLists). AreSumsBut made (path_at made k) k s) (sym e)
         (subst (λ (n : ℕ). AreSumsBut made (path_at made k) k (record { own = take k sums.own ++ (others.own ++ drop (k + n) sums.own); below = take k sums.below ++ (others.below ++ drop (k + n) sums.below) })) (sym counted)
         (subst (λ (ds : List Directory). AreSumsBut ds (path_at ds k) k
-            (record { own = spliced sums.own k (k + length (below_dirs tree (path_at tree k))) others.own; below = spliced sums.below k (k + length (below_dirs tree (path_at tree k))) others.below })) (sym is)
+        (record { own = spliced sums.own k (k + length (below_dirs tree (path_at tree k))) others.own; below = spliced sums.below k (k + length (below_dirs tree (path_at tree k))) others.below })) (sym is)
         (sums_spliced tree part k old.shape new.shape within sums others old new)))

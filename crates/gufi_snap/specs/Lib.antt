@@ -3,3 +3,4 @@ pub mod Snap
 pub mod Refreshed
 pub mod Kept
 pub mod SumsByPlace
+pub mod KnownByPlace

@@ -103,16 +103,24 @@ impl Contents {
         self.sums.below(id.0 as usize)
     }
 
-    /// The stores of a directory and of all below it, which stand side by side. Its sum says how many they are.
+    /// How many directories there are at and below one. The sum of their rows counts them.
+    pub(crate) fn dirs_below(&self, id: DirId) -> u32
+        requires { id.0 < length self.now }
+        ensures { result ≡ length (filter (λ dir. is_prefix (path_at self.now id.0) dir.path) self.now) }
+    {
+        // How many there are in all tells that these are counted by a number of 32 bits.
+        let _count = self.tree.dirs();
+        self.tree_sum(id).dirs as u32
+    }
+
+    /// The stores of a directory and of all below it, which stand side by side.
     fn stores_below(&self, id: DirId) -> DirRange<'_>
         requires { id.0 < length self.now }
         ensures dirs { result ≡ filter (λ dir. is_prefix (path_at self.now id.0) dir.path) self.now }
         ensures shape { HasTreeShape self.now }
         ensures deep { All (λ dir. length (path_at self.now id.0) ≤ length dir.path) result }
     {
-        // How many there are in all tells that these are counted by a number of 32 bits.
-        let _count = self.tree.dirs();
-        let count = self.tree_sum(id).dirs as u32;
+        let count = self.dirs_below(id);
         self.tree.range(id, count)
     }
 

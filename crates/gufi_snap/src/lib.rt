@@ -5,7 +5,9 @@
 #![tactic(auto)]
 
 mod contents;
+mod flags;
 mod refresh;
+mod sizes;
 mod snapshot;
 mod stores;
 mod sums;

@@ -7,7 +7,7 @@ ghost use Rattle.gufi_base.specs.Rows.{depth_below};
 ghost use Rattle.gufi_tree.specs.Tree.{all_rows, home_rows, subtree_rows, HasTreeShape};
 ghost use Rattle.gufi_tree.specs.Places.{path_at};
 ghost use Rattle.gufi_sums.specs.Total.{IsTotal};
-ghost use Rattle.gufi_roll.specs.CanRoll.{can_roll};
+ghost use Rattle.gufi_roll.specs.CanRoll.{can_roll, roll_flags};
 ghost use Rattle.gufi_snap.specs.Pieces.{piece, dir_sum, tree_sum};
 
 use crate::contents::Contents;
@@ -102,6 +102,37 @@ impl Snapshot {
             limit,
             flags,
         })
+    }
+
+    /// A tree with its sums and with its flags under a limit.
+    pub(crate) fn of(
+        alloc: Global,
+        contents: Contents,
+        limit: u64,
+        flags: Vec<bool>,
+    ) -> Result<Snapshot, Memory>
+        requires { flags.items ≡ roll_flags contents limit }
+        ensures { IfOk result (λ snap. snap ≡ record { tree = contents; limit = limit }) }
+    {
+        let contents = Arc::new(alloc, contents)?;
+        Ok(Snapshot {
+            contents,
+            limit,
+            flags,
+        })
+    }
+
+    pub(crate) fn contents(&self) -> &Contents
+        ensures { result.now ≡ self.now.tree }
+    {
+        &self.contents
+    }
+
+    /// Which directories are rolled up, in path order.
+    pub(crate) fn flags(&self) -> &[bool]
+        ensures { result.now ≡ roll_flags self.now.tree self.now.limit }
+    {
+        &self.flags
     }
 
     /// The tree.

@@ -1,4 +1,4 @@
-use Rattle.std.proofs.Common.{◌<◌, length, sym, ◌∙◌, subst, arith}
+use Rattle.std.proofs.Common.{sym, ◌∙◌, subst, arith}
 use Rattle.gufi_tree.specs.Places.{path_at}
 use Rattle.gufi_tree.proofs.Ranges.{own_prefix}
 use Rattle.gufi_snap.specs.SumsByPlace.{AreSumsBut}

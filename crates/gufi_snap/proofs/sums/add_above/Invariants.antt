@@ -1,4 +1,4 @@
-use Rattle.std.proofs.Common.{◌≡◌, ℕ, ◌<◌, true, length}
+use Rattle.std.proofs.Common.{◌≡◌, ◌<◌, true, length}
 use Rattle.gufi_base.specs.Paths.{is_prefix}
 use Rattle.gufi_tree.specs.Places.{path_at}
 use Rattle.gufi_snap.specs.SumsByPlace.{AreSumsBut}
