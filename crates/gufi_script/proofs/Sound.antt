@@ -1,23 +1,22 @@
 -- A script that was read is one that a plan can be made of.
-use Rattle.std.proofs.Common.{◌≡◌, ℕ, ◌+◌, ◌-◌, ◌<◌, ◌≤◌, Bool, true, false, List, [], ◌∷◌, ◌++◌, length, drop, refl, sym, ap, subst, ◌∙◌, arith, length-append, length-drop}
+use Rattle.std.proofs.Common.{◌≡◌, ℕ, ◌+◌, ◌<◌, ◌≤◌, Bool, true, false, List, [], ◌∷◌, ◌++◌, length, drop, refl, sym, ap, subst, ◌∙◌, arith, length-append, length-drop}
 use Rattle.std.specs.Prelude.{Option, Some, None, Result, Ok, Err, not, ◌&&◌, ◌||◌, ◌==◌, nat_le, nat_lt, if◌then◌else◌, bytes_eq, codes}
 use Rattle.std.specs.List.{list_all}
-use Rattle.std.proofs.lemmas.Bool.{and_parts, and_from, and_cases, le-leb, lt-ltb, leb-true, leb-false, ltb-false, not-false}
+use Rattle.std.proofs.lemmas.Bool.{and_parts, and_from, le-leb, lt-ltb, leb-true, leb-false, ltb-false, not-false}
 use Rattle.std.proofs.lemmas.List.Folds.{list_all-append}
 use Rattle.gufi_base.specs.Limits.{max_script_lines, max_publishing, max_lanes}
 use Rattle.gufi_base.specs.Basics.{is_empty, part_at, text_lines, result_map_err, ◌>>=◌, ◌>>◌, refuse}
 use Rattle.gufi_base.specs.Numbers.{read_u32}
 use Rattle.gufi_script.specs.declared.fault.ScriptKind.{ScriptKind}
 use Rattle.gufi_script.specs.declared.fault.ScriptKind.TheVariants as kinds
-use Rattle.gufi_script.specs.declared.fault.ScriptError.{ScriptError}
 use Rattle.gufi_script.specs.declared.fault.ScriptError.TheVariants.{Fault}
 use Rattle.gufi_script.specs.declared.act.Form.{Form}
 use Rattle.gufi_script.specs.declared.act.Form.TheVariants as forms
 use Rattle.gufi_script.specs.declared.act.Act.{Act}
-use Rattle.gufi_script.specs.declared.act.Act.TheVariants.{Publish, Rollup, Ask, Barrier}
+use Rattle.gufi_script.specs.declared.act.Act.TheVariants.{Publish, Rollup, Refresh, Ask, Barrier}
 use Rattle.gufi_script.specs.ScriptWords.{has_bad_escape, words_of}
-use Rattle.gufi_script.specs.Acts.{lane_within, read_limit, read_lane, read_path_word, read_file_word, read_form_word, has_ask_words, read_publish, read_rollup, read_ask, read_barrier, read_act}
-use Rattle.gufi_script.specs.ScriptText.{PlacedAct, is_publishing, publishing_count, too_many_publishing, is_skipped_line, read_line, with_act, with_script_line, read_script_lines, read_script, has_query, has_parts, lines_ascend, is_script}
+use Rattle.gufi_script.specs.Acts.{lane_within, read_limit, read_lane, read_path_word, read_file_word, read_form_word, has_ask_words, read_publish, read_rollup, read_refresh, read_ask, read_barrier, read_act}
+use Rattle.gufi_script.specs.ScriptText.{PlacedAct, is_publishing, publishing_count, is_skipped_line, read_line, with_act, with_script_line, read_script_lines, read_script, has_query, has_parts, lines_ascend, is_script}
 use Rattle.gufi_script.proofs.ReadLemmas.{count_one_more, count_no_more}
 
 -- ---- steps that did not fail
@@ -89,6 +88,15 @@ rollup_parts words act e =
     let is : Rollup limit.0 ≡ act = cc (limit.2) in
     ap has_parts (sym is)
 
+refresh_parts : (words : List (List ℕ)) (act : Act) → read_refresh words ≡ Ok act → has_parts act ≡ true
+unfolding read_refresh
+refresh_parts words act e =
+    let counted = allowed (not (length words == 3)) kinds.Count _ act e in
+    let path = then_ok (read_path_word (part_at words 2)) _ act counted.1 in
+    let file = then_ok (read_file_word (part_at words 3)) _ act path.2 in
+    let is : Refresh path.0 file.0 ≡ act = cc (file.2) in
+    ap has_parts (sym is)
+
 barrier_parts : (words : List (List ℕ)) (act : Act) → read_barrier words ≡ Ok act → has_parts act ≡ true
 barrier_parts words act e =
     let counted = allowed (not (length words == 1)) kinds.Count (Ok Barrier) act e in
@@ -116,8 +124,9 @@ unfolding read_act
 act_parts verb words act =
     either_parts (bytes_eq verb (codes "publish")) _ _ act (publish_parts words act)
     (either_parts (bytes_eq verb (codes "rollup")) _ _ act (rollup_parts words act)
+    (either_parts (bytes_eq verb (codes "refresh")) _ _ act (refresh_parts words act)
     (either_parts (bytes_eq verb (codes "ask")) _ _ act (ask_parts words act)
-    (either_parts (bytes_eq verb (codes "barrier")) _ _ act (barrier_parts words act) (λ (e : Err kinds.Verb ≡ Ok act). absurd cc))))
+    (either_parts (bytes_eq verb (codes "barrier")) _ _ act (barrier_parts words act) (λ (e : Err kinds.Verb ≡ Ok act). absurd cc)))))
 
 line_parts : (text : List ℕ) (act : Act) → read_line text ≡ Ok act → has_parts act ≡ true
 unfolding read_line

@@ -10,7 +10,7 @@ use Rattle.gufi_script.specs.declared.fault.ScriptKind.TheVariants as kinds
 use Rattle.gufi_script.specs.declared.act.Form.{Form}
 use Rattle.gufi_script.specs.declared.act.Form.TheVariants as forms
 use Rattle.gufi_script.specs.declared.act.Act.{Act}
-use Rattle.gufi_script.specs.declared.act.Act.TheVariants.{Publish, Rollup, Ask, Barrier}
+use Rattle.gufi_script.specs.declared.act.Act.TheVariants.{Publish, Rollup, Refresh, Ask, Barrier}
 
 abbrev pub read_limit : List ℕ → Result ℕ ScriptKind
 read_limit text = ok_or (read_u64 text) kinds.Number
@@ -52,6 +52,13 @@ read_rollup words =
     (read_limit (part_at words 2) >>= λ limit.
     Ok (Rollup limit))
 
+unfoldable pub read_refresh : List (List ℕ) → Result Act ScriptKind
+read_refresh words =
+    counts (length words == 3) >>
+    (read_path_word (part_at words 2) >>= λ path.
+    read_file_word (part_at words 3) >>= λ file.
+    Ok (Refresh path file))
+
 -- an ask has five words, and one more at least where it is a query
 abbrev pub has_ask_words : List (List ℕ) → Bool
 has_ask_words words = nat_le 5 (length words) && (nat_le 6 (length words) || not (bytes_eq (part_at words 5) (codes "query")))
@@ -71,6 +78,7 @@ unfoldable pub read_act : List ℕ → List (List ℕ) → Result Act ScriptKind
 read_act verb words =
     if bytes_eq verb (codes "publish") then read_publish words
     else if bytes_eq verb (codes "rollup") then read_rollup words
+    else if bytes_eq verb (codes "refresh") then read_refresh words
     else if bytes_eq verb (codes "ask") then read_ask words
     else if bytes_eq verb (codes "barrier") then read_barrier words
     else Err kinds.Verb

@@ -10,7 +10,7 @@ use Rattle.gufi_script.specs.declared.fault.ScriptError.TheVariants.{Fault}
 use Rattle.gufi_script.specs.declared.act.Form.{Form}
 use Rattle.gufi_script.specs.declared.act.Form.TheVariants as forms
 use Rattle.gufi_script.specs.declared.act.Act.{Act}
-use Rattle.gufi_script.specs.declared.act.Act.TheVariants.{Publish, Rollup, Ask, Barrier}
+use Rattle.gufi_script.specs.declared.act.Act.TheVariants.{Publish, Rollup, Refresh, Ask, Barrier}
 use Rattle.gufi_script.specs.ScriptWords.{raw_words, has_bad_escape, words_of}
 use Rattle.gufi_script.specs.Acts.{read_act}
 
@@ -21,6 +21,7 @@ PlacedAct = ℕ × Act
 abbrev pub is_publishing : Act → Bool
 is_publishing (Publish limit file) = true
 is_publishing (Rollup limit) = true
+is_publishing (Refresh path file) = true
 is_publishing (Ask lane user path form words) = false
 is_publishing Barrier = false
 
@@ -69,6 +70,7 @@ has_query forms.Query words = not (is_empty words)
 abbrev pub has_parts : Act → Bool
 has_parts (Publish limit file) = true
 has_parts (Rollup limit) = true
+has_parts (Refresh path file) = true
 has_parts (Ask lane user path form words) = nat_le 1 lane && nat_le lane max_lanes && has_query form words
 has_parts Barrier = true
 

@@ -26,6 +26,11 @@ pub enum Act {
     Rollup {
         limit: u64,
     },
+    /// Publishes the last published tree, in which the subtree at a path is replaced by the tree of a trace.
+    Refresh {
+        path: Path,
+        file: Text,
+    },
     /// Asks in a lane, from 1, as a user and from a path on. The words are of the form's language.
     Ask {
         lane: u32,

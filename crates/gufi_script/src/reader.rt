@@ -31,6 +31,7 @@ fn publishes(act: &Act) -> bool
     match act {
         Act::Publish { .. } => true,
         Act::Rollup { .. } => true,
+        Act::Refresh { .. } => true,
         Act::Ask { .. } => false,
         Act::Barrier => false,
     }

@@ -1,7 +1,7 @@
 //! The act that the words of a line are.
 ghost use Rattle.std.specs.Prelude.{◌≡◌, ok_or, slice_index_or, [], bytes_eq, length};
 ghost use Rattle.gufi_base.specs.Basics.{GivesUnless, result_map_err};
-ghost use Rattle.gufi_script.specs.Acts.{read_limit, read_lane, read_path_word, read_file_word, read_form_word, has_ask_words, read_publish, read_rollup, read_barrier, read_ask, read_act};
+ghost use Rattle.gufi_script.specs.Acts.{read_limit, read_lane, read_path_word, read_file_word, read_form_word, has_ask_words, read_publish, read_rollup, read_refresh, read_barrier, read_ask, read_act};
 
 use crate::act::{Act, Form};
 use crate::fault::{LineFault, ScriptKind};
@@ -96,6 +96,18 @@ fn rollup_of(words: &[Bytes]) -> Result<Act, ScriptKind>
     Ok(Act::Rollup { limit })
 }
 
+#[tactic(auto, unfolding(crate::specs::Acts::read_refresh))]
+fn refresh_of(alloc: Global, words: &[Bytes]) -> Result<Act, LineFault>
+    ensures { GivesUnless LineFault.Memory result (result_map_err LineFault.Kind (read_refresh words.now)) }
+{
+    if words.len() != 3 {
+        return Err(LineFault::Kind(ScriptKind::Count));
+    }
+    let path = path_of(alloc, word_at(words, 1))?;
+    let file = file_of(alloc, word_at(words, 2))?;
+    Ok(Act::Refresh { path, file })
+}
+
 fn barrier_of(words: &[Bytes]) -> Result<Act, ScriptKind>
     ensures { result ≡ read_barrier words.now }
 {
@@ -144,6 +156,8 @@ pub(crate) fn act_of(alloc: Global, words: Vec<Bytes>) -> Result<Act, LineFault>
         publish_of(alloc, &words)
     } else if verb == b"rollup".as_slice() {
         Ok(rollup_of(&words)?)
+    } else if verb == b"refresh".as_slice() {
+        refresh_of(alloc, &words)
     } else if verb == b"ask".as_slice() {
         ask_of(alloc, words)
     } else if verb == b"barrier".as_slice() {

@@ -5,10 +5,10 @@ use std::test::Fail;
 #[test]
 fn acts_are_read_by_their_lines(rt: HostRuntime) -> Result<(), Fail> {
     let text =
-        b"publish 100 a%20b\n# no act\n \t\nrollup 007\nbarrier\nask 16 102:5 //p/./q query SELECT%20* FROM\trows";
+        b"publish 100 a%20b\n# no act\n \t\nrollup 007\nbarrier\nask 16 102:5 //p/./q query SELECT%20* FROM\trows\nrefresh /p//q b";
     let script = read_script(rt.alloc(), text)?;
     let acts = script.acts.as_slice();
-    let lines: [u32; 4] = [1, 4, 5, 6];
+    let lines: [u32; 5] = [1, 4, 5, 6, 7];
     assert_eq!(rt; acts.len(), lines.len());
     for (act, line) in acts.iter().zip(lines) {
         assert_eq!(rt; act.0, line);
@@ -42,6 +42,13 @@ fn acts_are_read_by_their_lines(rt: HostRuntime) -> Result<(), Fail> {
         }
         _ => assert!(rt; false),
     }
+    match &acts[4].1 {
+        Act::Refresh { path, file } => {
+            assert_eq!(rt; path.printed(), b"/p/q".as_slice());
+            assert_eq!(rt; file.as_str(), "b");
+        }
+        _ => assert!(rt; false),
+    }
     Ok(())
 }
 
@@ -49,7 +56,11 @@ fn acts_are_read_by_their_lines(rt: HostRuntime) -> Result<(), Fail> {
 fn each_fault_is_told_by_its_line(rt: HostRuntime) -> Result<(), Fail> {
     let faults = [
         (b"barrier\nbarrier %4".as_slice(), 2, ScriptKind::Escape),
-        (b"refresh / f\nask".as_slice(), 1, ScriptKind::Verb),
+        (b"reload / f\nask".as_slice(), 1, ScriptKind::Verb),
+        (b"refresh / f\nrefresh f".as_slice(), 2, ScriptKind::Count),
+        (b"refresh / f 1".as_slice(), 1, ScriptKind::Count),
+        (b"refresh /.. %ff".as_slice(), 1, ScriptKind::Path),
+        (b"refresh / %ff".as_slice(), 1, ScriptKind::File),
         (b"\n\npublish 1".as_slice(), 3, ScriptKind::Count),
         (b"ask 17 102 / query".as_slice(), 1, ScriptKind::Count),
         (b"rollup -1".as_slice(), 1, ScriptKind::Number),
@@ -74,7 +85,11 @@ fn each_fault_is_told_by_its_line(rt: HostRuntime) -> Result<(), Fail> {
 
 #[test]
 fn scripts_have_so_many_lines_and_publications(rt: HostRuntime) -> Result<(), Fail> {
-    for (text, count, limit) in [("barrier\n", 4097, 4096), ("rollup 1\n", 1001, 1000)] {
+    for (text, count, limit) in [
+        ("barrier\n", 4097, 4096),
+        ("rollup 1\n", 1001, 1000),
+        ("refresh / f\n", 1001, 1000),
+    ] {
         let mut script = String::new(rt.alloc());
         for _line in 0..count {
             script.push_str(text)?;
