@@ -1,5 +1,5 @@
 -- Plans worked by hand.
-use Rattle.std.proofs.Common.{◌≡◌, ℕ, List, [], ◌∷◌, refl}
+use Rattle.std.proofs.Common.{◌≡◌, ℕ, List, [], ◌∷◌, length, refl}
 use Rattle.std.specs.Prelude.{None, Result, Ok, Err, codes, map}
 use Rattle.gufi_users.specs.Users.{principal_of}
 use Rattle.gufi_find.specs.Reading.{read_find, read_find_words, wants_primary}
@@ -12,7 +12,7 @@ use Rattle.gufi_script.specs.declared.fault.ScriptKind.TheVariants as kinds
 use Rattle.gufi_plan.specs.declared.search.Query.{Query}
 use Rattle.gufi_plan.specs.declared.search.Query.TheVariants.{Finds, Totals, Selects}
 use Rattle.gufi_plan.specs.declared.act.PlannedAct.{PlannedAct}
-use Rattle.gufi_plan.specs.declared.act.PlannedAct.TheVariants.{Publish, Rollup, Ask}
+use Rattle.gufi_plan.specs.declared.act.PlannedAct.TheVariants.{Publish, Rollup, Refresh, Ask}
 use Rattle.gufi_plan.specs.Plan.{Setting, Plan, query_of, search_of, planned_act, query_text, plan}
 
 abbrev setting : Setting
@@ -27,6 +27,7 @@ form_number (Selects select) = 3
 abbrev numbers : PlannedAct → List ℕ
 numbers (Publish delim limit file) = delim ∷ limit ∷ file
 numbers (Rollup limit) = limit ∷ []
+numbers (Refresh delim path file) = delim ∷ length path ∷ file
 numbers (Ask lane search) = lane ∷ search.who.uid ∷ form_number search.query ∷ []
 
 abbrev phases : Result Plan ScriptError → List (List (List ℕ))
@@ -38,8 +39,8 @@ unfolding plan
 no_act = refl
 
 two_phases : phases (plan setting
-    ((1, acts.Publish 10 (codes "a")) ∷ (2, acts.Ask 1 (codes "102") [] forms.Find []) ∷ (3, acts.Barrier) ∷ (5, acts.Ask 2 (codes "102:5") [] forms.Total []) ∷ (6, acts.Rollup 5) ∷ []))
-    ≡ ((124 ∷ 10 ∷ codes "a") ∷ (1 ∷ 102 ∷ 1 ∷ []) ∷ []) ∷ ((2 ∷ 102 ∷ 2 ∷ []) ∷ (5 ∷ []) ∷ []) ∷ []
+    ((1, acts.Publish 10 (codes "a")) ∷ (2, acts.Ask 1 (codes "102") [] forms.Find []) ∷ (3, acts.Barrier) ∷ (5, acts.Ask 2 (codes "102:5") [] forms.Total []) ∷ (6, acts.Rollup 5) ∷ (7, acts.Refresh (codes "p" ∷ []) (codes "b")) ∷ []))
+    ≡ ((124 ∷ 10 ∷ codes "a") ∷ (1 ∷ 102 ∷ 1 ∷ []) ∷ []) ∷ ((2 ∷ 102 ∷ 2 ∷ []) ∷ (5 ∷ []) ∷ (124 ∷ 1 ∷ codes "b") ∷ []) ∷ []
 unfolding plan planned_act search_of query_of principal_of read_find read_find_words wants_primary primary_named
 two_phases = refl
 

@@ -23,7 +23,7 @@ use Rattle.gufi_plan.specs.declared.search.Query.{Query}
 use Rattle.gufi_plan.specs.declared.search.Query.TheVariants.{Finds, Totals, Selects}
 use Rattle.gufi_plan.specs.declared.search.Search.{Search}
 use Rattle.gufi_plan.specs.declared.act.PlannedAct.{PlannedAct}
-use Rattle.gufi_plan.specs.declared.act.PlannedAct.TheVariants.{Publish, Rollup, Ask}
+use Rattle.gufi_plan.specs.declared.act.PlannedAct.TheVariants.{Publish, Rollup, Refresh, Ask}
 
 -- what a session has beside its script
 pub record Setting : Type 0 where
@@ -67,6 +67,7 @@ search_of setting user path form words =
 unfoldable pub planned_act : Setting → Act → Result (Option PlannedAct) ScriptKind
 planned_act setting (acts.Publish limit file) = Ok (Some (Publish setting.delim limit file))
 planned_act setting (acts.Rollup limit) = Ok (Some (Rollup limit))
+planned_act setting (acts.Refresh path file) = Ok (Some (Refresh setting.delim path file))
 planned_act setting (acts.Ask lane user path form words) = search_of setting user path form words >>= λ search. Ok (Some (Ask lane search))
 planned_act setting acts.Barrier = Ok None
 

@@ -4,7 +4,7 @@ ghost use Rattle.gufi_base.specs.Limits.{max_script_lines};
 ghost use Rattle.gufi_plan.specs.Plan.{act_count};
 
 use crate::search::SharedSearch;
-use gufi_base::{Items, Text};
+use gufi_base::{Items, Path, Text};
 use std::marker::Model;
 
 /// One act of a phase.
@@ -14,6 +14,8 @@ pub enum PlannedAct {
     Publish { delim: u8, limit: u64, file: Text },
     /// Publishes the last published tree under another limit.
     Rollup { limit: u64 },
+    /// Publishes the last published tree, in which the subtree at a path is replaced by the tree of a trace.
+    Refresh { delim: u8, path: Path, file: Text },
     /// Searches in a lane, from 1.
     Ask { lane: u32, search: SharedSearch },
 }

@@ -110,6 +110,11 @@ pub(crate) fn planned_act(
             file,
         })),
         Act::Rollup { limit } => Ok(Some(PlannedAct::Rollup { limit })),
+        Act::Refresh { path, file } => Ok(Some(PlannedAct::Refresh {
+            delim: setup.delim,
+            path,
+            file,
+        })),
         Act::Ask {
             lane,
             user,

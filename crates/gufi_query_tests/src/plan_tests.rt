@@ -35,6 +35,11 @@ fn line_of(alloc: Global, act: &PlannedAct) -> Result<String, Fail> {
             Ok(format!(in alloc; "publish {delim} {limit} {file}")?)
         }
         PlannedAct::Rollup { limit } => Ok(format!(in alloc; "rollup {limit}")?),
+        PlannedAct::Refresh { delim, path, file } => {
+            let depth = path.depth();
+            let file = file.as_str();
+            Ok(format!(in alloc; "refresh {delim} {depth} {file}")?)
+        }
         PlannedAct::Ask { lane, search } => {
             let shared = search.share()?;
             let search = shared.get();
@@ -50,11 +55,11 @@ fn line_of(alloc: Global, act: &PlannedAct) -> Result<String, Fail> {
 fn acts_are_planned_by_their_phases(rt: HostRuntime) -> Result<(), Fail> {
     let alloc = rt.alloc();
     let text =
-        b"publish 10 a\nask 1 ana / find -name x\nbarrier\n# none\nask 2 102:5 /p total\nrollup 5\n\
+        b"publish 10 a\nask 1 ana / find -name x\nrefresh /p/q b\nbarrier\n# none\nask 2 102:5 /p total\nrollup 5\n\
 ask 16 0 /p/q query SELECT name FROM rows WHERE name REGEXP 'x'\nbarrier\n";
     let plan = plan_of(alloc, text)??;
     let wanted = [
-        (2, ["publish 124 10 a", "ask 1 1001 0 find", ""]),
+        (3, ["publish 124 10 a", "ask 1 1001 0 find", "refresh 124 2 b"]),
         (3, ["ask 2 102 1 total", "rollup 5", "ask 16 0 2 query"]),
         (0, ["", "", ""]),
     ];
