@@ -59,7 +59,10 @@ fn acts_are_planned_by_their_phases(rt: HostRuntime) -> Result<(), Fail> {
 ask 16 0 /p/q query SELECT name FROM rows WHERE name REGEXP 'x'\nbarrier\n";
     let plan = plan_of(alloc, text)??;
     let wanted = [
-        (3, ["publish 124 10 a", "ask 1 1001 0 find", "refresh 124 2 b"]),
+        (
+            3,
+            ["publish 124 10 a", "ask 1 1001 0 find", "refresh 124 2 b"],
+        ),
         (3, ["ask 2 102 1 total", "rollup 5", "ask 16 0 2 query"]),
         (0, ["", "", ""]),
     ];
