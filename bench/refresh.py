@@ -1,0 +1,91 @@
+#!/usr/bin/env python3
+"""What a refresh costs in a session: its processor time beside a whole publication, and the memory of a second index beside the first.
+
+  python3 refresh.py TRACE [--program PROGRAM] [--rows 516] [--limit 1000] [--times 100] [--pages small] [--runs 5]
+
+TRACE has fields parted by the byte 0x1E. The directory whose rows at and below it are nearest to `--rows` is replaced by the same rows, again
+and again, in one phase; so the old index is given back each time. The cost of one is the time of `--times` of them less that of as many more,
+over their number: it holds the reading of the part's file and of its trace. A script that asks once holds both the first index and its refresh.
+Runs are interleaved, output goes to /dev/null, files are warm, times are medians. Nothing here is a test.
+"""
+import argparse
+import os
+import subprocess
+import tempfile
+
+from session import interleaved, write
+from walk import PAGES, take_pages
+
+DELIM = b"\x1e"
+
+
+def paths_of(trace):
+    """The lines of a trace, with the path of each and whether it is a directory."""
+    for line in trace:
+        path, kind, _ = line.split(DELIM, 2)
+        yield line, path, kind == b"d"
+
+
+def nearest(trace, rows):
+    """The directory, not the root, with the nearest number of rows at and below it, and that number."""
+    below = {}
+    for _, path, is_dir in paths_of(trace):
+        home = path if is_dir else path.rpartition(b"/")[0]
+        while home:
+            below[home] = below.get(home, 0) + 1
+            home = home.rpartition(b"/")[0]
+    return min(below.items(), key=lambda pair: (abs(pair[1] - rows), pair[0]))
+
+
+def part_of(trace, at):
+    """The lines at and below a directory, itself first."""
+    found = [(path != at, line) for line, path, _ in paths_of(trace) if path == at or path.startswith(at + b"/")]
+    return [line for _, line in sorted(found, key=lambda pair: pair[0])]
+
+
+def main():
+    parser = argparse.ArgumentParser(usage=__doc__)
+    parser.add_argument("trace")
+    parser.add_argument("--program", default=os.path.join(os.path.dirname(__file__), "..", "crates/gufi/out/gufi"))
+    parser.add_argument("--rows", type=int, default=516)
+    parser.add_argument("--limit", type=int, default=1000)
+    parser.add_argument("--times", type=int, default=100)
+    parser.add_argument("--pages", choices=PAGES, default="small")
+    parser.add_argument("--runs", type=int, default=5)
+    options = parser.parse_args()
+    take_pages(options.pages)
+    with open(options.trace, "rb") as trace:
+        lines = trace.readlines()
+    at, rows = nearest(lines, options.rows)
+    with tempfile.TemporaryDirectory() as folder:
+        os.symlink(os.path.abspath(options.trace), os.path.join(folder, "trace"))
+        write(folder, "part", part_of(lines, at))
+        publish, refresh = b"publish %d trace\n" % options.limit, b"refresh %s part\n" % at
+        ask = b"ask 1 0 %s total\n" % at
+        scripts = {
+            "one publication": [publish],
+            "two publications": [publish] * 2,
+            "one publication, one refresh": [publish, refresh],
+            "one publication, %d refreshes" % options.times: [publish] + [refresh] * options.times,
+            "one publication, %d refreshes" % (2 * options.times): [publish] + [refresh] * (2 * options.times),
+            "asked before and behind a refresh": [publish, b"barrier\n", ask, b"barrier\n", refresh, b"barrier\n", ask],
+        }
+        commands = {
+            name: [os.path.abspath(options.program), "session", write(folder, "script%d" % number, script)]
+            for number, (name, script) in enumerate(scripts.items())
+        }
+        times = interleaved(commands, folder, options.runs)
+        text = subprocess.run(commands["asked before and behind a refresh"], cwd=folder, stdout=subprocess.PIPE).stdout
+    print("%d lines; %s and its %d rows replaced\n" % (len(lines), at.decode(errors="replace"), rows))
+    print("| | Processor time | Clock | Peak memory |\n|---|---|---|---|")
+    for name, (cpu, clock, memory) in times.items():
+        print("| %s | %.3f s | %.3f s | %.0f MB |" % (name, cpu, clock, memory))
+    few, many = (times["one publication, %d refreshes" % (options.times * factor)][0] for factor in (1, 2))
+    whole = times["two publications"][0] - times["one publication"][0]
+    print("\none refresh %.2f ms, one publication %.0f ms" % ((many - few) / options.times * 1e3, whole * 1e3))
+    totals = [line.partition(b" total ")[2] for line in text.splitlines() if b" total " in line]
+    print("both totals are equal" if len(totals) == 2 and len(set(totals)) == 1 else "TOTALS DIFFER")
+
+
+if __name__ == "__main__":
+    main()
