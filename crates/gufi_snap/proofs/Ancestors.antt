@@ -17,6 +17,15 @@ use Rattle.gufi_tree.proofs.Ranges.{not_before, own_prefix}
 use Rattle.gufi_tree.proofs.Resolving.{parent_before}
 use Rattle.gufi_tree.proofs.Searched.{in_order}
 
+-- a place that was found, from the directory there
+pub found_none : (o : Option ℕ) → option_map dir_id o ≡ None → o ≡ None
+found_none None e = refl
+found_none (Some k) e = absurd (let no : Some (dir_id k) ≡ None = e in cc)
+
+pub found_some : (o : Option ℕ) (id : DirId) → option_map dir_id o ≡ Some id → o ≡ Some id.0
+found_some None id e = absurd (let no : None ≡ Some id = e in cc)
+found_some (Some k) id e = ap Some (ap (λ (v : Option DirId). elim v [ None ↦ k | Some w ↦ w.0 ]) e)
+
 module _ (tree : List Directory) (shape : HasTreeShape tree) where
   -- paths stand in the order of their places
   pub places_ordered : (j k : ℕ) → j < k → k < length tree → path_cmp (path_at tree j) (path_at tree k) ≡ Less
@@ -45,8 +54,7 @@ module _ (tree : List Directory) (shape : HasTreeShape tree) where
     parent_none e = by (cases_eq k 0) where
       none : (b : Bool) → b ≡ false → (o : Option ℕ) → is_some o ≡ true → cond b None (option_map dir_id o) ≡ None → k ≡ 0
       none true f o g h = absurd (true≢false f)
-      none false f None g h = absurd (false≢true g)
-      none false f (Some j) g h = cc
+      none false f o g h = absurd (false≢true (sym (ap (λ (v : Option ℕ). is_some v) (found_none o h)) ∙ g))
 
       by : (k ≡ 0) ⊎ (k ≡ 0 → ⊥) → k ≡ 0
       by (inl z) = z
@@ -61,8 +69,7 @@ module _ (tree : List Directory) (shape : HasTreeShape tree) where
     parent_some id e = by (cases_eq k 0) where
       some_of : (b : Bool) → (o : Option ℕ) → cond b None (option_map dir_id o) ≡ Some id → (b ≡ false) × (o ≡ Some id.0)
       some_of true o g = absurd (let no : None ≡ Some id = g in cc)
-      some_of false None g = absurd (let no : None ≡ Some id = g in cc)
-      some_of false (Some j) g = (refl, ap Some (ap (λ (v : Option DirId). elim v [ None ↦ j | Some w ↦ w.0 ]) g))
+      some_of false o g = (refl, found_some o id g)
 
       by : (k ≡ 0) ⊎ (k ≡ 0 → ⊥) → (id.0 < k) × (path_at tree id.0 ≡ parent_path (path_at tree k)) × (is_empty (path_at tree k) ≡ false)
       by (inl z) = absurd (true≢false (sym (eq-eqb k 0 z) ∙ (some_of (eqb k 0) found e).0))

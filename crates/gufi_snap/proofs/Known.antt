@@ -1,5 +1,5 @@
 -- Flags that are known where a subtree is replaced, and those that are forgotten up to the root.
-use Rattle.std.proofs.Common.{◌≡◌, ◌⊎◌, ℕ, ◌+◌, ◌<◌, ◌≤◌, Bool, true, false, List, [], ◌∷◌, ◌++◌, length, take, drop, map, get_or, set, Option, None, Some, inl, inr, refl, sym, ap, ◌∙◌, subst, arith}
+use Rattle.std.proofs.Common.{◌≡◌, ◌⊎◌, ℕ, ◌+◌, ◌<◌, ◌≤◌, Bool, true, false, List, [], ◌∷◌, ◌++◌, length, take, drop, map, get_or, set, Option, None, Some, inl, inr, sym, ap, ◌∙◌, subst, arith}
 use Rattle.std.proofs.lemmas.Bool.{cases_order}
 use Rattle.std.proofs.lemmas.List.{append_assoc, map-append, take_more, length-set, length-map, get_or-map, get_or-set_same, get_or-set_other}
 use Rattle.gufi_base.specs.Paths.{Components, is_prefix}
@@ -18,7 +18,7 @@ use Rattle.gufi_roll.specs.Below.{AreKnown}
 use Rattle.gufi_roll.proofs.Grafts.{flag_outside, flag_inside}
 use Rattle.gufi_snap.specs.KnownByPlace.{AreKnownBut}
 use Rattle.gufi_snap.proofs.Ancestors.{leads_on, parent_some, passed}
-use Rattle.gufi_snap.proofs.Spliced.{spliced, spliced_length, spliced_before, spliced_in, spliced_behind, by_region, apart_behind, some_gone, at_path, has_root}
+use Rattle.gufi_snap.proofs.Spliced.{spliced, spliced_length, spliced_before, spliced_in, spliced_behind, by_region, apart_behind, not_above, not_back, has_root}
 
 some_same : (a b : Bool) → Some a ≡ Some b → a ≡ b
 some_same a b e = ap (λ (o : Option Bool). elim o [ None ↦ a | Some x ↦ x ]) e
@@ -91,21 +91,14 @@ module _ (tree part : List Directory) (k limit : ℕ) (shape : HasTreeShape tree
       by_region tree part k shape own within (λ i. (k ≤ i) ⊎ (is_prefix (path_at after i) (path_at after k) ≡ false) → get_or joined i d ≡ can_roll after limit (path_at after i))
       (λ i l out. spliced_before (roll_flags tree limit) (roll_flags part limit) k (k + gone) starts ends i d l ∙ flag_at tree limit i d (omega arith)
       ∙ sym (ap (can_roll after limit) (path_before tree part k shape own within i l)
-      ∙ flag_outside tree part k limit (path_at tree i) shape own within (apart i out l) (leads_on tree shape i k l within)))
+      ∙ flag_outside tree part k limit (path_at tree i) shape own within (not_above tree part k shape own within i out l) (leads_on tree shape i k l within)))
       (λ i l out. spliced_in (roll_flags tree limit) (roll_flags part limit) k (k + gone) starts ends i d (omega (arith, part_len)) ∙ flag_at part limit i d l
       ∙ sym (ap (can_roll after limit) (path_in tree part k shape own within i l) ∙ flag_inside tree part k limit (path_at part i) shape own within))
       (λ i l out. subst (λ (n : ℕ). get_or joined (k + (n + i)) d ≡ can_roll after limit (path_at after (k + (length part + i)))) part_len
       (spliced_behind (roll_flags tree limit) (roll_flags part limit) k (k + gone) starts ends i d ∙ flag_at tree limit (k + gone + i) d l
       ∙ sym (ap (can_roll after limit) (path_behind tree part k shape own within i l)
-      ∙ flag_outside tree part k limit (path_at tree (k + gone + i)) shape own within (leads_on tree shape k (k + gone + i) (behind i) l) (apart_behind tree part k shape own within i l))))
+      ∙ flag_outside tree part k limit (path_at tree (k + gone + i)) shape own within (not_back tree part k shape own within i l) (apart_behind tree part k shape own within i l))))
       j h right
-    where
-      apart : (i : ℕ) → (k ≤ i) ⊎ (is_prefix (path_at after i) (path_at after k) ≡ false) → i < k → is_prefix (path_at tree i) (path_at tree k) ≡ false
-      apart i (inl g) l = absurd (omega arith)
-      apart i (inr out) l = ap (λ (p : Components). is_prefix p (path_at tree k)) (sym (path_before tree part k shape own within i l)) ∙ ap (is_prefix (path_at after i)) (sym (at_path tree part k shape own within k refl)) ∙ out
-
-      behind : (i : ℕ) → k < k + gone + i
-      behind i = omega (arith, some_gone tree part k shape own within)
 
   pub known_spliced : AreKnownBut after limit (path_at after k) k (map Some joined)
   known_spliced = record {

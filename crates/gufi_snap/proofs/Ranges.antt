@@ -1,5 +1,5 @@
--- The directories at a path and below it stand side by side, and a sum of their rows counts them.
-use Rattle.std.proofs.Common.{◌≡◌, ℕ, ◌+◌, ◌<◌, ◌≤◌, Bool, true, false, not, cond, List, [], ◌∷◌, length, take, drop, map, refl, sym, ap, ◌∙◌, arith, length-append}
+-- A sum of the rows at and below a path counts the directories there, which are at least as deep.
+use Rattle.std.proofs.Common.{◌≡◌, ◌+◌, ◌≤◌, Bool, true, false, not, cond, List, [], ◌∷◌, length, map, refl, ap, ◌∙◌, arith, length-append}
 use Rattle.std.specs.Prelude.{All}
 use Rattle.std.specs.List.{filter, flat_map, list_all}
 use Rattle.std.proofs.lemmas.Bool.{false≢true, and_parts, and_from}
@@ -8,11 +8,9 @@ use Rattle.gufi_base.specs.Kinds.{is_dir}
 use Rattle.gufi_base.specs.Paths.{Components, is_prefix}
 use Rattle.gufi_tree.specs.declared.tree.Entry.{Entry}
 use Rattle.gufi_tree.specs.Tree.{Directory, dir_row, own_rows, entry_row, is_kinded, subtree_rows, HasTreeShape}
-use Rattle.gufi_tree.specs.Places.{path_at}
 use Rattle.gufi_tree.proofs.Below.{below_dirs}
 use Rattle.gufi_tree.proofs.Flat.{is_prefix-rest}
 use Rattle.gufi_tree.proofs.Kids.{subtree_rows-under}
-use Rattle.gufi_tree.proofs.Ranges.{below_range, below_within}
 use Rattle.gufi_sums.specs.declared.summary.Summary.{Summary}
 use Rattle.gufi_sums.specs.Total.{total, IsTotal}
 use Rattle.gufi_sums.specs.Laws.{total-append, IsTotal-reordered}
@@ -75,11 +73,3 @@ below_deep path (d ∷ ds) = by (is_prefix path d.path) refl (below_deep path ds
       let deep : length path ≤ length d.path = omega (arith, ap length w.1, length-append path w.0) in
       All-cons (λ (dir : Directory). length path ≤ length dir.path) d (below_dirs ds path) deep h
   by false e h = h
-
-module _ (tree : List Directory) (shape : HasTreeShape tree) (k : ℕ) (within : k < length tree) (sum : Summary) (is : IsTotal sum (subtree_rows tree (path_at tree k))) where
-  -- the range from a place on, of as many places as the sum at and below it counts directories
-  pub range_within : k + sum.dirs ≤ length tree
-  range_within = omega (arith, dirs_counted tree (path_at tree k) sum shape is, below_within tree k shape.order within)
-
-  pub range_is : take sum.dirs (drop k tree) ≡ below_dirs tree (path_at tree k)
-  range_is = ap (λ m. take m (drop k tree)) (dirs_counted tree (path_at tree k) sum shape is) ∙ sym (below_range tree k shape.order within)

@@ -1,5 +1,5 @@
 -- What a refresh gives, by the tests that are made one by one.
-use Rattle.std.proofs.Common.{◌≡◌, ℕ, ◌<◌, true, false, List, length, get_or, Option, None, Some, Ok, Err, refl, sym, ap, ◌∙◌}
+use Rattle.std.proofs.Common.{◌≡◌, ℕ, ◌<◌, true, false, List, length, get_or, None, Some, Ok, Err, refl, sym, ap, ◌∙◌}
 use Rattle.std.specs.Prelude.{option_map}
 use Rattle.std.proofs.lemmas.List.Quantifiers.{position-Some}
 use Rattle.gufi_base.specs.Paths.{Components}
@@ -12,6 +12,7 @@ use Rattle.gufi_tree.proofs.Flat.{found-has_dir}
 use Rattle.gufi_tree.proofs.Homes.{no_place}
 use Rattle.gufi_tree.proofs.Kids.{at_place}
 use Rattle.gufi_tree.proofs.Linked.{path_at-get, place_within}
+use Rattle.gufi_snap.proofs.Ancestors.{found_none, found_some}
 use Rattle.gufi_snap.specs.Refreshed.{refreshed}
 use Rattle.gufi_snap.specs.Snap.{Snap}
 use Rattle.gufi_snap.specs.declared.refresh.RefreshFault.TheVariants.{NotThere, TooMany, TooDeep}
@@ -36,20 +37,12 @@ module _ (snap : Snap) (path : Components) (part : List Directory) where
 
 -- what a search by the path found
 module _ (tree : List Directory) (path : Components) where
-  none_of : (o : Option ℕ) → option_map dir_id o ≡ None → o ≡ None
-  none_of None e = refl
-  none_of (Some k) e = absurd (let no : Some (dir_id k) ≡ None = e in cc)
-
-  some_of : (o : Option ℕ) (id : DirId) → option_map dir_id o ≡ Some id → o ≡ Some id.0
-  some_of None id e = absurd (let no : None ≡ Some id = e in cc)
-  some_of (Some k) id e = ap Some (ap (λ (v : Option DirId). elim v [ None ↦ k | Some w ↦ w.0 ]) e)
-
   pub not_found : HasTreeShape tree → option_map dir_id (place_of tree path) ≡ None → has_dir tree path ≡ false
-  not_found shape e = no_place tree path shape.order (none_of (place_of tree path) e)
+  not_found shape e = no_place tree path shape.order (found_none (place_of tree path) e)
 
   pub found_path : (id : DirId) → option_map dir_id (place_of tree path) ≡ Some id → path_at tree id.0 ≡ path
   found_path id e =
-      let at = some_of (place_of tree path) id e in
+      let at = found_some (place_of tree path) id e in
       let within = place_within tree path id.0 at in
       let d = (at_place tree id.0 within).0 in
       path_at-get tree id.0 d within ∙ sym ((path_eq-Decides path (get_or tree id.0 d).path).0 (position-Some (is_at path) tree id.0 d at).1)

@@ -119,12 +119,12 @@ module _ (tree part : List Directory) (k : ℕ) (shape : HasTreeShape tree) (own
     in' = omega (arith, end_within, old.len)
 
   -- the directory itself is among those replaced
-  pub some_gone : 0 < gone
+  some_gone : 0 < gone
   some_gone =
       let d = at_place tree k within in
       Has-some (below_dirs tree (path_at tree k)) d.0 (filter-Has (λ (dir : Directory). is_prefix (path_at tree k) dir.path) tree d.0 d.1 (ap (is_prefix (path_at tree k)) d.2 ∙ own_prefix (path_at tree k)))
 
-  pub at_path : (j : ℕ) → j ≡ k → path_at after j ≡ path_at tree k
+  at_path : (j : ℕ) → j ≡ k → path_at after j ≡ path_at tree k
   at_path j e =
       let d = (at_place part 0 some).0 in
       let here : k + 0 ≡ j = omega arith in
@@ -132,6 +132,15 @@ module _ (tree part : List Directory) (k : ℕ) (shape : HasTreeShape tree) (own
     where
       some : 0 < length part
       some = has_root part own
+
+  -- what stands before the directory, and isn't above it, doesn't lead to its path
+  pub not_above : (i : ℕ) → (k ≤ i) ⊎ (is_prefix (path_at after i) (path_at after k) ≡ false) → i < k → is_prefix (path_at tree i) (path_at tree k) ≡ false
+  not_above i (inl g) l = absurd (omega arith)
+  not_above i (inr out) l = ap (λ (p : Components). is_prefix p (path_at tree k)) (sym (path_before tree part k shape own within i l)) ∙ ap (is_prefix (path_at after i)) (sym (at_path k refl)) ∙ out
+
+  -- nor does what stands behind those replaced
+  pub not_back : (i : ℕ) → k + gone + i < length tree → is_prefix (path_at tree (k + gone + i)) (path_at tree k) ≡ false
+  not_back i l = leads_on tree shape k (k + gone + i) (omega (arith, some_gone)) l
 
   -- The sums of the new tree, but for those of the directories above the path.
   pub sums_spliced : (sums others : SumLists) → IsContents tree sums → IsContents part others
@@ -143,7 +152,7 @@ module _ (tree part : List Directory) (k : ℕ) (shape : HasTreeShape tree) (own
         (λ i l out. rw (
           spliced_before sums.below others.below k (k + gone) starts in' i s l,
           path_before tree part k shape own within i l,
-          rows_outside tree part k (path_at tree i) shape own within (apart i out l) (leads_on tree shape i k l within),
+          rows_outside tree part k (path_at tree i) shape own within (not_above i out l) (leads_on tree shape i k l within),
         ) (old.under i s (omega arith) (omega arith)))
         (λ i l out. rw (spliced_in sums.below others.below k (k + gone) starts in' i s (omega (arith, new.len)), path_in tree part k shape own within i l, rows_inside tree part k (path_at part i) shape own within)
         (total_below (path_at tree k) _ _ (new.under i s (omega arith) l)))
@@ -151,19 +160,12 @@ module _ (tree part : List Directory) (k : ℕ) (shape : HasTreeShape tree) (own
         (rw (
           spliced_behind sums.below others.below k (k + gone) starts in' i s,
           path_behind tree part k shape own within i l,
-          rows_outside tree part k (path_at tree (k + gone + i)) shape own within (leads_on tree shape k (k + gone + i) (behind i) l) (apart_behind i l),
+          rows_outside tree part k (path_at tree (k + gone + i)) shape own within (not_back i l) (apart_behind i l),
         ) (old.under (k + gone + i) s (omega arith) l)))
         j h right;
   } where
     in' : k + gone ≤ length sums.below
     in' = omega (arith, end_within, old.len)
-
-    apart : (i : ℕ) → (k ≤ i) ⊎ (is_prefix (path_at after i) (path_at after k) ≡ false) → i < k → is_prefix (path_at tree i) (path_at tree k) ≡ false
-    apart i (inl g) l = absurd (omega arith)
-    apart i (inr out) l = ap (λ (p : Components). is_prefix p (path_at tree k)) (sym (path_before tree part k shape own within i l)) ∙ ap (is_prefix (path_at after i)) (sym (at_path k refl)) ∙ out
-
-    behind : (i : ℕ) → k < k + gone + i
-    behind i = omega (arith, some_gone)
 
 -- The same of what is kept of two trees, where what is made is told by its parts.
 module _ (tree part : List Directory) (k count : ℕ) (sums others : SumLists) (old : IsContents tree sums) (new : IsContents part others) (within : k < length tree) (counted : count ≡ length (below_dirs tree (path_at tree k))) where

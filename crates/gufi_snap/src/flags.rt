@@ -30,7 +30,8 @@ pub(crate) fn known_flags(
     requires { (at ≤ end) × (end ≤ length flags.now) }
     ensures { IfOk result (λ known. known.items ≡ map Some (take at flags.now ++ (part.now ++ drop end flags.now))) }
 {
-    let mut known = Vec::new(alloc);
+    let count = at + part.len() + (flags.len() - end);
+    let mut known = Vec::with_capacity(alloc, count)?;
     push_known(&mut known, &flags[..at])?;
     push_known(&mut known, part)?;
     push_known(&mut known, &flags[end..])?;

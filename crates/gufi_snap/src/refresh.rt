@@ -110,6 +110,10 @@ impl Snapshot {
     }
 
     /// The snapshot in which a directory and all below it is replaced by another tree, whose root takes its place. The limit stays.
+    ///
+    /// One step for each directory of the part, which alone is summed and rolled up anew, beside the directories above it. What
+    /// is too large is told by sums before anything is copied. The snapshot itself stays, and shares the rows and sums outside.
+    /// Linear in the rows of the part, and a few words for each directory.
     pub fn refresh<L: Ledger>(
         &self,
         alloc: Global,
