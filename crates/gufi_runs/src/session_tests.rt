@@ -14,6 +14,9 @@ const X: &[u8] = b"/r|d|1|493|2|101|100|4096|4096|8|10|20|30|
 /r/x|f|2|420|1|101|100|0|4096|0|10|20|30|
 ";
 
+// One directory that nobody but its owner lists.
+const V: &[u8] = b"/r|d|1|448|2|105|100|4096|4096|8|10|20|30|\n";
+
 const USERS: &[u8] = b"ana:x:103:7:::\n";
 
 // A trace whose line 17 has a size that is no number.
@@ -39,6 +42,7 @@ fn shelf_of<R: AllocGlobal + Abort>(rt: &R, script: &[u8]) -> Result<MemShelf, F
         ("b", B),
         ("d", D),
         ("x", X),
+        ("v", V),
     ] {
         files.push((String::from_str(alloc, name)?, bytes.to_vec(alloc)?))?;
     }
@@ -190,6 +194,73 @@ reply 5 at 1 not a directory at depth 2
     Ok(())
 }
 
+// What the subtree held before is gone, the limit and all beside it stay, and its new owner alone lists it.
+#[test]
+fn a_refresh_replaces_a_subtree(rt: HostRuntime) -> Result<(), Fail> {
+    let replaced = Case {
+        script: b"publish 100 d
+refresh /a a
+refresh /zz a
+rollup 0
+barrier
+ask 2 102 / find
+ask 2 102 /a/b total
+",
+        status: 0,
+        text: b"publish 1 number 1
+refresh 2 number 2
+refresh 3 refused NotThere
+rollup 4 number 3
+reply 1 at 3 rows 2
+/
+/a
+reply 2 at 3 no such at depth 2
+",
+        note: b"",
+        numbers: &[3, 3],
+    };
+    let private = Case {
+        script: b"publish 100 d
+refresh /a v
+barrier
+ask 1 102 / find
+ask 1 105 / find
+",
+        status: 0,
+        text: b"publish 1 number 1
+refresh 2 number 2
+reply 1 at 2 rows 1
+/
+reply 2 at 2 rows 2
+/
+/a
+",
+        note: b"",
+        numbers: &[2, 2],
+    };
+    let refused = Case {
+        script: b"refresh /a w
+refresh /a a
+publish 0 x
+refresh /x a
+refresh /zz w
+",
+        status: 0,
+        text: b"refresh 1 refused 17 BadNumber 8
+refresh 2 refused nothing
+publish 3 number 1
+refresh 4 refused NotThere
+refresh 5 refused 17 BadNumber 8
+",
+        note: b"",
+        numbers: &[],
+    };
+    for case in [replaced, private, refused] {
+        check(&rt, &case)?;
+    }
+    Ok(())
+}
+
 #[test]
 fn a_session_ends_before_the_phase_without_its_file(rt: HostRuntime) -> Result<(), Fail> {
     let ended = Case {
@@ -206,7 +277,15 @@ rollup 1 refused nothing
         note: b"gufi: z not found\n",
         numbers: &[0],
     };
-    check(&rt, &ended)
+    check(&rt, &ended)?;
+    let part_missing = Case {
+        script: b"refresh / z",
+        status: 8,
+        text: b"",
+        note: b"gufi: z not found\n",
+        numbers: &[],
+    };
+    check(&rt, &part_missing)
 }
 
 fn check_fault<R: AllocGlobal + Abort + Threads + Wait + Sync>(

@@ -6,23 +6,26 @@ use Rattle.std.proofs.lemmas.Bool.{and_from, le-leb, eq-eqb, eqb-true}
 use Rattle.std.proofs.lemmas.List.{append-nil, take_at, drop_at}
 use Rattle.std.proofs.lemmas.List.Sums.{sum_by_from}
 use Rattle.gufi_base.specs.Basics.{is_empty, line}
+use Rattle.gufi_base.specs.Paths.{Components}
 use Rattle.gufi_tree.specs.Tree.{Directory}
+use Rattle.gufi_snap.specs.Refreshed.{refreshed}
+use Rattle.gufi_snap.specs.declared.refresh.RefreshFault.{RefreshFault}
 use Rattle.gufi_trace.specs.TraceText.{trace_means, TraceFailure}
 use Rattle.gufi_io.specs.Files.{Files}
 use Rattle.gufi_phases.specs.declared.act.Act.TheVariants as acts
 use Rattle.gufi_session.specs.declared.publishing.Publishing.{Publishing}
-use Rattle.gufi_session.specs.declared.publishing.Publishing.TheVariants.{Publish, Rollup}
+use Rattle.gufi_session.specs.declared.publishing.Publishing.TheVariants.{Publish, Rollup, Refresh}
 use Rattle.gufi_session.specs.declared.reply.Asking.{Asking}
 use Rattle.gufi_phases.specs.Phases.{news_of, last_after, line_of, made, last_of_acts, command_lines, command_count, ask_count, asks_in, acts_text, act_text, NoneBelow, NumbersFit}
 use Rattle.gufi_phases.specs.Phases as phases_of
 use Rattle.gufi_phases.specs.Sessions.{IsSession}
 use Rattle.gufi_plan.specs.declared.act.PlannedAct.{PlannedAct}
 use Rattle.gufi_plan.specs.declared.act.PlannedAct.TheVariants as planned
-use Rattle.gufi_session.specs.Session.{Published, adds, refuses, does_nothing, Publication, published, rolled, bytes_of, outcome, with_published, pubs_from, publication_at, outcome_text, text_from, lanes, is_ask, phases_text, never_falls, phase_fits, phases_fit}
+use Rattle.gufi_session.specs.Session.{Published, adds, refuses, does_nothing, Publication, published, rolled, replaced, grafted, bytes_of, outcome, with_published, pubs_from, publication_at, outcome_text, text_from, lanes, is_ask, phases_text, never_falls, phase_fits, phases_fit}
 use Rattle.gufi_session.specs.Session.{fits, session_text}
 use Rattle.gufi_session.specs.Run.{Run}
 use Rattle.gufi_session.specs.Ends.{Answered}
-use Rattle.gufi_session.specs.Loaded.{LoadedAct, loaded, loaded_phase, as_result, command_outcome, command_line, search_reply}
+use Rattle.gufi_session.specs.Loaded.{LoadedAct, loaded, loaded_phase, as_result, command_outcome, verb_of, command_line, search_reply}
 
 -- ---- numbers
 
@@ -84,6 +87,7 @@ unfolding phases_of.lanes
 lanes_same files [] = refl
 lanes_same files (planned.Publish delim limit file ∷ acts) = lanes_same files acts
 lanes_same files (planned.Rollup limit ∷ acts) = lanes_same files acts
+lanes_same files (planned.Refresh delim path file ∷ acts) = lanes_same files acts
 lanes_same files (planned.Ask lane search ∷ acts) = ap (λ l. lane ∷ l) (lanes_same files acts)
 
 abbrev counted : PlannedAct → ℕ
@@ -94,6 +98,7 @@ unfolding command_count
 commands_same files [] = refl
 commands_same files (planned.Publish delim limit file ∷ acts) = sum_by_from counted 1 acts ∙ ap (λ n. 1 + n) (commands_same files acts)
 commands_same files (planned.Rollup limit ∷ acts) = sum_by_from counted 1 acts ∙ ap (λ n. 1 + n) (commands_same files acts)
+commands_same files (planned.Refresh delim path file ∷ acts) = sum_by_from counted 1 acts ∙ ap (λ n. 1 + n) (commands_same files acts)
 commands_same files (planned.Ask lane search ∷ acts) = sum_by_from counted 0 acts ∙ ap (λ n. 0 + n) (commands_same files acts)
 
 asks_same : (files : Files) (phase : List PlannedAct) → length (lanes phase) ≡ ask_count (loaded_phase files phase)
@@ -101,6 +106,7 @@ unfolding ask_count
 asks_same files [] = refl
 asks_same files (planned.Publish delim limit file ∷ acts) = asks_same files acts ∙ (let n = ask_count (loaded_phase files acts) in let e : n ≡ 0 + n = omega arith in e)
 asks_same files (planned.Rollup limit ∷ acts) = asks_same files acts ∙ (let n = ask_count (loaded_phase files acts) in let e : n ≡ 0 + n = omega arith in e)
+asks_same files (planned.Refresh delim path file ∷ acts) = asks_same files acts ∙ (let n = ask_count (loaded_phase files acts) in let e : n ≡ 0 + n = omega arith in e)
 asks_same files (planned.Ask lane search ∷ acts) = ap suc (asks_same files acts) ∙ (let n = ask_count (loaded_phase files acts) in let e : suc n ≡ 1 + n = omega arith in e)
 
 made_news : (pubs : List Publication) (o : Published) → with_published pubs o ≡ pubs ++ phases_of.news (as_result o)
@@ -113,26 +119,47 @@ made_last pubs (adds p) = last_snoc None pubs p
 made_last pubs (refuses text) = refl
 made_last pubs does_nothing = refl
 
-trace_line : (pubs : List Publication) (k delim limit : ℕ) (trace : List ℕ) (r : Result (List Directory) TraceFailure)
-    → command_line (Publish delim limit trace) k (phases_of.numbered (length pubs) (as_result (published limit r))) ≡ outcome_text (codes "publish ") k (length (with_published pubs (published limit r))) (published limit r)
-trace_line pubs k delim limit trace (Ok tree) = ap (λ n. line (codes "publish " ++ decimal k ++ codes " number " ++ decimal n)) (sym (length-append pubs (record { tree = tree; limit = limit } ∷ [])))
-trace_line pubs k delim limit trace (Err failure) = refl
+-- a command adds a publication or has a refusal
+abbrev is_told : Published → Bool
+is_told (adds p) = true
+is_told (refuses text) = true
+is_told does_nothing = false
 
-rollup_line : (pubs : List Publication) (k limit : ℕ) (last : Option Publication)
-    → command_line (Rollup limit) k (phases_of.numbered (length pubs) (as_result (rolled limit last))) ≡ outcome_text (codes "rollup ") k (length (with_published pubs (rolled limit last))) (rolled limit last)
-rollup_line pubs k limit (Some p) = ap (λ n. line (codes "rollup " ++ decimal k ++ codes " number " ++ decimal n)) (sym (length-append pubs (record { tree = p.tree; limit = limit } ∷ [])))
-rollup_line pubs k limit None = refl
+published_told : (limit : ℕ) (r : Result (List Directory) TraceFailure) → is_told (published limit r) ≡ true
+published_told limit (Ok tree) = refl
+published_told limit (Err failure) = refl
+
+rolled_told : (limit : ℕ) (last : Option Publication) → is_told (rolled limit last) ≡ true
+rolled_told limit None = refl
+rolled_told limit (Some p) = refl
+
+replaced_told : (r : Result Publication RefreshFault) → is_told (replaced r) ≡ true
+replaced_told (Ok p) = refl
+replaced_told (Err fault) = refl
+
+grafted_told : (path : Components) (r : Result (List Directory) TraceFailure) (last : Option Publication) → is_told (grafted path r last) ≡ true
+grafted_told path (Err failure) last = refl
+grafted_told path (Ok part) None = refl
+grafted_told path (Ok part) (Some p) = replaced_told (refreshed p path part)
+
+told_line : (pubs : List Publication) (k : ℕ) (command : Publishing) (o : Published) → is_told o ≡ true
+    → command_line command k (phases_of.numbered (length pubs) (as_result o)) ≡ outcome_text (verb_of command) k (length (with_published pubs o)) o
+told_line pubs k command (adds p) told = ap (λ n. line (verb_of command ++ decimal k ++ codes " number " ++ decimal n)) (sym (length-append pubs (p ∷ [])))
+told_line pubs k command (refuses text) told = refl
+told_line pubs k command does_nothing told = absurd cc
 
 module _ (files : Files) where
   -- one act: what it adds, the last publication behind it, and its line
   act_news : (pubs : List Publication) (act : PlannedAct) → with_published pubs (outcome files pubs act) ≡ pubs ++ news_of command_outcome (last_or None pubs) (loaded files act)
   act_news pubs (planned.Publish delim limit file) = made_news pubs (published limit _)
   act_news pubs (planned.Rollup limit) = made_news pubs (rolled limit (last_or None pubs))
+  act_news pubs (planned.Refresh delim path file) = made_news pubs (grafted path _ (last_or None pubs))
   act_news pubs (planned.Ask lane search) = sym (append-nil pubs)
 
   act_last : (pubs : List Publication) (act : PlannedAct) → last_or None (with_published pubs (outcome files pubs act)) ≡ last_after command_outcome (last_or None pubs) (loaded files act)
   act_last pubs (planned.Publish delim limit file) = made_last pubs (published limit _)
   act_last pubs (planned.Rollup limit) = made_last pubs (rolled limit (last_or None pubs))
+  act_last pubs (planned.Refresh delim path file) = made_last pubs (grafted path _ (last_or None pubs))
   act_last pubs (planned.Ask lane search) = refl
 
   pub pubs_made : (pubs : List Publication) (phase : List PlannedAct) → (pubs_from files pubs phase ≡ pubs ++ made command_outcome (last_or None pubs) (loaded_phase files phase))
@@ -178,11 +205,14 @@ module _ (files : Files) where
       ∙ ap (λ x. search_reply asking i n (publication_at all n) ++ acts_text search_reply all (i + 1) (drop 1 numbers) (command_lines command_outcome command_line k x last rest) rest) no_news
       ∙ ap (λ x. search_reply asking i n (publication_at all n) ++ x) (text_same all k (i + 1) pubs (drop 1 numbers) acts)
   text_same all k i pubs numbers (planned.Publish delim limit file ∷ acts) =
-      command_text all k i pubs numbers (Publish delim limit (bytes_of files file)) (planned.Publish delim limit file) (loaded_phase files acts) (outcome files pubs (planned.Publish delim limit file)) _ _ (act_news pubs (planned.Publish delim limit file)) (act_last pubs (planned.Publish delim limit file)) (trace_line pubs k delim limit (bytes_of files file) (trace_means delim (bytes_of files file)))
+      command_text all k i pubs numbers (Publish delim limit (bytes_of files file)) (planned.Publish delim limit file) (loaded_phase files acts) (outcome files pubs (planned.Publish delim limit file)) _ _ (act_news pubs (planned.Publish delim limit file)) (act_last pubs (planned.Publish delim limit file)) (told_line pubs k (Publish delim limit (bytes_of files file)) _ (published_told limit (trace_means delim (bytes_of files file))))
       (text_same all (k + 1) i (with_published pubs (outcome files pubs (planned.Publish delim limit file))) numbers acts)
   text_same all k i pubs numbers (planned.Rollup limit ∷ acts) =
-      command_text all k i pubs numbers (Rollup limit) (planned.Rollup limit) (loaded_phase files acts) (outcome files pubs (planned.Rollup limit)) _ _ (act_news pubs (planned.Rollup limit)) (act_last pubs (planned.Rollup limit)) (rollup_line pubs k limit (last_or None pubs))
+      command_text all k i pubs numbers (Rollup limit) (planned.Rollup limit) (loaded_phase files acts) (outcome files pubs (planned.Rollup limit)) _ _ (act_news pubs (planned.Rollup limit)) (act_last pubs (planned.Rollup limit)) (told_line pubs k (Rollup limit) _ (rolled_told limit (last_or None pubs)))
       (text_same all (k + 1) i (with_published pubs (outcome files pubs (planned.Rollup limit))) numbers acts)
+  text_same all k i pubs numbers (planned.Refresh delim path file ∷ acts) =
+      command_text all k i pubs numbers (Refresh delim path (bytes_of files file)) (planned.Refresh delim path file) (loaded_phase files acts) (outcome files pubs (planned.Refresh delim path file)) _ _ (act_news pubs (planned.Refresh delim path file)) (act_last pubs (planned.Refresh delim path file)) (told_line pubs k (Refresh delim path (bytes_of files file)) _ (grafted_told path (trace_means delim (bytes_of files file)) (last_or None pubs)))
+      (text_same all (k + 1) i (with_published pubs (outcome files pubs (planned.Refresh delim path file))) numbers acts)
 
   -- phases: the numbers fit, and the text is the script's
   pub session_same : (phases : List (List PlannedAct)) (pubs : List Publication) (k i : ℕ) (numbers text : List ℕ)

@@ -6,6 +6,7 @@ use Rattle.gufi_base.specs.Paths.{read_path}
 use Rattle.gufi_io.specs.Files.{Files}
 use Rattle.gufi_access.specs.Access.{class_for, is_granted, can_list}
 use Rattle.gufi_tree.specs.Build.{tree_of}
+use Rattle.gufi_tree.specs.Graft.{graft}
 use Rattle.gufi_tree.specs.Resolve.{resolve}
 use Rattle.gufi_walk.specs.Answer.{answer}
 use Rattle.gufi_trace.specs.TraceText.{trace_means, trace_lines, read_line, read_lines, read_meta, read_line_path}
@@ -15,7 +16,7 @@ use Rattle.gufi_find.specs.Reading.{read_find, read_find_words, wants_primary}
 use Rattle.gufi_find.specs.Operands.{primary_named}
 use Rattle.gufi_script.specs.declared.act.Act.{Act}
 use Rattle.gufi_script.specs.declared.act.Form.TheVariants as forms
-use Rattle.gufi_script.specs.declared.act.Act.TheVariants.{Publish, Rollup, Ask, Barrier}
+use Rattle.gufi_script.specs.declared.act.Act.TheVariants.{Publish, Rollup, Refresh, Ask, Barrier}
 use Rattle.gufi_script.specs.declared.fault.ScriptError.{ScriptError}
 use Rattle.gufi_script.specs.ScriptText.{PlacedAct}
 use Rattle.gufi_plan.specs.Plan.{Setting, Plan, plan, planned_act, search_of, query_of}
@@ -109,6 +110,17 @@ rollups_and_a_total : text_of (Rollup 5 ∷ Publish 0 (codes "b") ∷ Rollup 100
     ≡ codes "rollup 1 refused nothing\npublish 2 number 1\nrollup 3 number 2\nreply 1 at 2 total dirs 2 files 1 links 0 others 0 bytes 7 size 7 7 mtime 20 22 uid 101 102 gid 100 200\n"
 unfolding plan planned_act search_of query_of run_of phase_bytes fits reply_body session_text phases_text a1 x1 b1 trace_means trace_lines read_lines read_line read_line_path read_meta read_path tree_of resolve principal_of read_find read_find_words wants_primary primary_named total digits can_list is_granted class_for answer
 rollups_and_a_total = refl
+
+-- what the subtree held before is gone
+subtree_replaced : text_of (Publish 0 (codes "b") ∷ Refresh (codes "c" ∷ []) (codes "a") ∷ Refresh (codes "zz" ∷ []) (codes "a") ∷ Barrier ∷ find_from 1 [] ∷ []) (2 ∷ [])
+    ≡ codes "publish 1 number 1\nrefresh 2 number 2\nrefresh 3 refused NotThere\nreply 1 at 2 rows 2\n/\n/c\n"
+unfolding plan planned_act search_of query_of run_of phase_bytes fits reply_body session_text phases_text a1 x1 b1 trace_means trace_lines read_lines read_line read_line_path read_meta read_path tree_of resolve principal_of read_find read_find_words wants_primary primary_named total digits can_list is_granted class_for answer graft
+subtree_replaced = refl
+
+-- a trace's fault comes first
+damaged_part : text_of (Refresh [] (codes "w") ∷ Refresh [] (codes "a") ∷ []) [] ≡ codes "refresh 1 refused 2 BadNumber 8\nrefresh 2 refused nothing\n"
+unfolding plan planned_act search_of query_of run_of phase_bytes fits reply_body session_text phases_text a1 x1 b1 trace_means trace_lines read_lines read_line read_line_path read_meta read_path tree_of resolve principal_of read_find read_find_words wants_primary primary_named total digits can_list is_granted class_for answer graft w1
+damaged_part = refl
 
 denied_start : text_of (Publish 0 (codes "b") ∷ Barrier ∷ find_from 1 (codes "c" ∷ []) ∷ []) (1 ∷ []) ≡ codes "publish 1 number 1\nreply 1 at 1 denied at depth 1 class owner\n"
 unfolding plan planned_act search_of query_of run_of phase_bytes fits reply_body session_text phases_text a1 x1 b1 trace_means trace_lines read_lines read_line read_line_path read_meta read_path tree_of resolve principal_of read_find read_find_words wants_primary primary_named total digits can_list is_granted class_for answer

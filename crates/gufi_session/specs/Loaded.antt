@@ -9,9 +9,9 @@ use Rattle.gufi_phases.specs.declared.load.Stop.{Stop}
 use Rattle.gufi_plan.specs.declared.act.PlannedAct.{PlannedAct}
 use Rattle.gufi_plan.specs.declared.act.PlannedAct.TheVariants as planned
 use Rattle.gufi_session.specs.declared.publishing.Publishing.{Publishing}
-use Rattle.gufi_session.specs.declared.publishing.Publishing.TheVariants.{Publish, Rollup}
+use Rattle.gufi_session.specs.declared.publishing.Publishing.TheVariants.{Publish, Rollup, Refresh}
 use Rattle.gufi_session.specs.declared.reply.Asking.{Asking}
-use Rattle.gufi_session.specs.Session.{Published, adds, refuses, does_nothing, Publication, published, rolled, bytes_of, reply_text}
+use Rattle.gufi_session.specs.Session.{Published, adds, refuses, does_nothing, Publication, published, rolled, grafted, bytes_of, reply_text}
 use Rattle.gufi_session.specs.Run.{phase_bytes}
 
 abbrev pub LoadedAct : Type 0
@@ -20,6 +20,7 @@ LoadedAct = Act Publishing Asking
 abbrev pub loaded : Files → PlannedAct → LoadedAct
 loaded files (planned.Publish delim limit file) = acts.Publish (Publish delim limit (bytes_of files file))
 loaded files (planned.Rollup limit) = acts.Publish (Rollup limit)
+loaded files (planned.Refresh delim path file) = acts.Publish (Refresh delim path (bytes_of files file))
 loaded files (planned.Ask lane search) = acts.Ask lane (record { search = search })
 
 abbrev pub loaded_phase : Files → List PlannedAct → List LoadedAct
@@ -38,10 +39,12 @@ as_result does_nothing = Err (codes "")
 abbrev pub command_outcome : Publishing → Option Publication → Result Publication (List ℕ)
 command_outcome (Publish delim limit trace) last = as_result (published limit (trace_means delim trace))
 command_outcome (Rollup limit) last = as_result (rolled limit last)
+command_outcome (Refresh delim path trace) last = as_result (grafted path (trace_means delim trace) last)
 
 abbrev pub verb_of : Publishing → List ℕ
 verb_of (Publish delim limit trace) = codes "publish "
 verb_of (Rollup limit) = codes "rollup "
+verb_of (Refresh delim path trace) = codes "refresh "
 
 abbrev pub command_line : Publishing → ℕ → Result ℕ (List ℕ) → List ℕ
 command_line command k (Ok number) = line (verb_of command ++ decimal k ++ codes " number " ++ decimal number)

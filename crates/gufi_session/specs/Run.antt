@@ -7,11 +7,12 @@ use Rattle.gufi_phases.specs.declared.load.Stop.{Stop}
 use Rattle.gufi_phases.specs.declared.load.Stop.TheVariants.{NoFile, TooLong}
 use Rattle.gufi_plan.specs.Plan.{Plan}
 use Rattle.gufi_plan.specs.declared.act.PlannedAct.{PlannedAct}
-use Rattle.gufi_plan.specs.declared.act.PlannedAct.TheVariants.{Publish, Rollup, Ask}
+use Rattle.gufi_plan.specs.declared.act.PlannedAct.TheVariants.{Publish, Rollup, Refresh, Ask}
 
 abbrev pub named_file : PlannedAct → Option (List ℕ)
 named_file (Publish delim limit file) = Some file
 named_file (Rollup limit) = None
+named_file (Refresh delim path file) = Some file
 named_file (Ask lane search) = None
 
 -- A file ends the run where it isn't held, or where with it the bytes of its phase pass their limit.

@@ -8,6 +8,9 @@ use Rattle.gufi_base.specs.Paths.{Components}
 use Rattle.gufi_rows.specs.PathLines.{path_lines}
 use Rattle.gufi_tree.specs.Tree.{Directory}
 use Rattle.gufi_snap.specs.Snap.{Snap}
+use Rattle.gufi_snap.specs.Refreshed.{refreshed}
+use Rattle.gufi_snap.specs.declared.refresh.RefreshFault.{RefreshFault}
+use Rattle.gufi_snap.specs.declared.refresh.RefreshFault.TheVariants as refresh_faults
 use Rattle.gufi_trace.specs.TraceText.{trace_means, TraceFailure, failure_text}
 use Rattle.gufi_sums.specs.Total.{total}
 use Rattle.gufi_list.specs.Texts.{total_text}
@@ -20,7 +23,7 @@ use Rattle.gufi_plan.specs.declared.search.Query.{Query}
 use Rattle.gufi_plan.specs.declared.search.Query.TheVariants.{Finds, Totals, Selects}
 use Rattle.gufi_plan.specs.declared.search.Search.{Search}
 use Rattle.gufi_plan.specs.declared.act.PlannedAct.{PlannedAct}
-use Rattle.gufi_plan.specs.declared.act.PlannedAct.TheVariants.{Publish, Rollup, Ask}
+use Rattle.gufi_plan.specs.declared.act.PlannedAct.TheVariants.{Publish, Rollup, Refresh, Ask}
 
 -- ---- publications
 
@@ -46,10 +49,27 @@ abbrev pub rolled : ℕ → Option Publication → Published
 rolled limit None = refuses (codes "nothing")
 rolled limit (Some last) = adds (record { tree = last.tree; limit = limit })
 
+abbrev pub refresh_fault_text : RefreshFault → List ℕ
+refresh_fault_text refresh_faults.NotThere = codes "NotThere"
+refresh_fault_text refresh_faults.TooMany = codes "TooMany"
+refresh_fault_text refresh_faults.TooDeep = codes "TooDeep"
+refresh_fault_text refresh_faults.Memory = []
+
+abbrev pub replaced : Result Publication RefreshFault → Published
+replaced (Ok p) = adds p
+replaced (Err fault) = refuses (refresh_fault_text fault)
+
+-- A trace's fault comes before all others. The last publication's limit stays.
+abbrev pub grafted : Components → Result (List Directory) TraceFailure → Option Publication → Published
+grafted path (Err failure) last = refuses (failure_text failure)
+grafted path (Ok part) None = refuses (codes "nothing")
+grafted path (Ok part) (Some last) = replaced (refreshed last path part)
+
 -- what an act does, behind these publications
 abbrev pub outcome : Files → List Publication → PlannedAct → Published
 outcome files pubs (Publish delim limit file) = published limit (trace_means delim (bytes_of files file))
 outcome files pubs (Rollup limit) = rolled limit (last_or None pubs)
+outcome files pubs (Refresh delim path file) = grafted path (trace_means delim (bytes_of files file)) (last_or None pubs)
 outcome files pubs (Ask lane search) = does_nothing
 
 abbrev pub with_published : List Publication → Published → List Publication
@@ -96,6 +116,7 @@ publication_at pubs (suc n) = slice_get pubs n
 abbrev pub verb : PlannedAct → List ℕ
 verb (Publish delim limit file) = codes "publish "
 verb (Rollup limit) = codes "rollup "
+verb (Refresh delim path file) = codes "refresh "
 verb (Ask lane search) = []
 
 -- the line of publishing command k, where the list has this length after it
@@ -126,6 +147,7 @@ lanes (act ∷ acts) = lanes acts
 abbrev pub is_ask : PlannedAct → Bool
 is_ask (Publish delim limit file) = false
 is_ask (Rollup limit) = false
+is_ask (Refresh delim path file) = false
 is_ask (Ask lane search) = true
 
 -- The text of phases, where k and i are the numbers of the next publishing command and ask. A phase sees the publications up to its own end.

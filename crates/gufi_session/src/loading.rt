@@ -85,6 +85,19 @@ fn load_act<F: Shelf>(
             let command = Publishing::Rollup { limit: *limit };
             Ok((Act::Publish { command }, before))
         }
+        PlannedAct::Refresh { delim, path, file } => {
+            let bytes = read_file(alloc, shelf, file, before)?;
+            let after = before + bytes.len() as u32;
+            let Ok(at) = path.copy(alloc) else {
+                return Err(LoadFault::Memory);
+            };
+            let command = Publishing::Refresh {
+                delim: *delim,
+                at,
+                trace: Bytes::of(bytes),
+            };
+            Ok((Act::Publish { command }, after))
+        }
         PlannedAct::Ask { lane, search } => {
             let Ok(search) = search.share() else {
                 return Err(LoadFault::Memory);

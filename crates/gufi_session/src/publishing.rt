@@ -5,14 +5,15 @@ ghost use Rattle.gufi_base.specs.Basics.{result_map_err};
 ghost use Rattle.gufi_tree.specs.Build.{tree_of};
 ghost use Rattle.gufi_trace.specs.TraceText.{trace_means, failure_text, of_line, of_tree};
 ghost use Rattle.gufi_phases.specs.Made.{made_of};
-ghost use Rattle.gufi_session.specs.Session.{published, rolled};
+ghost use Rattle.gufi_session.specs.Session.{published, rolled, refresh_fault_text, replaced, grafted};
 ghost use Rattle.gufi_session.specs.Loaded.{as_result, verb_of};
+ghost use Rattle.gufi_snap.specs.Refreshed.{refreshed};
 
-use gufi_base::{Bytes, Memory, put_u64};
+use gufi_base::{Bytes, Memory, Path, put_u64};
 use gufi_phases::{Command, Made};
-use gufi_snap::Snapshot;
+use gufi_snap::{RefreshFault, Snapshot};
 use gufi_trace::{TraceError, TraceFault, put_tree_fault, read_trace};
-use gufi_tree::{Stanzas, TreeFault, build_stanzas};
+use gufi_tree::{Stanzas, Tree, TreeFault, build_stanzas};
 use std::alloc::Global;
 use std::sync::Arc;
 
@@ -21,42 +22,52 @@ use std::sync::Arc;
 pub(crate) enum Publishing {
     Publish { delim: u8, limit: u64, trace: Bytes },
     Rollup { limit: u64 },
+    Refresh { delim: u8, at: Path, trace: Bytes },
 }
 
 /// The refusal of a trace with a damaged line.
-fn line_refused(alloc: Global, fault: TraceFault) -> Result<Made<Snapshot>, Memory>
-    ensures { IfOk result (λ made. made_of made ≡ Err (failure_text (of_line (TraceError.Fault fault)))) }
+fn line_refusal(alloc: Global, fault: TraceFault) -> Result<Bytes, Memory>
+    ensures { IfOk result (λ text. text ≡ failure_text (of_line (TraceError.Fault fault))) }
 {
     let mut text = Vec::new(alloc);
     fault.put(&mut text)?;
-    Ok(Made::Refused { text })
+    Ok(Bytes::of(text))
 }
 
 /// The refusal of a trace whose lines are no tree.
-fn tree_refused(alloc: Global, fault: TreeFault) -> Result<Made<Snapshot>, Memory>
-    ensures { IfOk result (λ made. made_of made ≡ Err (failure_text (of_tree fault))) }
+fn tree_refusal(alloc: Global, fault: TreeFault) -> Result<Bytes, Memory>
+    ensures { IfOk result (λ text. text ≡ failure_text (of_tree fault)) }
 {
     let mut text = Vec::new(alloc);
     put_tree_fault(&mut text, fault)?;
-    Ok(Made::Refused { text })
+    Ok(Bytes::of(text))
 }
 
-/// The tree of a trace's lines, rolled up under a limit.
-fn publish_lines(alloc: Global, stanzas: Stanzas, limit: u64) -> Result<Made<Snapshot>, Memory>
+/// The tree of a trace's lines, or the text of its refusal.
+fn tree_of_lines(alloc: Global, stanzas: Stanzas) -> Result<Result<Tree, Bytes>, Memory>
     requires { length stanzas < 2 ^ 32 }
-    ensures { IfOk result (λ made. made_of made ≡ as_result (published limit (result_map_err of_tree (tree_of stanzas)))) }
+    ensures { IfOk result (λ read. read ≡ result_map_err failure_text (result_map_err of_tree (tree_of stanzas))) }
 {
     match build_stanzas(alloc, stanzas) {
-        Ok(tree) => Ok(Made::Added {
-            item: Snapshot::build_uncounted(alloc, tree, limit)?,
-        }),
+        Ok(tree) => Ok(Ok(tree)),
         Err(TreeFault::Memory) => Err(Memory),
-        Err(fault) => tree_refused(alloc, fault),
+        Err(fault) => Ok(Err(tree_refusal(alloc, fault)?)),
+    }
+}
+
+/// The tree of a trace, or the text of its refusal.
+#[tactic(auto, unfolding(gufi_trace::specs::TraceText::trace_means))]
+fn tree_of_trace(alloc: Global, delim: u8, trace: &[u8]) -> Result<Result<Tree, Bytes>, Memory>
+    ensures { IfOk result (λ read. read ≡ result_map_err failure_text (trace_means delim trace.now)) }
+{
+    match read_trace(alloc, delim, trace) {
+        Ok(stanzas) => tree_of_lines(alloc, stanzas),
+        Err(TraceError::Memory) => Err(Memory),
+        Err(TraceError::Fault(fault)) => Ok(Err(line_refusal(alloc, fault)?)),
     }
 }
 
 /// The tree of a trace, rolled up under a limit.
-#[tactic(auto, unfolding(gufi_trace::specs::TraceText::trace_means))]
 fn publish_trace(
     alloc: Global,
     delim: u8,
@@ -65,11 +76,23 @@ fn publish_trace(
 ) -> Result<Made<Snapshot>, Memory>
     ensures { IfOk result (λ made. made_of made ≡ as_result (published limit (trace_means delim trace.now))) }
 {
-    match read_trace(alloc, delim, trace) {
-        Ok(stanzas) => publish_lines(alloc, stanzas, limit),
-        Err(TraceError::Memory) => Err(Memory),
-        Err(TraceError::Fault(fault)) => line_refused(alloc, fault),
+    match tree_of_trace(alloc, delim, trace)? {
+        Ok(tree) => Ok(Made::Added {
+            item: Snapshot::build_uncounted(alloc, tree, limit)?,
+        }),
+        Err(text) => Ok(Made::Refused {
+            text: text.into_vec(),
+        }),
     }
+}
+
+/// The refusal of a command that needs a publication before it.
+fn nothing_published(alloc: Global) -> Result<Made<Snapshot>, Memory>
+    ensures { IfOk result (λ made. made_of made ≡ Err (codes "nothing")) }
+{
+    Ok(Made::Refused {
+        text: Vec::from_slice(alloc, b"nothing")?,
+    })
 }
 
 /// The last publication's tree under another limit.
@@ -81,11 +104,55 @@ fn roll_up(
     ensures { IfOk result (λ made. made_of made ≡ as_result (rolled limit (option_map arc_value last.now))) }
 {
     match last {
-        None => Ok(Made::Refused {
-            text: Vec::from_slice(alloc, b"nothing")?,
-        }),
+        None => nothing_published(alloc),
         Some(last) => Ok(Made::Added {
             item: last.with_limit(alloc, limit)?,
+        }),
+    }
+}
+
+/// The word of a refusal.
+fn refusal_word(fault: RefreshFault) -> &'static [u8]
+    ensures { result.now ≡ refresh_fault_text fault }
+{
+    match fault {
+        RefreshFault::NotThere => b"NotThere",
+        RefreshFault::TooMany => b"TooMany",
+        RefreshFault::TooDeep => b"TooDeep",
+        RefreshFault::Memory => b"",
+    }
+}
+
+/// A snapshot with the subtree at a path replaced by another tree.
+fn replace(alloc: Global, last: &Snapshot, at: &Path, part: Tree) -> Result<Made<Snapshot>, Memory>
+    ensures { IfOk result (λ made. made_of made ≡ as_result (replaced (refreshed last.now at.now part))) }
+{
+    match last.refresh_uncounted(alloc, at, part) {
+        Ok(item) => Ok(Made::Added { item }),
+        Err(RefreshFault::Memory) => Err(Memory),
+        Err(fault) => Ok(Made::Refused {
+            text: Vec::from_slice(alloc, refusal_word(fault))?,
+        }),
+    }
+}
+
+/// The last publication with the subtree at a path replaced by the tree of a trace, which is read first.
+fn refresh(
+    alloc: Global,
+    delim: u8,
+    at: &Path,
+    trace: &[u8],
+    last: &Option<Arc<Snapshot>>,
+) -> Result<Made<Snapshot>, Memory>
+    ensures { IfOk result (λ made. made_of made ≡ as_result (grafted at.now (trace_means delim trace.now) (option_map arc_value last.now))) }
+{
+    match tree_of_trace(alloc, delim, trace)? {
+        Ok(part) => match last {
+            None => nothing_published(alloc),
+            Some(last) => replace(alloc, last, at, part),
+        },
+        Err(text) => Ok(Made::Refused {
+            text: text.into_vec(),
         }),
     }
 }
@@ -98,6 +165,7 @@ fn line_head(alloc: Global, publishing: &Publishing, command: u32) -> Result<Vec
     match publishing {
         Publishing::Publish { .. } => text.extend_from_slice(b"publish ")?,
         Publishing::Rollup { .. } => text.extend_from_slice(b"rollup ")?,
+        Publishing::Refresh { .. } => text.extend_from_slice(b"refresh ")?,
     }
     put_u64(&mut text, u64::from(command))?;
     Ok(text)
@@ -122,6 +190,9 @@ impl Command<Snapshot> for Publishing {
                 trace,
             } => publish_trace(alloc, *delim, *limit, trace.as_slice()),
             Publishing::Rollup { limit } => roll_up(alloc, *limit, last),
+            Publishing::Refresh { delim, at, trace } => {
+                refresh(alloc, *delim, at, trace.as_slice(), last)
+            }
         }
     }
 
