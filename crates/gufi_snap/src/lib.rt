@@ -1,6 +1,7 @@
 //! Snapshots: a tree, whose directories a scan borrows as stores, the sums of their rows, and what of it is rolled up.
 //!
 //! Contracts see a snapshot as its tree and its limit; what else it keeps follows from these.
+//! `refresh` replaces a directory and all below it by another tree, and keeps what is known of all else.
 //! It stands on the tree, stores, sums and roll-up; queries stand on it.
 #![tactic(auto)]
 
