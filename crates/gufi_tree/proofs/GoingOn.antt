@@ -79,11 +79,15 @@ module _ (text next : List ℕ) (rows after : List Packed) (goes : GoesOn text n
   pub directories-goes_on : (heads : List Head) → All (IsHead text rows) heads → map (directory_in next after) heads ≡ map (directory_in text rows) heads
   directories-goes_on heads each = map-same (directory_in next after) (directory_in text rows) heads (All-weaker (IsHead text rows) _ directory_in-more heads each)
 
-  pub IsBundle-goes_on : (heads : List Head) → All (IsHead text rows) heads → IsBundle next after heads
-  IsBundle-goes_on heads each = record { each = All-weaker (IsHead text rows) (IsHead next after) IsHead-more heads each; packed = goes.packed }
+  pub IsBundle-goes_on : (heads : List Head) (longest : ℕ) → IsBundle text rows heads longest → IsBundle next after heads longest
+  IsBundle-goes_on heads longest is = record { each = All-weaker (IsHead text rows) (IsHead next after) IsHead-more heads is.each; packed = goes.packed; short = is.short }
 
-pub IsBundle-push : (text : List ℕ) (rows : List Packed) (heads : List Head) (h : Head) → IsBundle text rows heads → IsHead text rows h → IsBundle text rows (heads ++ h ∷ [])
-IsBundle-push text rows heads h is here = record { each = All-push (IsHead text rows) heads h is.each here; packed = is.packed }
+pub IsBundle-push : (text : List ℕ) (rows : List Packed) (heads : List Head) (longest most : ℕ) (h : Head) → IsBundle text rows heads longest → IsHead text rows h → longest ≤ most → h.path ≤ most → IsBundle text rows (heads ++ h ∷ []) most
+IsBundle-push text rows heads longest most h is here le own = record {
+  each = All-push (IsHead text rows) heads h is.each here;
+  packed = is.packed;
+  short = All-push (λ (head : Head). head.path ≤ most) heads h (All-weaker (λ (head : Head). head.path ≤ longest) (λ (head : Head). head.path ≤ most) (λ (head : Head) (short : head.path ≤ longest). omega arith) heads is.short) own;
+}
 
 -- the entries that were packed last
 module _ (text next : List ℕ) (rows after : List Packed) (entries : List Entry) (is : entries_in next after ≡ entries_in text rows ++ entries) where

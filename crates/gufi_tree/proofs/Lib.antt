@@ -37,3 +37,4 @@ pub mod Waiting
 pub mod Bundled
 pub mod TooLong
 pub mod GraftParents
+pub mod Short

@@ -5,7 +5,7 @@ use Rattle.std.specs.List.{list_any, list_all, flat_map}
 use Rattle.std.proofs.lemmas.Bool.{or_from, and_parts, leb-true, le-ltb, lt-ltb, ltb-true, ltb-false}
 use Rattle.std.proofs.lemmas.List.{append-nil, length-append, length-take, length-take-le, take_all, take_more, drop_all, drop-append-le, get_or-drop, get_or-take}
 use Rattle.std.proofs.lemmas.List.Concat.{flat_map-append}
-use Rattle.std.proofs.lemmas.List.Elements.{All-map, All-weaker}
+use Rattle.std.proofs.lemmas.List.Elements.{All-drop, All-map, All-take, All-weaker}
 use Rattle.std.proofs.lemmas.List.Folds.{list_any-append, list_any_none, list_any_at, list_any_more}
 use Rattle.gufi_base.specs.declared.record.Row.{Row}
 use Rattle.gufi_base.specs.Basics.{is_empty}
@@ -15,7 +15,7 @@ use Rattle.gufi_base.specs.PathTexts.{kept_text}
 use Rattle.gufi_base.proofs.Texts.{slashed_text-closed}
 use Rattle.gufi_tree.specs.declared.tree.Entry.{Entry}
 use Rattle.gufi_tree.specs.declared.bundle.Packed.{Packed}
-use Rattle.gufi_tree.specs.Bundles.{entries_in, entry_in, name_in, IsPacked}
+use Rattle.gufi_tree.specs.Bundles.{entries_in, entry_in, name_in, IsPacked, IsShort}
 use Rattle.gufi_tree.specs.Graft.{put_below, is_over, leaves_room, has_long_row, is_too_deep, graft}
 use Rattle.gufi_tree.specs.Places.{path_at}
 use Rattle.gufi_tree.specs.Tree.{Directory, own_rows, entry_row, HasTreeShape}
@@ -274,3 +274,25 @@ module _ (tree part kept put : List Directory) (at count n : ℕ) (p : Component
 
   pub tree_too_long : of_part ≡ false → of_tree ≡ is_too_deep (graft tree (path_at tree at) part)
   tree_too_long h = sym (of_graft ∙ ap (λ (x : Bool). x || of_tree) h)
+
+-- no row of a directory with a short path is too long
+short_row : (p : Components) (longest : ℕ) (d : Directory) → list_all is_name p ≡ true → length (kept_text p) + longest ≤ 512 → IsShort longest d → has_long_row p d ≡ false
+short_row p longest d named room short =
+    let bytes = length (kept_text p) + length (kept_text d.path) - 2 in
+    let path = short.path in
+    let a = length-kept p in
+    let b = length-kept d.path in
+    let size : bytes + 2 ≡ length (kept_text p) + length (kept_text d.path) = omega arith in
+    let few : bytes ≤ 510 = omega arith in
+    rows_with_room p d bytes size (short_leaves_room p d.path bytes named short.names size few)
+    ∙ list_any_none (name_over (4095 - bytes)) d.entries
+    (All-weaker (λ (e : Entry). is_name e.name ≡ true) (λ (e : Entry). name_over (4095 - bytes) e ≡ false)
+    (λ (e : Entry) (h : is_name e.name ≡ true). le-ltb (4095 - bytes) (length e.name) (let most = (name_sizes e.name h).1 in omega arith)) d.entries short.entries)
+
+pub short_rows : (p : Components) (longest : ℕ) (ds : List Directory) → list_all is_name p ≡ true → length (kept_text p) + longest ≤ 512 → All (IsShort longest) ds → All (λ (d : Directory). has_long_row p d ≡ false) ds
+short_rows p longest ds named room = All-weaker (IsShort longest) (λ (d : Directory). has_long_row p d ≡ false) (λ (d : Directory) (short : IsShort longest d). short_row p longest d named room short) ds
+
+pub none_of_range : (p : Components) (ds : List Directory) (from end : ℕ) → All (λ (d : Directory). has_long_row p d ≡ false) ds → false ≡ list_any (has_long_row p) (drop from (take end ds))
+none_of_range p ds from end none =
+    sym (list_any_none (has_long_row p) (drop from (take end ds))
+    (All-drop (λ (d : Directory). has_long_row p d ≡ false) from (take end ds) (All-take (λ (d : Directory). has_long_row p d ≡ false) end ds none)))

@@ -1,7 +1,8 @@
 -- Directories packed in a bundle: each by its record, its path and its link, and its entries by theirs, all bytes in one text.
 use Rattle.std.specs.Prelude.{ℕ, ◌+◌, ◌≤◌, List, length, take, drop, map, All, IsTrue}
+use Rattle.std.specs.List.{list_all}
 use Rattle.gufi_base.specs.Names.{is_name}
-use Rattle.gufi_base.specs.PathTexts.{names, IsText}
+use Rattle.gufi_base.specs.PathTexts.{kept_text, names, IsText}
 use Rattle.gufi_tree.specs.declared.tree.Entry.{Entry}
 use Rattle.gufi_tree.specs.declared.bundle.Packed.{Packed}
 use Rattle.gufi_tree.specs.declared.bundle.Head.{Head}
@@ -45,6 +46,14 @@ pub record IsHead (text : List ℕ) (rows : List Packed) (h : Head) : Type 0 whe
   pub path : IsText (path_in text h)
   pub entries : h.first + h.count ≤ length rows
 
-pub record IsBundle (text : List ℕ) (rows : List Packed) (heads : List Head) : Type 0 where
+-- no path has more bytes than the longest
+pub record IsBundle (text : List ℕ) (rows : List Packed) (heads : List Head) (longest : ℕ) : Type 0 where
   pub each : All (IsHead text rows) heads
   pub packed : All (IsPacked text) rows
+  pub short : All (λ head. head.path ≤ longest) heads
+
+-- a directory whose names are names, with a path of at most so many bytes as it is kept
+pub record IsShort (longest : ℕ) (dir : Directory) : Type 0 where
+  pub path : length (kept_text dir.path) ≤ longest
+  pub names : IsTrue (list_all is_name dir.path)
+  pub entries : All (λ entry. IsTrue (is_name entry.name)) dir.entries

@@ -3,7 +3,7 @@
 ghost use Rattle.std.specs.Prelude.{◌≡◌, ℕ, ◌+◌, ◌<◌, ◌≤◌, ◌^◌, ◌++◌, ◌∷◌, [], List, length, map, take, slice_index_or, All, IsTrue, IfOk, OnOk, OnErr};
 ghost use Rattle.gufi_base.specs.Names.{is_name};
 ghost use Rattle.gufi_tree.specs.Tree.{Directory};
-ghost use Rattle.gufi_tree.specs.Bundles.{bytes_at, directory_in, entry_in, entries_in, IsHead, IsPacked};
+ghost use Rattle.gufi_tree.specs.Bundles.{bytes_at, directory_in, entry_in, entries_in, IsHead, IsPacked, IsShort};
 ghost use Rattle.gufi_tree.specs.GoingOn.{GoesOn};
 ghost use Rattle.gufi_tree.specs.Packs.{entries_of, shifted, shifted_row, IsNear};
 
@@ -40,6 +40,7 @@ pub(crate) struct Bundle {
     heads: Vec<Head>,
     rows: Vec<Packed>,
     text: Vec<u8>,
+    longest: u16,
 }
 
 impl Model for Bundle {
@@ -52,7 +53,7 @@ impl Model for Bundle {
 
     ghost view = { λ b. map (directory_in b.text.items b.rows.items) b.heads.items };
 
-    ghost invariant = { λ b. IsBundle b.text.items b.rows.items b.heads.items };
+    ghost invariant = { λ b. IsBundle b.text.items b.rows.items b.heads.items b.longest };
 }
 
 /// Puts some bytes and a link behind a text, and tells where they begin.
@@ -172,6 +173,7 @@ impl Bundle {
             heads: Vec::new(alloc),
             rows: Vec::new(alloc),
             text: Vec::new(alloc),
+            longest: 0,
         }
     }
 
@@ -185,6 +187,13 @@ impl Bundle {
     /// How many directories and entries are kept.
     pub(crate) fn rows(&self) -> usize {
         self.heads.len().saturating_add(self.rows.len())
+    }
+
+    /// How many bytes the longest path has, as it is kept.
+    pub(crate) fn longest(&self) -> u16
+        ensures { All (IsShort result) self.now }
+    {
+        self.longest
     }
 
     /// The directory at a place. `O(1)`.
@@ -214,6 +223,7 @@ impl Bundle {
     {
         let head = pack_directory(&mut self.text, &mut self.rows, path, rec, entries)?;
         self.heads.push(head)?;
+        self.longest = self.longest.max(head.path);
         Ok(())
     }
 
@@ -225,6 +235,7 @@ impl Bundle {
             heads: Vec::from_slice(alloc, self.heads.as_slice())?,
             rows: Vec::from_slice(alloc, self.rows.as_slice())?,
             text: Vec::from_slice(alloc, self.text.as_slice())?,
+            longest: self.longest,
         })
     }
 
@@ -235,5 +246,6 @@ impl Bundle {
         self.heads.clear();
         self.rows.clear();
         self.text.clear();
+        self.longest = 0;
     }
 }

@@ -6,6 +6,7 @@ ghost use Rattle.std.specs.List.Sorted.{IsPermutation};
 ghost use Rattle.gufi_tree.specs.Tree.{Directory};
 ghost use Rattle.gufi_tree.specs.Stored.{directory_of};
 ghost use Rattle.gufi_tree.specs.Bundled.{lists_of, directory_at, AreKept, Keep, Stands};
+ghost use Rattle.gufi_tree.specs.Bundles.{IsShort};
 ghost use Rattle.gufi_tree.specs.Packs.{entries_of};
 
 use crate::borrowed::DirRef;
@@ -184,6 +185,18 @@ fn empty_others(
     Ok(())
 }
 
+/// How many bytes the longest path has in bundles, as it is kept, and so many at least.
+fn longest_of(bundles: &[Arc<Bundle, Global>], least: u16) -> u16
+    ensures least { least ≤ result }
+    ensures short { All (All (IsShort result)) (map arc_value bundles.now) }
+{
+    let mut longest = least;
+    for bundle in bundles {
+        longest = longest.max(bundle.longest());
+    }
+    longest
+}
+
 /// The directory at a place, where there is one.
 fn found_at<'a>(
     bundles: &'a [Arc<Bundle, Global>],
@@ -238,6 +251,13 @@ impl Dirs {
     {
         let Place { bundle, head } = self.places[place];
         bundle_at(self.bundles.as_slice(), &self.last, bundle).at(head as usize)
+    }
+
+    /// As many bytes as the longest path has, as it is kept, or more. Linear in the bundles.
+    pub(crate) fn longest(&self) -> u16
+        ensures { All (IsShort result) self.now }
+    {
+        longest_of(self.bundles.as_slice(), self.last.longest())
     }
 
     /// Adds a directory with these entries behind the others. What doesn't fit in a bundle is answered as want of memory: a path or a

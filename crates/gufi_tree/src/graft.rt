@@ -166,7 +166,8 @@ impl Tree {
 
     /// Whether a path of the graft has more than 256 components or 4,096 bytes of text.
     ///
-    /// Linear in the directories; entries are looked at where their directory's path is long.
+    /// Where all paths are short it looks at bundles alone. Else it is linear in the directories, and names are looked at below paths of
+    /// more than 3,840 bytes.
     pub fn is_graft_too_deep(&self, at: DirId, count: u32, part: &Tree) -> bool
         requires within { at.0 < length self.now }
         requires count { count ≡ length (filter (λ dir. is_prefix (path_at self.now at.0) dir.path) self.now) }

@@ -1,6 +1,6 @@
 //! Directories that have a row whose path is too long.
 
-ghost use Rattle.std.specs.Prelude.{◌≡◌, ◌+◌, ◌≤◌, ◌||◌, nat_lt, [], length, take, drop};
+ghost use Rattle.std.specs.Prelude.{◌≡◌, ◌+◌, ◌≤◌, ◌||◌, nat_lt, [], length, take, drop, true, false, All};
 ghost use Rattle.std.specs.List.{list_any};
 ghost use Rattle.gufi_base.specs.PathTexts.{kept_text};
 ghost use Rattle.gufi_tree.specs.Graft.{has_long_row, is_over, leaves_room};
@@ -9,7 +9,7 @@ use crate::borrowed::{DirRef, EntriesRef};
 use crate::dirs::Dirs;
 use gufi_base::PathRef;
 
-/// A text of so many bytes has at most 255 names, since each takes two bytes at least: one of its own and a slash.
+/// A path of so many bytes has at most 255 names, since each takes two bytes at least: one of its own and a slash.
 const FEW: u128 = 510;
 
 /// The path of the root.
@@ -58,12 +58,22 @@ fn directory_has_long_row(above: &PathRef<'_>, dir: &DirRef<'_>) -> bool
     is_any_over(names, bytes, &entries)
 }
 
+/// Whether all paths are so short that no directory, put below a path, has a row whose path is too long. Looks at bundles alone.
+fn are_all_short(above: &PathRef<'_>, dirs: &Dirs) -> bool
+    ensures { result ≡ true → All (λ dir. has_long_row above.now dir ≡ false) dirs.now }
+{
+    above.text().len() as u128 + dirs.longest() as u128 <= FEW + 2
+}
+
 /// Whether one of the directories from a place on, up to another, has such a row.
 pub(crate) fn any_has_long_row(above: &PathRef<'_>, dirs: &Dirs, from: usize, end: usize) -> bool
     requires order { from ≤ end }
     requires within { end ≤ length dirs.now }
     ensures { result ≡ list_any (has_long_row above.now) (drop from (take end dirs.now)) }
 {
+    if are_all_short(above, dirs) {
+        return false;
+    }
     for place in from..end {
         if directory_has_long_row(above, &dirs.at(place)) {
             return true;

@@ -1,8 +1,11 @@
 use Rattle.std.proofs.Common.{◌≡◌, ℕ, take, drop, sym, ap, ◌∙◌, arith}
 use Rattle.std.specs.List.{list_any}
 use Rattle.gufi_tree.specs.Graft.{has_long_row}
-use Rattle.gufi_tree.proofs.TooLong.{none_yet, one_between, none_between}
+use Rattle.gufi_tree.proofs.TooLong.{none_of_range, none_yet, one_between, none_between}
 use Rattle.gufi_tree.proofs.too_long.any_has_long_row.Goals as goal
+
+pub returns-then-are_all_short : goal.returns-then-are_all_short
+returns-then-are_all_short c = none_of_range c.args.above.now c.args.dirs.now c.args.from c.args.end (c.are_all_short.ensures c.if-are_all_short.true)
 
 pub loop-place-init : goal.loop-place-init
 loop-place-init c = none_yet (has_long_row c.args.above.now) c.args.dirs.now c.args.from

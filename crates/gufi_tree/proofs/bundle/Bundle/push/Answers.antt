@@ -1,4 +1,4 @@
-use Rattle.std.proofs.Common.{◌∙◌, [], ◌∷◌, ◌++◌, map, ap}
+use Rattle.std.proofs.Common.{◌∙◌, [], ◌∷◌, ◌++◌, map, ap, arith}
 use Rattle.std.proofs.lemmas.List.{map-append}
 use Rattle.std.proofs.lemmas.Result.{err_from_is_err_and}
 use Rattle.gufi_tree.specs.Bundles.{directory_in}
@@ -12,7 +12,7 @@ returns-in_err-head-clause-unchanged c =
 
 pub invariant_of-self-in_err-push : goal.invariant_of-self-in_err-push
 invariant_of-self-in_err-push c =
-    rw c.in_err-push.ensures.items (IsBundle-goes_on _ _ _ _ c.pack_directory.ensures.goes_on c.self.invariant.packed c.self.inside.heads.items c.self.invariant.each)
+    rw c.in_err-push.ensures.items (IsBundle-goes_on _ _ _ _ c.pack_directory.ensures.goes_on c.self.invariant.packed c.self.inside.heads.items c.self.inside.longest c.self.invariant)
 
 pub returns-in_err-push-clause-unchanged : goal.returns-in_err-push-clause-unchanged
 returns-in_err-push-clause-unchanged c =
@@ -22,8 +22,9 @@ returns-in_err-push-clause-unchanged c =
 
 pub invariant_of-self-2 : goal.invariant_of-self-2
 invariant_of-self-2 c =
-    rw c.in_ok-push.ensures.items (IsBundle-push _ _ c.self.inside.heads.items c.in_ok-head.head
-    (IsBundle-goes_on _ _ _ _ c.pack_directory.ensures.goes_on c.self.invariant.packed c.self.inside.heads.items c.self.invariant.each) c.in_ok-head.ensures.head)
+    let most = c.max-self-inside.ensures in
+    rw c.in_ok-push.ensures.items (IsBundle-push _ _ c.self.inside.heads.items c.self.inside.longest c.max-self-inside.result c.in_ok-head.head
+    (IsBundle-goes_on _ _ _ _ c.pack_directory.ensures.goes_on c.self.invariant.packed c.self.inside.heads.items c.self.inside.longest c.self.invariant) c.in_ok-head.ensures.head (omega arith) (omega arith))
 
 pub returns-clause-pushed : goal.returns-clause-pushed
 returns-clause-pushed c =
