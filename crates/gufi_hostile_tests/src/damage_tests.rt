@@ -1,5 +1,5 @@
 //! Damaged files and words: each kind of fault by a small input, and the note that tells it.
-use crate::runs::{A, check, repeated, sound};
+use crate::runs::{A, Input, check, repeated, sound};
 use std::alloc::{AllocError, Global};
 use std::process::Abort;
 use std::sync::Wait;
@@ -153,6 +153,10 @@ fn long_names_of_a_trace_are_told(rt: HostRuntime) -> Result<(), Fail> {
     Ok(())
 }
 
+const fn stat_words<'a>(option: &'a str) -> [&'a str; 5] {
+    ["stat", option, "t", "102", "/"]
+}
+
 // The files of users come before the index, which isn't there.
 fn check_users<R: AllocGlobal + Abort + Threads + Wait + Sync>(
     rt: &R,
@@ -162,8 +166,8 @@ fn check_users<R: AllocGlobal + Abort + Threads + Wait + Sync>(
     fault: &str,
 ) -> Result<(), Fail> {
     let note = format!(in rt.alloc(); "gufi: u {fault}\n")?;
-    let words = ["stat", option, "t", "102", "/"];
     let files = [("u", users)];
+    let words = stat_words(option);
     check(rt, &sound(&words, &files), status, b"", note.as_bytes())
 }
 
@@ -256,10 +260,12 @@ fn check_find<R: AllocGlobal + Abort + Threads + Wait + Sync>(
     words: &[&str],
     fault: &str,
 ) -> Result<(), Fail> {
-    let mut all = ["find", "--delim=|", "t", "102", "/"].to_vec(rt.alloc())?;
-    all.extend_from_slice(words)?;
     let note = format!(in rt.alloc(); "gufi: word {fault}\n")?;
-    check(rt, &sound(&all, &[("t", A)]), 2, b"", note.as_bytes())
+    let input = Input {
+        further_words: words,
+        ..sound(&["find", "--delim=|", "t", "102", "/"], &[("t", A)])
+    };
+    check(rt, &input, 2, b"", note.as_bytes())
 }
 
 #[test]
@@ -300,12 +306,16 @@ fn faulty_expressions_are_told_by_word(rt: HostRuntime) -> Result<(), Fail> {
     Ok(())
 }
 
+const fn query_words<'a>(text: &'a str) -> [&'a str; 6] {
+    ["query", "--delim=|", "t", "102", "/", text]
+}
+
 fn check_query<R: AllocGlobal + Abort + Threads + Wait + Sync>(
     rt: &R,
     text: &str,
     fault: &str,
 ) -> Result<(), Fail> {
-    let words = ["query", "--delim=|", "t", "102", "/", text];
+    let words = query_words(text);
     let note = format!(in rt.alloc(); "gufi: word 6 at {fault}\n")?;
     check(rt, &sound(&words, &[("t", A)]), 2, b"", note.as_bytes())
 }

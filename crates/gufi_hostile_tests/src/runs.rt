@@ -19,6 +19,8 @@ pub(crate) const X: &[u8] = b"/r|d|1|493|2|101|100|4096|4096|8|10|20|30|
 #[derive(Clone, Copy)]
 pub(crate) struct Input<'a> {
     pub(crate) words: &'a [&'a str],
+    // The words behind these.
+    pub(crate) further_words: &'a [&'a str],
     pub(crate) files: &'a [(&'a str, &'a [u8])],
     pub(crate) bad_opens: &'a [u64],
     pub(crate) bad_reads: &'a [u64],
@@ -36,6 +38,7 @@ pub(crate) struct Ran {
 pub(crate) fn sound<'a>(words: &'a [&'a str], files: &'a [(&'a str, &'a [u8])]) -> Input<'a> {
     Input {
         words,
+        further_words: &[],
         files,
         bad_opens: &[],
         bad_reads: &[],
@@ -63,12 +66,11 @@ fn sink_of(alloc: Global, bad_writes: &[u64]) -> Result<MemSink, AllocError> {
     Ok(MemSink::new(room, 1, bad_writes.to_vec(alloc)?))
 }
 
-fn words_of(alloc: Global, words: &[&str]) -> Result<Vec<String>, AllocError> {
-    let mut all = Vec::with_capacity(alloc, words.len())?;
+fn push_words(all: &mut Vec<String>, alloc: Global, words: &[&str]) -> Result<(), AllocError> {
     for word in words {
         all.push(String::from_str(alloc, word)?)?;
     }
-    Ok(all)
+    Ok(())
 }
 
 pub(crate) fn run<R: AllocGlobal + Abort + Threads + Wait + Sync, G: Gate + Sync>(
@@ -77,7 +79,9 @@ pub(crate) fn run<R: AllocGlobal + Abort + Threads + Wait + Sync, G: Gate + Sync
     input: &Input<'_>,
 ) -> Result<Ran, Fail> {
     let alloc = rt.alloc();
-    let words = words_of(alloc, input.words)?;
+    let mut words = Vec::new(alloc);
+    push_words(&mut words, alloc, input.words)?;
+    push_words(&mut words, alloc, input.further_words)?;
     let mut shelf = shelf_of(rt, input)?;
     let mut out = sink_of(alloc, input.bad_writes)?;
     let mut notes = sink_of(alloc, &[])?;
