@@ -1,9 +1,8 @@
 //! The bytes of an ask.
 
-ghost use Rattle.std.specs.Prelude.{◌≡◌, ◌<◌, ◌^◌, length, IfOk};
+ghost use Rattle.std.specs.Prelude.{◌≡◌, ◌++◌, ◌<◌, ◌^◌, length, IfOk};
 ghost use Rattle.std.specs.List.{All};
 ghost use Rattle.gufi_cache.specs.Asks.{ask_bytes, word_bytes};
-ghost use Rattle.std.specs.Prelude.{◌++◌};
 
 use gufi_base::{Bytes, Memory};
 use std::alloc::Global;

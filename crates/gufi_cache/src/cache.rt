@@ -17,7 +17,8 @@ use std::num::NonZeroUsize;
 
 /// The texts that were kept last, by their keys.
 ///
-/// A look-up and a pair that is kept take O(1) in the number of pairs, and time in the bytes of the key.
+/// A look-up and a pair that is kept take time by the bytes of the key, and not by the number of pairs, unless hashes collide:
+/// then at most as many comparisons as there are pairs.
 #[derive(Drop)]
 pub struct Cache {
     texts: LruCache<CacheKey, Bytes>,
@@ -57,7 +58,8 @@ impl Cache {
         ensures present { IsSome result ↔ Contains (keys_of self.old.pairs) key.now }
         ensures text { option_map (λ text. text.now) result ≡ text_of key.now self.old }
     {
-        match self.texts.get(key) {
+        let found = self.texts.get(key);
+        match found {
             Some(text) => Some(text.as_slice()),
             None => None,
         }
@@ -65,7 +67,7 @@ impl Cache {
 
     /// Keeps a text under a key, as the most recent. Past the capacity the last pair is dropped.
     ///
-    /// A key that is there takes no memory, and its old text is dropped.
+    /// A key that is there takes no memory, and its old text is dropped. Where memory is wanted, all stays as it was.
     #[tactic(auto, using(crate::proofs::Present::found_in_keys))]
     pub fn keep(&mut self, key: CacheKey, text: Vec<u8>) -> Result<(), Memory>
         ensures kept { OnOk result (self.new ≡ put_in_front key text.items self.old) }

@@ -1,11 +1,9 @@
 //! What an answer is kept under.
 
-ghost use Rattle.std.specs.Prelude.{◌≡◌, ◌↔◌, ◌++◌, IsTrue, IfOk};
-ghost use Rattle.std.specs.Hash as fed;
+ghost use Rattle.std.specs.Prelude.{◌≡◌, ◌↔◌, IsTrue, IfOk};
 ghost use Rattle.std.specs.Hash.{same_Alike};
 ghost use Rattle.std.specs.Cmp.{decided, partial_equiv_from_equiv};
 ghost use Rattle.gufi_base.specs.Paths.{path_eq};
-ghost use Rattle.gufi_base.specs.PathTexts.{kept_text};
 ghost use Rattle.gufi_cache.specs.Keys.{key_of, same_key, same_principal, key_input};
 ghost use Rattle.gufi_cache.specs.SameKeys.{same_key-Decides};
 
