@@ -53,13 +53,20 @@ impl Cache {
     }
 
     /// The text of a key, where it is kept; its pair is then the most recent. Takes no memory.
+    #[tactic(auto, using(crate::proofs::Present::shown_in_keys))]
     pub fn find(&mut self, key: &CacheKey) -> Option<&[u8]>
         ensures* moved { sem 𝓛 (EndsAs self.entry (moved_to_front key.now self.old)) }
         ensures present { IsSome result ↔ Contains (keys_of self.old.pairs) key.now }
         ensures text { option_map (λ text. text.now) result ≡ text_of key.now self.old }
     {
-        let found = self.texts.get(key);
-        match found {
+        self.shown(key)
+    }
+
+    fn shown(&mut self, key: &CacheKey) -> Option<&[u8]>
+        ensures* moved { sem 𝓛 (EndsAs self.entry (moved_to_front key.now self.old)) }
+        ensures text { option_map (λ text. text.now) result ≡ text_of key.now self.old }
+    {
+        match self.texts.get(key) {
             Some(text) => Some(text.as_slice()),
             None => None,
         }
