@@ -37,7 +37,7 @@ pub fn run_session<R: Threads + Wait + Sync, F: Shelf, K: Sink, G: Gate + Sync>(
 {
     let walkers = Walkers::of(rt, gate, workers);
     // Three hold a publication: a search's pin, the publisher as long as it is the latest, and the loop over the phases as the
-    // last one, which the next rollup takes. Where it is none of these any more, it is let go with the last of them.
+    // last one, which the next rollup or refresh takes. Where it is none of these any more, it is let go with the last of them.
     gufi_phases::run_session::<Snapshot, Publishing, Asking, _, F, Items<PlannedAct>, K, G, R>(
         rt,
         alloc,
