@@ -1,5 +1,5 @@
 #!/bin/sh
-# Refuses memory to the program, one number of a want of memory at a time, and says how each run ended: hostile.sh [RUN] [FROM [TO]]
+# Refuses memory to the program, the allocation of one number at a time, and says how each run ended: hostile.sh [RUN] [FROM [TO]]
 #
 # RUN is `session`, `rollup` or `find`, and all three where it isn't given. The numbers go from FROM, which is 1, up to TO, or up to the
 # first with which the whole text is written. Each run has to end with status 0 and its whole text, or with 7 and its note: nothing is
@@ -76,6 +76,6 @@ for run in ${1:-session rollup find}; do
         fi
         number=$((number + 1))
     done
-    echo "$run: $refused runs ended with 7 and $whole with 0, up to number $number"
+    echo "$run: $refused runs ended with 7 and $whole with 0, before number $number"
 done
 exit "$wrong"
