@@ -1,7 +1,7 @@
 #!/bin/sh
 # Refuses memory to the program, the allocation of one number at a time, and says how each run ended: hostile.sh [RUN] [FROM [TO]]
 #
-# RUN is `session`, `rollup` or `find`, and all three where it isn't given. The numbers go from FROM, which is 1, up to TO, or up to the
+# RUN is `session`, `refresh` or `find`, and all three where it isn't given. The numbers go from FROM, which is 1, up to TO, or up to the
 # first with which the whole text is written. Each run has to end with status 0 and its whole text, or with 7 and its note: nothing is
 # written by `find`, and some first phases by a session. `rt try` builds the program anew for each number, which takes minutes, and
 # proves nothing. The last line counts the runs; a run that ends otherwise is told, and the script then ends with 1.
@@ -24,7 +24,7 @@ printf '%s\n' "/home|d|1|16877|4|0|0|4096|4096|8|$times" "/home/proj|d|4|17912|2
     "/home/proj/run 1.h5|f|6|33184|1|1001|500|2000000|4096|3912|$times" >"$work/h"
 ask='ask 1 102 / find'
 printf '%s\n' 'publish 100 a' barrier "$ask" "$ask" "$ask" 'publish 100 x' barrier "$ask" >"$work/session"
-printf '%s\n' 'publish 100 d' 'rollup 0' barrier 'ask 2 102 / find' 'ask 2 102 /a/b total' >"$work/rollup"
+printf '%s\n' 'publish 100 d' 'refresh /a a' 'refresh /zz a' 'rollup 0' barrier 'ask 2 102 / find' 'ask 2 102 /a/b total' >"$work/refresh"
 
 # Runs the program where the wanted number fails; the text goes to out, and notes and the lines of `rt` to notes.
 try() {
@@ -33,7 +33,7 @@ try() {
         find) set -- find --passwd=p --group=g '--delim=|' --workers=4 h ana / -name '*.h5' -size +2048 ;;
         *) set -- session '--delim=|' "$run" ;;
     esac
-    data=$(for name in a x d p g h session rollup; do printf ' --data %s=%s' "$name" "$work/$name"; done)
+    data=$(for name in a x d p g h session refresh; do printf ' --data %s=%s' "$name" "$work/$name"; done)
     # shellcheck disable=SC2086 # the names have no blanks
     (cd "$here/../crates/gufi" && rt try --fail-alloc "$number" $data -- "$@") >"$work/out" 2>"$work/notes"
 }
@@ -42,7 +42,7 @@ try() {
 is_whole() {
     case $1 in
         find) printf '/proj/run 1.h5\n' | cmp -s - "$work/out" ;;
-        rollup) grep -q '^reply 2 at 2 total ' "$work/out" ;;
+        refresh) grep -qx 'reply 2 at 3 no such at depth 2' "$work/out" ;;
         session) tail -n 3 "$work/out" | tr '\n' ' ' | grep -qx 'reply 4 at 2 rows 2 / /x ' ;;
     esac
 }
@@ -51,13 +51,13 @@ is_whole() {
 is_some_phases() {
     case $1 in
         find) [ ! -s "$work/out" ] ;;
-        rollup) [ ! -s "$work/out" ] || [ "$(cat "$work/out")" = "$(printf 'publish 1 number 1\nrollup 2 number 2')" ] || is_whole rollup ;;
+        refresh) [ ! -s "$work/out" ] || [ "$(tail -n 1 "$work/out")" = 'rollup 4 number 3' ] || is_whole refresh ;;
         session) [ ! -s "$work/out" ] || tail -n 1 "$work/out" | grep -qxE 'publish (1 number 1|2 number 2)' || is_whole session ;;
     esac
 }
 
 wrong=0
-for run in ${1:-session rollup find}; do
+for run in ${1:-session refresh find}; do
     number=${2:-1} whole=0 refused=0
     while [ -z "$3" ] || [ "$number" -le "$3" ]; do
         try "$run" "$number"
