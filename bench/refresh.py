@@ -5,13 +5,15 @@
 
 TRACE has fields parted by the byte 0x1E. The directory whose rows at and below it are nearest to `--rows` is replaced by the same rows, again
 and again, in one phase; so the old index is given back each time. The cost of one is the time of `--times` of them less that of as many more,
-over their number: it holds the reading of the part's file and of its trace. A script that asks once holds both the first index and its refresh.
+over their number: it holds the reading of the part's file and of its trace, whose own cost is told beside it, by refreshes of no path. While one is
+made both indexes are there, so the second one's memory is the greatest less the least that is resident towards the end of such a session.
 Runs are interleaved, output goes to /dev/null, files are warm, times are medians. Nothing here is a test.
 """
 import argparse
 import os
 import subprocess
 import tempfile
+import time
 
 from session import interleaved, write
 from walk import PAGES, take_pages
@@ -43,6 +45,19 @@ def part_of(trace, at):
     return [line for _, line in sorted(found, key=lambda pair: pair[0])]
 
 
+def resident(command, folder):
+    """The megabytes that are resident, looked at again and again while a command runs."""
+    seen = []
+    with subprocess.Popen(command, stdout=subprocess.DEVNULL, cwd=folder) as child:
+        while child.poll() is None:
+            with open("/proc/%d/statm" % child.pid) as file:
+                pages = file.read().split()
+            if pages and int(pages[1]):
+                seen.append(int(pages[1]) * os.sysconf("SC_PAGESIZE") / 1e6)
+            time.sleep(0.0005)
+    return seen
+
+
 def main():
     parser = argparse.ArgumentParser(usage=__doc__)
     parser.add_argument("trace")
@@ -57,17 +72,22 @@ def main():
     with open(options.trace, "rb") as trace:
         lines = trace.readlines()
     at, rows = nearest(lines, options.rows)
+    root = next(paths_of(lines))[1]
+    place = at[len(root):] if root != b"/" else at
     with tempfile.TemporaryDirectory() as folder:
         os.symlink(os.path.abspath(options.trace), os.path.join(folder, "trace"))
         write(folder, "part", part_of(lines, at))
-        publish, refresh = b"publish %d trace\n" % options.limit, b"refresh %s part\n" % at
-        ask = b"ask 1 0 %s total\n" % at
+        publish, refresh = b"publish %d trace\n" % options.limit, b"refresh %s part\n" % place
+        ask = b"ask 1 0 %s total\n" % place
+        refused = b"refresh %s.none part\n" % place
         scripts = {
             "one publication": [publish],
             "two publications": [publish] * 2,
             "one publication, one refresh": [publish, refresh],
             "one publication, %d refreshes" % options.times: [publish] + [refresh] * options.times,
             "one publication, %d refreshes" % (2 * options.times): [publish] + [refresh] * (2 * options.times),
+            "one publication, %d refused ones" % options.times: [publish] + [refused] * options.times,
+            "one publication, %d refused ones" % (2 * options.times): [publish] + [refused] * (2 * options.times),
             "asked before and behind a refresh": [publish, b"barrier\n", ask, b"barrier\n", refresh, b"barrier\n", ask],
         }
         commands = {
@@ -75,14 +95,20 @@ def main():
             for number, (name, script) in enumerate(scripts.items())
         }
         times = interleaved(commands, folder, options.runs)
+        seen = resident(commands["one publication, %d refreshes" % (2 * options.times)], folder)
         text = subprocess.run(commands["asked before and behind a refresh"], cwd=folder, stdout=subprocess.PIPE).stdout
     print("%d lines; %s and its %d rows replaced\n" % (len(lines), at.decode(errors="replace"), rows))
     print("| | Processor time | Clock | Peak memory |\n|---|---|---|---|")
     for name, (cpu, clock, memory) in times.items():
         print("| %s | %.3f s | %.3f s | %.0f MB |" % (name, cpu, clock, memory))
-    few, many = (times["one publication, %d refreshes" % (options.times * factor)][0] for factor in (1, 2))
+    each = [
+        (times["one publication, %d %s" % (2 * options.times, name)][0] - times["one publication, %d %s" % (options.times, name)][0]) / options.times * 1e3
+        for name in ("refreshes", "refused ones")
+    ]
     whole = times["two publications"][0] - times["one publication"][0]
-    print("\none refresh %.2f ms, one publication %.0f ms" % ((many - few) / options.times * 1e3, whole * 1e3))
+    print("\none refresh %.2f ms, of which its trace %.2f ms; one publication %.0f ms" % (each[0], each[1], whole * 1e3))
+    last = seen[-len(seen) // 10 :]
+    print("resident towards the end %.0f to %.0f MB" % (min(last), max(last)))
     totals = [line.partition(b" total ")[2] for line in text.splitlines() if b" total " in line]
     print("both totals are equal" if len(totals) == 2 and len(set(totals)) == 1 else "TOTALS DIFFER")
 
