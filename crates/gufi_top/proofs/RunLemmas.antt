@@ -15,7 +15,7 @@ use Rattle.gufi_snap.specs.Snap.{Snap}
 use Rattle.gufi_top.specs.Asks.{walk_ask}
 use Rattle.gufi_top.specs.Reasons.{word_refused, words_reason, trace_in, index_in}
 use Rattle.gufi_image.specs.Image.{image_text}
-use Rattle.gufi_top.specs.Verdict.{writes_only, asked, walk_over, trace2index_over, rolled_up, rollup_over, command_over, command_in, verdict, may_refuse, may_refuse_words}
+use Rattle.gufi_top.specs.Verdict.{writes_only, asked, walk_over, trace2index_over, rolled_up, rollup_over, command_over, command_in, verdict, may_refuse, are_one_shot, is_one_shot, may_refuse_words}
 use Rattle.gufi_top.specs.Calls.{Gives, GivesOver, OfWordsOnlyIf}
 use Rattle.gufi_top.specs.Views.{text_view}
 use Rattle.gufi_top.specs.Ends.{told_verdict}
@@ -96,3 +96,6 @@ words_run shelf sink told words command read run = rw (command_told told words c
 
 pub words_ok : (words : List (List ℕ)) (command : Command) → Gives {A = Command} (λ c. c) (Ok command) (command_in words) → may_refuse_words words ≡ may_refuse command
 words_ok words command read = rw read refl
+
+pub one_shot_ok : (words : List (List ℕ)) (command : Command) → Gives {A = Command} (λ c. c) (Ok command) (command_in words) → are_one_shot words ≡ is_one_shot command
+one_shot_ok words command read = rw read refl

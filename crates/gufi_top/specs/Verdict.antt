@@ -224,3 +224,11 @@ may_refuse_read (Err why) = true
 
 abbrev pub may_refuse_words : List (List ℕ) → Bool
 may_refuse_words words = may_refuse_read (command_in words)
+
+-- The words are no session's: their text is made whole before it is written, or they are refused.
+abbrev pub is_one_shot_read : Result Command Reason → Bool
+is_one_shot_read (Ok command) = is_one_shot command
+is_one_shot_read (Err why) = true
+
+abbrev pub are_one_shot : List (List ℕ) → Bool
+are_one_shot words = is_one_shot_read (command_in words)

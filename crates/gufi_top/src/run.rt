@@ -3,7 +3,7 @@ ghost use Rattle.std.specs.Prelude.{◌≡◌, ◌≢◌, ◌⊎◌, [], IsTrue,
 ghost use Rattle.std.specs.Io.KnownBytes.{Appends};
 ghost use Rattle.gufi_io.specs.Causes.{Rose};
 ghost use Rattle.gufi_words.specs.WordTexts.{texts};
-ghost use Rattle.gufi_top.specs.Verdict.{is_one_shot, may_refuse, may_refuse_words, command_over};
+ghost use Rattle.gufi_top.specs.Verdict.{is_one_shot, are_one_shot, may_refuse, may_refuse_words, command_over};
 ghost use Rattle.gufi_top.specs.Ends.{IsVerdictStatus, Ended, WriteFaulted, BrokenOff, TextEnds, read_fault_note, memory_note};
 ghost use Rattle.gufi_top.specs.Endings.{HasRun};
 
@@ -49,6 +49,7 @@ fn run_one_shot<R: Threads + Wait + Sync, F: Shelf, K: Sink, G: Gate + Sync>(
     requires { IsTrue (is_one_shot command.now) }
     ensures run { HasRun F.Shelf K.Sink (option_map (command_over command.now) (F.files shelf.old)) result.status result.numbers.items shelf.old shelf.new out.old out.new notes.old notes.new }
     ensures words { result.status ≡ 2 → IsTrue (may_refuse command.now) }
+    ensures silent { result.status ≢ 0 → result.status ≢ 4 → out.new ≡ out.old }
 {
     let walkers = Walkers::of(rt, gate, workers_of(command));
     match answer_command(&walkers, alloc, command, shelf) {
@@ -73,6 +74,7 @@ fn run_command<R: Threads + Wait + Sync, F: Shelf, K: Sink, G: Gate + Sync>(
 ) -> Outcome
     ensures run { HasRun F.Shelf K.Sink (option_map (command_over command.now) (F.files shelf.old)) result.status result.numbers.items shelf.old shelf.new out.old out.new notes.old notes.new }
     ensures words { result.status ≡ 2 → IsTrue (may_refuse command.now) }
+    ensures silent { IsTrue (is_one_shot command.now) → result.status ≢ 0 → result.status ≢ 4 → out.new ≡ out.old }
 {
     match command {
         Command::Session {
@@ -120,6 +122,9 @@ pub fn gufi_run<R: Threads + Wait + Sync, F: Shelf, K: Sink, G: Gate + Sync>(
 
     // A refusal of the words comes only where they are no command, or one with a USER, whatever the shelf.
     ensures words { result.status ≡ 2 → IsTrue (may_refuse_words (texts words.now)) }
+
+    // But for a session, a run writes nothing unless it has its whole text, whatever the shelf.
+    ensures silent { IsTrue (are_one_shot (texts words.now)) → result.status ≢ 0 → result.status ≢ 4 → out.new ≡ out.old }
 
     // A missing file is answered only where the shelf lacked one.
     ensures absent { result.status ≡ 8 → Rose (F.absents shelf.old) (F.absents shelf.new) }

@@ -1,7 +1,8 @@
+use Rattle.std.proofs.Common.{refl}
 use Rattle.gufi_words.specs.WordTexts.{texts}
 use Rattle.gufi_top.specs.Verdict.{verdict}
 use Rattle.gufi_top.proofs.StepLemmas.{cause_of_bytes}
-use Rattle.gufi_top.proofs.RunLemmas.{answer_err, words_err, words_run, words_ok}
+use Rattle.gufi_top.proofs.RunLemmas.{answer_err, one_shot_ok, words_err, words_run, words_ok}
 use Rattle.gufi_top.proofs.EndLemmas.{halted_run, halt_words}
 use Rattle.gufi_top.proofs.run.gufi_run.Goals as goal
 
@@ -11,6 +12,7 @@ returns-in-Ok g c =
     record {
       ended = run.ended;
       words = rw (words_ok _ _ c.in-Ok.ensures.command) c.run_command.ensures.words;
+      silent = rw (one_shot_ok _ _ c.in-Ok.ensures.command) c.run_command.ensures.silent;
       absent = run.absent;
       read_fault = run.read_fault;
       write_fault = run.write_fault;
@@ -24,6 +26,7 @@ returns-in-Err g c =
     record {
       ended = run.ended;
       words = halt_words g.K.Sink _ c.in-Err.halt _ _ _ (words_err words c.in-Err.halt c.in-Err.ensures.command) c.halted.ensures.told;
+      silent = λ _ _ _. refl;
       absent = run.absent;
       read_fault = run.read_fault;
       write_fault = run.write_fault;
