@@ -6,11 +6,13 @@
 TRACE has fields parted by the byte 0x1E. The directory whose rows at and below it are nearest to `--rows` is replaced by the same rows, again
 and again, in one phase; so the old index is given back each time. The cost of one is the time of `--times` of them less that of as many more,
 over their number: it holds the reading of the part's file and of its trace, whose own cost is told beside it, by refreshes of no path. While one is
-made both indexes are there, so the second one's memory is the greatest less the least that is resident towards the end of such a session.
+made both indexes are there: what is resident in a session with a phase for each refresh, less what is where each is refused, is the memory of the second
+one and of making it.
 Runs are interleaved, output goes to /dev/null, files are warm, times are medians. Nothing here is a test.
 """
 import argparse
 import os
+import statistics
 import subprocess
 import tempfile
 import time
@@ -46,7 +48,7 @@ def part_of(trace, at):
 
 
 def resident(command, folder):
-    """The megabytes that are resident, looked at again and again while a command runs."""
+    """The megabytes that are resident towards the end of a command: the median of the last third of what is seen while it runs."""
     seen = []
     with subprocess.Popen(command, stdout=subprocess.DEVNULL, cwd=folder) as child:
         while child.poll() is None:
@@ -55,7 +57,7 @@ def resident(command, folder):
             if pages and int(pages[1]):
                 seen.append(int(pages[1]) * os.sysconf("SC_PAGESIZE") / 1e6)
             time.sleep(0.0005)
-    return seen
+    return statistics.median(seen[len(seen) * 2 // 3 :])
 
 
 def main():
@@ -88,6 +90,8 @@ def main():
             "one publication, %d refreshes" % (2 * options.times): [publish] + [refresh] * (2 * options.times),
             "one publication, %d refused ones" % options.times: [publish] + [refused] * options.times,
             "one publication, %d refused ones" % (2 * options.times): [publish] + [refused] * (2 * options.times),
+            "a phase for each of %d refreshes" % options.times: [publish] + [b"barrier\n", refresh] * options.times,
+            "a phase for each of %d refused ones" % options.times: [publish] + [b"barrier\n", refused] * options.times,
             "asked before and behind a refresh": [publish, b"barrier\n", ask, b"barrier\n", refresh, b"barrier\n", ask],
         }
         commands = {
@@ -95,7 +99,9 @@ def main():
             for number, (name, script) in enumerate(scripts.items())
         }
         times = interleaved(commands, folder, options.runs)
-        seen = resident(commands["one publication, %d refreshes" % (2 * options.times)], folder)
+        held = [
+            resident(commands["a phase for each of %d %s" % (options.times, name)], folder) for name in ("refreshes", "refused ones")
+        ]
         text = subprocess.run(commands["asked before and behind a refresh"], cwd=folder, stdout=subprocess.PIPE).stdout
     print("%d lines; %s and its %d rows replaced\n" % (len(lines), at.decode(errors="replace"), rows))
     print("| | Processor time | Clock | Peak memory |\n|---|---|---|---|")
@@ -107,8 +113,7 @@ def main():
     ]
     whole = times["two publications"][0] - times["one publication"][0]
     print("\none refresh %.2f ms, of which its trace %.2f ms; one publication %.0f ms" % (each[0], each[1], whole * 1e3))
-    last = seen[-len(seen) // 10 :]
-    print("resident towards the end %.0f to %.0f MB" % (min(last), max(last)))
+    print("resident %.1f MB, and %.1f MB where each refresh is refused" % tuple(held))
     totals = [line.partition(b" total ")[2] for line in text.splitlines() if b" total " in line]
     print("both totals are equal" if len(totals) == 2 and len(set(totals)) == 1 else "TOTALS DIFFER")
 
