@@ -5,6 +5,7 @@
 #![tactic(auto)]
 
 mod front;
+mod hint;
 mod lines;
 mod list;
 mod name;
@@ -28,6 +29,7 @@ mod width;
 mod yields;
 
 pub use front::{behind, split_first};
+pub use hint::Hint;
 pub use lines::lines_of;
 pub use list::{Bytes, Items, Nums, Text};
 pub use name::{Name, NameFault, name_cmp};

@@ -3,7 +3,7 @@ ghost use Rattle.std.specs.Prelude.{◌≡◌, ℕ, ◌≤◌, Bool, true, false
 ghost use Rattle.gufi_base.specs.declared.record.Row.{Row};
 ghost use Rattle.gufi_sums.specs.declared.summary.Summary.{Summary};
 ghost use Rattle.gufi_sums.specs.Depths.{is_within, nothing_within, within_most};
-ghost use Rattle.gufi_sums.specs.Total.{total, NoneMeets};
+ghost use Rattle.gufi_sums.specs.Total.{total, join, NoneMeets};
 ghost use Rattle.std.proofs.lemmas.Bool.{false≢true};
 
 use crate::summary::Summary;
@@ -19,6 +19,10 @@ pub trait Skip {
     /// Where the test is true of the sum of some rows, none of them meets the query at any depth.
     ghost sound: { (skip : Self) (sum : Summary) → skips skip sum ≡ true → (rows : List Row) → total rows ≡ sum →
         NoneMeets (query skip) rows };
+
+    /// What the test says of the sum of two lists of rows, it says of the sum of each.
+    ghost parts: { (skip : Self) (a b : Summary) → skips skip (join a b) ≡ true →
+        (skips skip a ≡ true) × (skips skip b ≡ true) };
 
     /// The greatest depth of a row that meets the query, where it is known.
     ghost deepest: { Self → Option ℕ };
@@ -47,6 +51,8 @@ impl Skip for NoSkip {
 
     ghost sound = { λ skip sum e rows is. absurd (false≢true e) };
 
+    ghost parts = { λ skip a b e. absurd (false≢true e) };
+
     ghost deepest = { λ _. None };
 
     ghost bounded = { λ skip most is row depth met. nothing_within most is depth };
@@ -72,6 +78,8 @@ impl Skip for NoDeeper {
     ghost skips = { λ _ _. false };
 
     ghost sound = { λ skip sum e rows is. absurd (false≢true e) };
+
+    ghost parts = { λ skip a b e. absurd (false≢true e) };
 
     ghost deepest = { λ skip. skip.than };
 

@@ -1,0 +1,5 @@
+pub mod Aggs
+pub mod Faults
+pub mod Grouped
+pub mod Reading
+pub mod Texts
