@@ -1,10 +1,11 @@
 -- Rows by a number, as groups.
-use Rattle.std.specs.Prelude.{ℕ, ◌==◌, List, length, map, filter, sum, min, max, unwrap_or, pos}
+use Rattle.std.specs.Prelude.{◌≡◌, ℕ, ◌==◌, List, length, map, filter, sum, min, max, unwrap_or, pos}
 use Rattle.std.specs.Int.{int_min, int_max}
 use Rattle.gufi_base.specs.declared.record.Row.{Row}
 use Rattle.gufi_base.specs.Kinds.{kind_letter}
 use Rattle.gufi_sums.specs.Total.{range_of}
-use Rattle.gufi_stats.specs.Grouped.{depth, uid, gid, numbers}
+use Rattle.gufi_sums.specs.declared.summary.Summary.{Summary}
+use Rattle.gufi_stats.specs.Grouped.{depth, uid, gid, numbers, grouped}
 use Rattle.gufi_agg.specs.declared.agg.AggKey.{AggKey}
 use Rattle.gufi_agg.specs.declared.agg.AggKey.TheVariants.{Uid, Gid, Letter, Level}
 use Rattle.gufi_agg.specs.declared.groups.Group.{Group}
@@ -32,3 +33,7 @@ group_of n rows = record {
 -- one group for each number that a row has, ascending
 unfoldable pub grouped_rows : (Row → ℕ) → List Row → List Group
 grouped_rows key rows = map (λ n. group_of n (filter (λ row. key row == n) rows)) (numbers key rows)
+
+-- sums by a number stand for rows
+abbrev pub AreSumsOf : (Row → ℕ) → List (ℕ × Summary) → List Row → Type 0
+AreSumsOf key sums rows = sums ≡ grouped key rows
