@@ -1,0 +1,2 @@
+pub mod SidesLemmas
+pub mod NormalLemmas

@@ -1,0 +1,4 @@
+pub mod NoMatch
+pub mod Normal
+pub mod Sides
+pub mod Laws

@@ -1,0 +1,74 @@
+-- Which sums leave no room for a match of a question's hints.
+use Rattle.std.specs.Prelude.{ℕ, Bool, true, false, not, ◌&&◌, ◌||◌, nat_le, int_le, nat_lt, List, Option, Some, None}
+use Rattle.gufi_base.specs.declared.record.Kind.{Kind}
+use Rattle.gufi_base.specs.declared.record.Row.{Row}
+use Rattle.gufi_base.specs.declared.hint.Hint.{Hint}
+use Rattle.gufi_base.specs.declared.hint.Hint.TheVariants as hints
+use Rattle.gufi_base.specs.Kinds.{is_dir, is_file, is_link}
+use Rattle.gufi_formula.specs.Hints.{Chance, chance_or, formula_of, may_hold}
+use Rattle.gufi_sums.specs.declared.summary.Summary.{Summary}
+use Rattle.gufi_sums.specs.Depths.{is_within}
+use Rattle.gufi_sums.specs.Total.{is_other}
+use Rattle.gufi_prune.specs.declared.class.Class.{Class}
+use Rattle.gufi_prune.specs.declared.class.Class.TheVariants.{Dirs, Files, Links, Others}
+
+-- the rows of a class, and how many of them a sum counts
+abbrev pub is_of : Class → Kind → Bool
+is_of Dirs kind = is_dir kind
+is_of Files kind = is_file kind
+is_of Links kind = is_link kind
+is_of Others kind = is_other kind
+
+abbrev pub count_of : Class → Summary → ℕ
+count_of Dirs sum = sum.dirs
+count_of Files sum = sum.files
+count_of Links sum = sum.links
+count_of Others sum = sum.others
+
+-- A range may hold where it meets the least and the greatest value, and may fail where these aren't inside it. Of no value it does neither.
+abbrev pub chance_within : {A : Type 0} → (A → A → Bool) → A → A → Option (A × A) → Chance
+chance_within le first last None = record { holds = false; fails = false }
+chance_within le first last (Some pair) = record {
+  holds = le first last && (le first pair.1 && le pair.0 last);
+  fails = not (le first pair.0 && le pair.1 last);
+}
+
+-- what may be either
+abbrev pub open_chance : Chance
+open_chance = record { holds = true; fails = true }
+
+-- a type in a class: the others are of several types
+abbrev pub chance_of_kind : Class → Kind → Chance
+chance_of_kind Others kind = record { holds = is_other kind; fails = true }
+chance_of_kind class kind = record { holds = is_of class kind; fails = not (is_of class kind) }
+
+-- sums hold the sizes of files alone
+abbrev pub chance_of_size : Class → ℕ → ℕ → Summary → Chance
+chance_of_size Files first last sum = chance_within nat_le first last sum.size
+chance_of_size class first last sum = open_chance
+
+-- what a hint may be of the rows of a class
+abbrev pub chance_in : Class → Summary → Hint → Chance
+chance_in class sum (hints.Kind kind) = chance_of_kind class kind
+chance_in class sum (hints.SizeIn first last) = chance_of_size class first last sum
+chance_in class sum (hints.MtimeIn first last) = chance_within int_le first last sum.mtime
+chance_in class sum (hints.UidIn first last) = chance_within nat_le first last sum.uid
+chance_in class sum (hints.GidIn first last) = chance_within nat_le first last sum.gid
+chance_in class sum hint = open_chance
+
+-- a row of the class may meet the hints
+abbrev pub may_meet : List Hint → Summary → Class → Bool
+may_meet hints sum class = nat_lt 0 (count_of class sum) && (chance_or (chance_in class sum) (formula_of hints)).holds
+
+-- in no class with a row the hints may hold
+unfoldable pub no_match : List Hint → Summary → Bool
+no_match hints sum = not (may_meet hints sum Dirs || may_meet hints sum Files || may_meet hints sum Links || may_meet hints sum Others)
+
+-- the hints of a question, and how deep a row that meets it may lie
+pub record Pruning : Type 0 where
+  pub hints : List Hint
+  pub deepest : Option ℕ
+
+-- a row at a depth may meet the question
+abbrev pub may_meet_at : Pruning → Row → ℕ → Bool
+may_meet_at pruning row depth = may_hold pruning.hints row && is_within pruning.deepest depth
