@@ -7,6 +7,8 @@
 mod class;
 mod leaf;
 mod pruner;
+mod questions;
 mod sides;
 
 pub use pruner::Pruner;
+pub use questions::{find_pruner, select_pruner};

@@ -2,7 +2,7 @@
 use Rattle.std.specs.Prelude.{Bool, true, false, Option, Some, None, if◌then◌else◌, bytes_eq, codes}
 use Rattle.gufi_words.specs.WordValues.{Word}
 use Rattle.gufi_words.specs.declared.name.CommandName.{CommandName}
-use Rattle.gufi_words.specs.declared.name.CommandName.TheVariants.{Walk, Trace2index, Rollup, Query, Find, Ls, Stat, Stats, Session, Gen}
+use Rattle.gufi_words.specs.declared.name.CommandName.TheVariants.{Walk, Trace2index, Rollup, Query, Agg, Find, Ls, Stat, Stats, Session, Gen}
 use Rattle.gufi_words.specs.declared.name.OptionName.{OptionName}
 use Rattle.gufi_words.specs.declared.name.OptionName.TheVariants.{Passwd, Group, Delim, Limit, Workers, Now, Long, All, Summary}
 
@@ -12,6 +12,7 @@ command_named word =
     else if bytes_eq word (codes "trace2index") then Some Trace2index
     else if bytes_eq word (codes "rollup") then Some Rollup
     else if bytes_eq word (codes "query") then Some Query
+    else if bytes_eq word (codes "agg") then Some Agg
     else if bytes_eq word (codes "find") then Some Find
     else if bytes_eq word (codes "ls") then Some Ls
     else if bytes_eq word (codes "stat") then Some Stat
@@ -58,6 +59,7 @@ allows Rollup Delim = true
 allows Rollup Limit = true
 allows Rollup option = false
 allows Query option = is_common option
+allows Agg option = is_common option
 allows Find Now = true
 allows Find option = is_common option
 allows Ls Long = true

@@ -11,7 +11,7 @@ use Rattle.gufi_words.specs.WordOptions.{delim_or_default, limit_or_default, wor
 use Rattle.gufi_words.specs.WordPositionals.{needed, perhaps, no_more}
 use Rattle.gufi_words.specs.declared.word.WordError.{WordError}
 use Rattle.gufi_words.specs.declared.name.CommandName.{CommandName}
-use Rattle.gufi_words.specs.declared.name.CommandName.TheVariants.{Walk, Trace2index, Rollup, Query, Find, Ls, Stat, Stats, Session, Gen}
+use Rattle.gufi_words.specs.declared.name.CommandName.TheVariants.{Walk, Trace2index, Rollup, Query, Agg, Find, Ls, Stat, Stats, Session, Gen}
 use Rattle.gufi_words.specs.declared.option.Options.{Options}
 use Rattle.gufi_words.specs.declared.option.Arguments.{Arguments}
 use Rattle.gufi_words.specs.declared.command.Common.{Common}
@@ -69,6 +69,14 @@ query_of words arguments = do
   no_more words (arguments.first + 4)
   Ok (commands.Query common text)
 
+-- INDEX USER START TEXT
+unfoldable pub agg_of : List Word → Arguments → Result Command WordError
+agg_of words arguments = do
+  common ← common_of words arguments.first arguments.options
+  text ← needed read_any words (arguments.first + 3)
+  no_more words (arguments.first + 4)
+  Ok (commands.Agg common text)
+
 -- INDEX USER START and any further words
 unfoldable pub find_of : List Word → Arguments → Result Command WordError
 find_of words arguments = do
@@ -116,6 +124,7 @@ command_of Walk = walk_of
 command_of Trace2index = trace2index_of
 command_of Rollup = rollup_of
 command_of Query = query_of
+command_of Agg = agg_of
 command_of Find = find_of
 command_of Ls = ls_of
 command_of Stat = stat_of

@@ -52,6 +52,10 @@ pub enum Command {
         common: Common,
         text: Text,
     },
+    Agg {
+        common: Common,
+        text: Text,
+    },
     Find {
         common: Common,
         /// In seconds.

@@ -3,7 +3,7 @@
 ghost use Rattle.std.specs.Prelude.{◌≡◌, ◌≤◌, length};
 ghost use Rattle.gufi_base.specs.Basics.{GivesUnless};
 ghost use Rattle.gufi_words.specs.WordTexts.{texts};
-ghost use Rattle.gufi_words.specs.CommandWords.{common_of, walk_of, trace2index_of, rollup_of, query_of, find_of, ls_of, stat_of, stats_of, session_of, gen_of, command_of, read_words};
+ghost use Rattle.gufi_words.specs.CommandWords.{common_of, walk_of, trace2index_of, rollup_of, query_of, agg_of, find_of, ls_of, stat_of, stats_of, session_of, gen_of, command_of, read_words};
 
 use crate::command::{Command, Common};
 use crate::name::CommandName;
@@ -105,6 +105,18 @@ fn query_of(alloc: Global, words: &[String], arguments: Arguments) -> Result<Com
     Ok(Command::Query { common, text })
 }
 
+#[tactic(auto, unfolding(crate::specs::CommandWords::agg_of))]
+fn agg_of(alloc: Global, words: &[String], arguments: Arguments) -> Result<Command, WordError>
+    requires { arguments.first ≤ length words.now }
+    ensures { GivesUnless WordError.Memory result (agg_of (texts words.now) arguments) }
+{
+    let Arguments { options, first } = arguments;
+    let common = common_of(alloc, words, first, options)?;
+    let text = text_at(alloc, words, first + 3)?;
+    no_more(words, first + 4)?;
+    Ok(Command::Agg { common, text })
+}
+
 #[tactic(auto, unfolding(crate::specs::CommandWords::find_of))]
 fn find_of(alloc: Global, words: &[String], arguments: Arguments) -> Result<Command, WordError>
     requires { arguments.first ≤ length words.now }
@@ -201,6 +213,7 @@ fn command_of(
         CommandName::Trace2index => trace2index_of(alloc, words, arguments),
         CommandName::Rollup => rollup_of(alloc, words, arguments),
         CommandName::Query => query_of(alloc, words, arguments),
+        CommandName::Agg => agg_of(alloc, words, arguments),
         CommandName::Find => find_of(alloc, words, arguments),
         CommandName::Ls => ls_of(alloc, words, arguments),
         CommandName::Stat => stat_of(alloc, words, arguments),

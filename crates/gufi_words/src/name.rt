@@ -10,6 +10,7 @@ pub(crate) enum CommandName {
     Trace2index,
     Rollup,
     Query,
+    Agg,
     Find,
     Ls,
     Stat,
@@ -85,6 +86,7 @@ impl CommandName {
             "trace2index" => Some(CommandName::Trace2index),
             "rollup" => Some(CommandName::Rollup),
             "query" => Some(CommandName::Query),
+            "agg" => Some(CommandName::Agg),
             "find" => Some(CommandName::Find),
             "ls" => Some(CommandName::Ls),
             "stat" => Some(CommandName::Stat),
@@ -103,7 +105,9 @@ impl CommandName {
             CommandName::Walk => false,
             CommandName::Trace2index => matches!(option, OptionName::Delim),
             CommandName::Rollup => matches!(option, OptionName::Delim | OptionName::Limit),
-            CommandName::Query | CommandName::Stat | CommandName::Stats => option.is_common(),
+            CommandName::Query | CommandName::Agg | CommandName::Stat | CommandName::Stats => {
+                option.is_common()
+            }
             CommandName::Find => matches!(option, OptionName::Now) || option.is_common(),
             CommandName::Ls => {
                 matches!(option, OptionName::Long | OptionName::All) || option.is_common()

