@@ -10,13 +10,14 @@ use Rattle.std.proofs.lemmas.Bool.{cases_Bool, eqb-true, eq-eqb, false≢true}
 use Rattle.std.proofs.lemmas.Cmp.{nat_cmp_total}
 use Rattle.std.proofs.lemmas.List.{map-append}
 use Rattle.std.proofs.lemmas.List.Elements.{filter-append}
+use Rattle.gufi_base.specs.declared.record.Meta.{Meta}
 use Rattle.gufi_base.specs.declared.record.Row.{Row}
 use Rattle.gufi_base.specs.Basics.{insert_by, sort_by, ascends, distinct, without}
 use Rattle.gufi_base.proofs.SortedOnce.{order_cases, ascends-tail, ascends-sort_by}
 use Rattle.gufi_sums.specs.declared.summary.Summary.{Summary}
-use Rattle.gufi_sums.specs.Total.{total, empty, add}
-use Rattle.gufi_sums.specs.Laws.{total-add}
-use Rattle.gufi_stats.specs.Grouped.{group_sum, numbers, grouped, sum_in, group_lines}
+use Rattle.gufi_sums.specs.Total.{total, empty, add, join}
+use Rattle.gufi_stats.specs.Grouped.{total_seen, group_sum, numbers, grouped, grouped_seen, sum_in, group_lines}
+use Rattle.gufi_stats.specs.GroupLaws.{total_seen-nil, total_seen-one, total_seen-append}
 use Rattle.gufi_stats.specs.Reports.{group_line, by_key}
 use Rattle.gufi_stats.specs.Numbers.{nat_cmp-eqb, eqb-sym, Once-distinct, sorted-behind, any-sorted, AreAbove, above-apart, without-above, insert-below, rest-above, above-both}
 
@@ -51,30 +52,27 @@ put sums new k agree (m ∷ ns) up =
     let off : eqb m k ≡ false = sym (nat_cmp-eqb m k) ∙ ap is_eq below in
     rw (off, below, above) (λ i. (m, agree m off i) ∷ put sums new k agree ns (ascends-tail nat_cmp nat_cmp_total m ns up) i))
 
-total-nil : empty ≡ total []
-unfolding total
-total-nil = refl
-
-pub sum-behind : (key : Row → ℕ) (rows : List Row) (row : Row) (n : ℕ) → group_sum key (rows ++ row ∷ []) n ≡ cond (eqb (key row) n) (add (group_sum key rows n) row.rec.meta) (group_sum key rows n)
-sum-behind key rows row n =
-    ap total (filter-append (λ (r : Row). eqb (key r) n) rows (row ∷ []))
+pub sum-behind : (seen : Meta → Meta) (key : Row → ℕ) (rows : List Row) (row : Row) (n : ℕ) → group_sum seen key (rows ++ row ∷ []) n ≡ cond (eqb (key row) n) (add (group_sum seen key rows n) (seen row.rec.meta)) (group_sum seen key rows n)
+sum-behind seen key rows row n =
+    let here = filter (λ (r : Row). eqb (key r) n) rows in
+    ap (total_seen seen) (filter-append (λ (r : Row). eqb (key r) n) rows (row ∷ []))
     ∙ elim (cases_Bool (eqb (key row) n)) [
-      | inl same ↦ rw same (total-add (filter (λ (r : Row). eqb (key r) n) rows) row)
-      | inr other ↦ rw other (ap total (append-nil (filter (λ (r : Row). eqb (key r) n) rows)))
+      | inl same ↦ rw same (total_seen-append seen here (row ∷ []) ∙ ap (join (total_seen seen here)) (total_seen-one seen row))
+      | inr other ↦ rw other (ap (total_seen seen) (append-nil here))
     ]
 
 -- one row more, behind the others
-pub grouped-behind : (key : Row → ℕ) (rows : List Row) (row : Row)
-    → grouped key (rows ++ row ∷ []) ≡ insert_entry nat_cmp (grouped key rows) (key row) (add (group_sum key rows (key row)) row.rec.meta)
-unfolding grouped
-grouped-behind key rows row =
+pub grouped-behind : (seen : Meta → Meta) (key : Row → ℕ) (rows : List Row) (row : Row)
+    → grouped_seen seen key (rows ++ row ∷ []) ≡ insert_entry nat_cmp (grouped_seen seen key rows) (key row) (add (group_sum seen key rows (key row)) (seen row.rec.meta))
+unfolding grouped_seen
+grouped-behind seen key rows row =
     let k = key row in
-    let sums = group_sum key rows in
-    let new = group_sum key (rows ++ row ∷ []) in
+    let sums = group_sum seen key rows in
+    let new = group_sum seen key (rows ++ row ∷ []) in
     let ns = numbers key rows in
     let there : eqb k k ≡ true = eq-eqb k k refl in
-    let here : new k ≡ add (sums k) row.rec.meta = sum-behind key rows row k ∙ ap (λ b. cond b (add (sums k) row.rec.meta) (sums k)) there in
-    let agree : Agree sums new k = λ n off. sum-behind key rows row n ∙ ap (λ b. cond b (add (sums n) row.rec.meta) (sums n)) (eqb-sym k n ∙ off) in
+    let here : new k ≡ add (sums k) (seen row.rec.meta) = sum-behind seen key rows row k ∙ ap (λ b. cond b (add (sums k) (seen row.rec.meta)) (sums k)) there in
+    let agree : Agree sums new k = λ n off. sum-behind seen key rows row n ∙ ap (λ b. cond b (add (sums n) (seen row.rec.meta)) (sums n)) (eqb-sym k n ∙ off) in
     ap (λ xs. entries new (sort_by nat_cmp (distinct xs))) (map-append key rows (row ∷ []))
     ∙ ap (entries new) (sorted-behind (map key rows) k)
     ∙ put sums new k agree ns (ascends-sort_by nat_cmp nat_cmp_total (distinct (map key rows)) (Once-distinct (map key rows)))
@@ -98,25 +96,26 @@ none-there key (row ∷ rows) n none =
       | inr other ↦ rw (eqb-sym (key row) n, other) (none-there key rows n (ap (λ b. b || list_any (eqb n) (map key rows)) (sym other) ∙ none))
     ]
 
-pub sum_in-grouped : (key : Row → ℕ) (rows : List Row) (n : ℕ) → sum_in (grouped key rows) n ≡ group_sum key rows n
-unfolding grouped
-sum_in-grouped key rows n =
-    ap (λ found. unwrap_or found empty) (look (group_sum key rows) n (numbers key rows) ∙ ap (λ b. cond b (Some (group_sum key rows n)) None) (any-sorted n (map key rows)))
+pub sum_in-grouped : (seen : Meta → Meta) (key : Row → ℕ) (rows : List Row) (n : ℕ) → sum_in (grouped_seen seen key rows) n ≡ group_sum seen key rows n
+unfolding grouped_seen
+sum_in-grouped seen key rows n =
+    ap (λ found. unwrap_or found empty) (look (group_sum seen key rows) n (numbers key rows) ∙ ap (λ b. cond b (Some (group_sum seen key rows n)) None) (any-sorted n (map key rows)))
     ∙ elim (cases_Bool (list_any (eqb n) (map key rows))) [
       | inl there ↦ rw there refl
-      | inr none ↦ rw (none) (total-nil ∙ sym (ap total (none-there key rows n none)))
+      | inr none ↦ rw (none) (total_seen-nil seen ∙ sym (ap (total_seen seen) (none-there key rows n none)))
     ]
 
-pub grouped-none : (key : Row → ℕ) → [] ≡ grouped key []
-unfolding grouped
-grouped-none key = refl
+pub grouped-none : (seen : Meta → Meta) (key : Row → ℕ) → [] ≡ grouped_seen seen key []
+unfolding grouped_seen
+grouped-none seen key = refl
 
 -- ---- the lines
 
-lines-mapped : (word : List ℕ) (key : Row → ℕ) (rows : List Row) (ns : List ℕ) → group_lines word (entries (group_sum key rows) ns) ≡ flat_map (group_line word key rows) ns
+lines-mapped : (word : List ℕ) (key : Row → ℕ) (rows : List Row) (ns : List ℕ) → group_lines word (entries (group_sum (λ meta. meta) key rows) ns) ≡ flat_map (group_line word key rows) ns
+unfolding total total_seen
 lines-mapped word key rows [] = refl
 lines-mapped word key rows (n ∷ ns) = ap (λ (t : List ℕ). group_line word key rows n ++ t) (lines-mapped word key rows ns)
 
 pub lines-grouped : (word : List ℕ) (key : Row → ℕ) (rows : List Row) (groups : List (ℕ × Summary)) → groups ≡ grouped key rows → group_lines word groups ≡ by_key word key rows
-unfolding grouped by_key
+unfolding grouped_seen by_key
 lines-grouped word key rows groups is = ap (group_lines word) is ∙ lines-mapped word key rows (numbers key rows)

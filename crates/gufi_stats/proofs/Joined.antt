@@ -14,14 +14,14 @@ use Rattle.gufi_base.specs.declared.record.Meta.{Meta}
 use Rattle.gufi_base.specs.declared.record.Row.{Row}
 use Rattle.gufi_base.proofs.SortedOnce.{order_cases}
 use Rattle.gufi_sums.specs.declared.summary.Summary.{Summary}
-use Rattle.gufi_sums.specs.Total.{total, join, meta_total, rows_in, IsBounded}
-use Rattle.gufi_sums.specs.Laws.{total_of-one, total-append, join_assoc}
+use Rattle.gufi_sums.specs.Total.{join, meta_total, rows_in, IsBounded}
+use Rattle.gufi_sums.specs.Laws.{join_assoc}
 use Rattle.gufi_stats.specs.Numbers.{nat_cmp-eqb, eqb-sym, any-sorted}
-use Rattle.gufi_stats.specs.Grouped.{group_sum, numbers, grouped, sum_in, rows_counted, group_lines}
-use Rattle.gufi_stats.specs.GroupLaws.{part, parts, parts-numbers, grouped-same, grouped-counted}
+use Rattle.gufi_stats.specs.Grouped.{total_seen, group_sum, numbers, grouped, grouped_seen, sum_in, rows_counted, group_lines}
+use Rattle.gufi_stats.specs.GroupLaws.{total_seen-one, total_seen-append, part, parts, parts-numbers, grouped-same, grouped-counted}
 use Rattle.gufi_stats.specs.Joined.{joined, all_joined, with_run, AreBounded}
 use Rattle.gufi_stats.specs.Reports.{by_key}
-use Rattle.gufi_stats.specs.declared.groups.Run.{Run}
+use Rattle.gufi_stats.specs.declared.sums.Run.{Run}
 use Rattle.gufi_stats.proofs.Grouped.{entries, grouped-behind, sum_in-grouped, grouped-none, lines-grouped}
 
 -- ---- the sum at a number, as one is put there
@@ -119,29 +119,25 @@ sum-most (group ∷ groups) n =
 
 -- ---- groups of rows
 
-total-one : (row : Row) → total (row ∷ []) ≡ meta_total row.rec.meta
-unfolding total
-total-one row = total_of-one row.rec.meta
-
 -- one row more
-pub one-joined : (key : Row → ℕ) (rows : List Row) (row : Row) → grouped key (rows ++ row ∷ []) ≡ joined (grouped key rows) (key row) (meta_total row.rec.meta)
+pub one-joined : (seen : Meta → Meta) (key : Row → ℕ) (rows : List Row) (row : Row) → grouped_seen seen key (rows ++ row ∷ []) ≡ joined (grouped_seen seen key rows) (key row) (meta_total (seen row.rec.meta))
 unfolding joined
-one-joined key rows row =
-    grouped-behind key rows row ∙ ap (λ s. put (grouped key rows) (key row) (join s (meta_total row.rec.meta))) (sym (sum_in-grouped key rows (key row)))
+one-joined seen key rows row =
+    grouped-behind seen key rows row ∙ ap (λ s. put (grouped_seen seen key rows) (key row) (join s (meta_total (seen row.rec.meta)))) (sym (sum_in-grouped seen key rows (key row)))
 
 -- more rows of one number
-many-joined : (key : Row → ℕ) (m : ℕ) (rows more : List Row) → AllByRecursion (λ row. key row ≡ m) more → 0 < length more
-    → grouped key (rows ++ more) ≡ joined (grouped key rows) m (total more)
-many-joined key m rows [] each some = absurd (omega arith)
-many-joined key m rows (row ∷ []) each some = one-joined key rows row ∙ (λ i. joined (grouped key rows) (each.0 i) (sym (total-one row) i))
-many-joined key m rows (row ∷ next ∷ more) each some =
-    let one : grouped key (rows ++ row ∷ []) ≡ joined (grouped key rows) m (meta_total row.rec.meta) =
-    one-joined key rows row ∙ ap (λ k. joined (grouped key rows) k (meta_total row.rec.meta)) each.0 in
-    ap (grouped key) (sym (append_assoc rows (row ∷ []) (next ∷ more)))
-    ∙ many-joined key m (rows ++ row ∷ []) (next ∷ more) each.1 (omega arith)
-    ∙ ap (λ g. joined g m (total (next ∷ more))) one
-    ∙ joined-twice (grouped key rows) m (meta_total row.rec.meta) (total (next ∷ more))
-    ∙ ap (joined (grouped key rows) m) (ap (λ s. join s (total (next ∷ more))) (sym (total-one row)) ∙ sym (total-append (row ∷ []) (next ∷ more)))
+many-joined : (seen : Meta → Meta) (key : Row → ℕ) (m : ℕ) (rows more : List Row) → AllByRecursion (λ row. key row ≡ m) more → 0 < length more
+    → grouped_seen seen key (rows ++ more) ≡ joined (grouped_seen seen key rows) m (total_seen seen more)
+many-joined seen key m rows [] each some = absurd (omega arith)
+many-joined seen key m rows (row ∷ []) each some = one-joined seen key rows row ∙ (λ i. joined (grouped_seen seen key rows) (each.0 i) (sym (total_seen-one seen row) i))
+many-joined seen key m rows (row ∷ next ∷ more) each some =
+    let one : grouped_seen seen key (rows ++ row ∷ []) ≡ joined (grouped_seen seen key rows) m (meta_total (seen row.rec.meta)) =
+    one-joined seen key rows row ∙ ap (λ k. joined (grouped_seen seen key rows) k (meta_total (seen row.rec.meta))) each.0 in
+    ap (grouped_seen seen key) (sym (append_assoc rows (row ∷ []) (next ∷ more)))
+    ∙ many-joined seen key m (rows ++ row ∷ []) (next ∷ more) each.1 (omega arith)
+    ∙ ap (λ g. joined g m (total_seen seen (next ∷ more))) one
+    ∙ joined-twice (grouped_seen seen key rows) m (meta_total (seen row.rec.meta)) (total_seen seen (next ∷ more))
+    ∙ ap (joined (grouped_seen seen key rows) m) (ap (λ s. join s (total_seen seen (next ∷ more))) (sym (total_seen-one seen row)) ∙ sym (total_seen-append seen (row ∷ []) (next ∷ more)))
 
 part-each : (key : Row → ℕ) (less n : ℕ) (rows : List Row) → AllByRecursion (λ row. key row - less ≡ n - less) (part key rows n)
 part-each key less n [] = tt
@@ -159,14 +155,14 @@ part-some key n (row ∷ rows) there =
       | inr off ↦ rw (eqb-sym (key row) n, off) (part-some key n rows (ap (λ b. b || list_any (eqb n) (map key rows)) (sym off) ∙ there))
     ]
 
-parts-joined : (key : Row → ℕ) (less : ℕ) (rows more : List Row) (ns : List ℕ) → AllByRecursion (λ n. list_any (eqb n) (map key more) ≡ true) ns
-    → all_joined less (grouped (λ row. key row - less) rows) (entries (group_sum key more) ns) ≡ grouped (λ row. key row - less) (rows ++ parts key more ns)
-parts-joined key less rows more [] there = ap (grouped (λ row. key row - less)) (sym (append-nil rows))
-parts-joined key less rows more (n ∷ ns) there =
+parts-joined : (seen : Meta → Meta) (key : Row → ℕ) (less : ℕ) (rows more : List Row) (ns : List ℕ) → AllByRecursion (λ n. list_any (eqb n) (map key more) ≡ true) ns
+    → all_joined less (grouped_seen seen (λ row. key row - less) rows) (entries (group_sum seen key more) ns) ≡ grouped_seen seen (λ row. key row - less) (rows ++ parts key more ns)
+parts-joined seen key less rows more [] there = ap (grouped_seen seen (λ row. key row - less)) (sym (append-nil rows))
+parts-joined seen key less rows more (n ∷ ns) there =
     let lower : Row → ℕ = λ row. key row - less in
-    ap (λ g. all_joined less g (entries (group_sum key more) ns)) (sym (many-joined lower (n - less) rows (part key more n) (part-each key less n more) (part-some key n more there.0)))
-    ∙ parts-joined key less (rows ++ part key more n) more ns there.1
-    ∙ ap (grouped lower) (append_assoc rows (part key more n) (parts key more ns))
+    ap (λ g. all_joined less g (entries (group_sum seen key more) ns)) (sym (many-joined seen lower (n - less) rows (part key more n) (part-each key less n more) (part-some key n more there.0)))
+    ∙ parts-joined seen key less (rows ++ part key more n) more ns there.1
+    ∙ ap (grouped_seen seen lower) (append_assoc rows (part key more n) (parts key more ns))
 
 all-there : (xs ns : List ℕ) → ((n : ℕ) → list_any (eqb n) ns ≡ true → list_any (eqb n) xs ≡ true) → AllByRecursion (λ n. list_any (eqb n) xs ≡ true) ns
 all-there xs [] each = tt
@@ -174,12 +170,12 @@ all-there xs (n ∷ ns) each =
     (each n (rw (eq-eqb n n refl) refl), all-there xs ns (λ m h. each m (ap (λ b. eqb m n || b) h ∙ or-true (eqb m n))))
 
 -- the groups of other rows, joined to those of some
-pub grouped-joined : (key : Row → ℕ) (less : ℕ) (rows more : List Row)
-    → all_joined less (grouped (λ row. key row - less) rows) (grouped key more) ≡ grouped (λ row. key row - less) (rows ++ more)
-unfolding grouped
-grouped-joined key less rows more =
-    parts-joined key less rows more (numbers key more) (all-there (map key more) (numbers key more) (λ n h. sym (any-sorted n (map key more)) ∙ h))
-    ∙ sym (grouped-same (λ row. key row - less) (rows ++ more) (rows ++ parts key more (numbers key more)) (IsPermutation-append_right rows more (parts key more (numbers key more)) (parts-numbers key more)))
+pub grouped-joined : (seen : Meta → Meta) (key : Row → ℕ) (less : ℕ) (rows more : List Row)
+    → all_joined less (grouped_seen seen (λ row. key row - less) rows) (grouped_seen seen key more) ≡ grouped_seen seen (λ row. key row - less) (rows ++ more)
+unfolding grouped_seen
+grouped-joined seen key less rows more =
+    parts-joined seen key less rows more (numbers key more) (all-there (map key more) (numbers key more) (λ n h. sym (any-sorted n (map key more)) ∙ h))
+    ∙ sym (grouped-same seen (λ row. key row - less) (rows ++ more) (rows ++ parts key more (numbers key more)) (IsPermutation-append_right rows more (parts key more (numbers key more)) (parts-numbers key more)))
 
 -- ---- the groups as they are kept
 
@@ -212,34 +208,34 @@ next-room groups new left rest n k sum is put room m =
 
 -- ---- the rows that groups are made of
 
-pub rows-most : (key : Row → ℕ) (groups : List (ℕ × Summary)) (rows : List Row) (n : ℕ) → groups ≡ grouped key rows → rows_in (sum_in groups n) ≤ length rows
-rows-most key groups rows n is =
-    let count = grouped-counted key groups rows is in
+pub rows-most : (seen : Meta → Meta) (key : Row → ℕ) (groups : List (ℕ × Summary)) (rows : List Row) (n : ℕ) → groups ≡ grouped_seen seen key rows → rows_in (sum_in groups n) ≤ length rows
+rows-most seen key groups rows n is =
+    let count = grouped-counted seen key groups rows is in
     let most = sum-most groups n in
     omega (arith, count, most)
 
-pub row-counted : (key : Row → ℕ) (rows : List Row) (row : Row) (n : ℕ) (meta : Meta) (groups new : List (ℕ × Summary)) → n ≡ key row → meta ≡ row.rec.meta → groups ≡ grouped key rows
-    → new ≡ joined groups n (meta_total meta) → new ≡ grouped key (rows ++ row ∷ [])
-row-counted key rows row n meta groups new number same is put =
-    put ∙ (λ i. joined (is i) (number i) (meta_total (same i))) ∙ sym (one-joined key rows row)
+pub row-counted : (seen : Meta → Meta) (key : Row → ℕ) (rows : List Row) (row : Row) (n : ℕ) (meta : Meta) (groups new : List (ℕ × Summary)) → n ≡ key row → meta ≡ seen row.rec.meta → groups ≡ grouped_seen seen key rows
+    → new ≡ joined groups n (meta_total meta) → new ≡ grouped_seen seen key (rows ++ row ∷ [])
+row-counted seen key rows row n meta groups new number same is put =
+    put ∙ (λ i. joined (is i) (number i) (meta_total (same i))) ∙ sym (one-joined seen key rows row)
 
 less-nothing : (key : Row → ℕ) → (λ row. key row - 0) ≡ key
 less-nothing key = λ i row. same (key row) i where
   same : (n : ℕ) → n - 0 ≡ n
   same n = omega arith
 
-pub rows-joined : (key : Row → ℕ) (rows more : List Row) (groups other new : List (ℕ × Summary)) → groups ≡ grouped key rows → other ≡ grouped key more
-    → new ≡ all_joined 0 groups other → new ≡ grouped key (rows ++ more)
-rows-joined key rows more groups other new own others put =
+pub rows-joined : (seen : Meta → Meta) (key : Row → ℕ) (rows more : List Row) (groups other new : List (ℕ × Summary)) → groups ≡ grouped_seen seen key rows → other ≡ grouped_seen seen key more
+    → new ≡ all_joined 0 groups other → new ≡ grouped_seen seen key (rows ++ more)
+rows-joined seen key rows more groups other new own others put =
     put ∙ (λ i. all_joined 0 (own i) (others i))
-    ∙ subst (λ (k : Row → ℕ). all_joined 0 (grouped k rows) (grouped key more) ≡ grouped k (rows ++ more)) (less-nothing key) (grouped-joined key 0 rows more)
+    ∙ subst (λ (k : Row → ℕ). all_joined 0 (grouped_seen seen k rows) (grouped_seen seen key more) ≡ grouped_seen seen k (rows ++ more)) (less-nothing key) (grouped-joined seen key 0 rows more)
 
 pub lines-less : (word : List ℕ) (key : Row → ℕ) (less : ℕ) (rows : List Row) (groups : List (ℕ × Summary)) → groups ≡ grouped key rows
     → group_lines word (all_joined less [] groups) ≡ by_key word (λ row. key row - less) rows
 lines-less word key less rows groups is =
     let lower : Row → ℕ = λ row. key row - less in
     lines-grouped word lower rows (all_joined less [] groups)
-    ((λ i. all_joined less (grouped-none lower i) (is i)) ∙ grouped-joined key less [] rows)
+    ((λ i. all_joined less (grouped-none (λ meta. meta) lower i) (is i)) ∙ grouped-joined (λ meta. meta) key less [] rows)
 
 -- where nothing is taken off the numbers
 pub by_key-less : (word : List ℕ) (key : Row → ℕ) (rows : List Row) → by_key word (λ row. key row - 0) rows ≡ by_key word key rows

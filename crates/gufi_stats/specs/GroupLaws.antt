@@ -7,18 +7,21 @@ use Rattle.std.specs.List.Sorted.{IsPermutation}
 use Rattle.std.proofs.lemmas.Bool.{cases_Bool, eqb-true, eq-eqb, false≢true}
 use Rattle.std.proofs.Math.Bool.{or-true}
 use Rattle.std.proofs.lemmas.Cmp.{nat_cmp_total}
+use Rattle.std.proofs.lemmas.Simd.{map-map}
+use Rattle.std.proofs.lemmas.List.{map-append, length-map}
 use Rattle.std.proofs.lemmas.List.Concat.{length-flat_map}
 use Rattle.std.proofs.lemmas.List.Sums.{sum_by-cons}
 use Rattle.std.proofs.lemmas.List.Sorted.{IsPermutation-refl, IsPermutation-trans, IsPermutation-map, IsPermutation-append_right, IsPermutation-filter_both, length_permutation}
+use Rattle.gufi_base.specs.declared.record.Meta.{Meta}
 use Rattle.gufi_base.specs.declared.record.Row.{Row}
 use Rattle.gufi_base.specs.Basics.{ascends, distinct}
 use Rattle.gufi_base.proofs.Permutations.{IsPermutation-filter}
 use Rattle.gufi_base.proofs.SortedOnce.{ascends-tail, ascends-sort_by}
 use Rattle.gufi_sums.specs.declared.summary.Summary.{Summary}
-use Rattle.gufi_sums.specs.Total.{rows_in}
-use Rattle.gufi_sums.specs.Laws.{total-counts, total-IsPermutation}
+use Rattle.gufi_sums.specs.Total.{total, total_of, empty, meta_total, join, rows_in}
+use Rattle.gufi_sums.specs.Laws.{total_of-nil, total_of-one, total_of-append, total_of-IsPermutation, total-counts}
 use Rattle.gufi_stats.specs.Numbers.{Once-distinct, any-sorted, sorted-reordered, AreAbove, above-apart, rest-above}
-use Rattle.gufi_stats.specs.Grouped.{group_sum, numbers, grouped, rows_counted}
+use Rattle.gufi_stats.specs.Grouped.{total_seen, group_sum, numbers, grouped_seen, rows_counted}
 
 -- the rows that have a number, and those of each of some numbers
 abbrev pub part : (Row → ℕ) → List Row → ℕ → List Row
@@ -81,28 +84,59 @@ parts-numbers key rows =
     parts-all key (numbers key rows) rows (ascends-sort_by nat_cmp nat_cmp_total (distinct (map key rows)) (Once-distinct (map key rows)))
     (all-among key rows (numbers key rows) (λ k h. any-sorted k (map key rows) ∙ h))
 
-counts-parts : (key : Row → ℕ) (rows : List Row) (ns : List ℕ) → rows_counted (map (λ n. (n, group_sum key rows n)) ns) ≡ sum_by (λ n. length (part key rows n)) ns
-counts-parts key rows [] = refl
-counts-parts key rows (n ∷ ns) =
-    let sums : ℕ → ℕ × Summary = λ m. (m, group_sum key rows m) in
+-- a row whose record is what was seen
+abbrev row_seen : (Meta → Meta) → Row → Row
+row_seen seen row = record { path = row.path; rec = record { link = row.rec.link; meta = seen row.rec.meta } }
+
+total_seen-total : (seen : Meta → Meta) (rows : List Row) → total_seen seen rows ≡ total (map (row_seen seen) rows)
+unfolding total total_seen
+total_seen-total seen rows = ap total_of (sym (map-map (λ (row : Row). row.rec.meta) (row_seen seen) rows))
+
+pub total_seen-nil : (seen : Meta → Meta) → empty ≡ total_seen seen []
+unfolding total_seen
+total_seen-nil seen = sym total_of-nil
+
+pub total_seen-one : (seen : Meta → Meta) (row : Row) → total_seen seen (row ∷ []) ≡ meta_total (seen row.rec.meta)
+unfolding total_seen
+total_seen-one seen row = total_of-one (seen row.rec.meta)
+
+pub total_seen-append : (seen : Meta → Meta) (rows others : List Row) → total_seen seen (rows ++ others) ≡ join (total_seen seen rows) (total_seen seen others)
+unfolding total_seen
+total_seen-append seen rows others =
+    let meta : Row → Meta = λ row. seen row.rec.meta in
+    ap total_of (map-append meta rows others) ∙ total_of-append (map meta rows) (map meta others)
+
+total_seen-counts : (seen : Meta → Meta) (rows : List Row) → rows_in (total_seen seen rows) ≡ length rows
+total_seen-counts seen rows = ap rows_in (total_seen-total seen rows) ∙ total-counts (map (row_seen seen) rows) ∙ length-map rows (row_seen seen)
+
+total_seen-IsPermutation : (seen : Meta → Meta) (rows others : List Row) → IsPermutation rows others → total_seen seen rows ≡ total_seen seen others
+unfolding total_seen
+total_seen-IsPermutation seen rows others moved =
+    let meta : Row → Meta = λ row. seen row.rec.meta in
+    total_of-IsPermutation (map meta rows) (map meta others) (IsPermutation-map meta rows others moved)
+
+counts-parts : (seen : Meta → Meta) (key : Row → ℕ) (rows : List Row) (ns : List ℕ) → rows_counted (map (λ n. (n, group_sum seen key rows n)) ns) ≡ sum_by (λ n. length (part key rows n)) ns
+counts-parts seen key rows [] = refl
+counts-parts seen key rows (n ∷ ns) =
+    let sums : ℕ → ℕ × Summary = λ m. (m, group_sum seen key rows m) in
     sum_by-cons (λ (group : ℕ × Summary). rows_in group.1) (sums n) (map sums ns)
-    ∙ (λ i. total-counts (part key rows n) i + counts-parts key rows ns i)
+    ∙ (λ i. total_seen-counts seen (part key rows n) i + counts-parts seen key rows ns i)
     ∙ sym (sum_by-cons (λ m. length (part key rows m)) n ns)
 
 -- each row is counted once
-pub grouped-counted : (key : Row → ℕ) (groups : List (ℕ × Summary)) (rows : List Row) → groups ≡ grouped key rows → length rows ≡ rows_counted groups
-unfolding grouped
-grouped-counted key groups rows is =
+pub grouped-counted : (seen : Meta → Meta) (key : Row → ℕ) (groups : List (ℕ × Summary)) (rows : List Row) → groups ≡ grouped_seen seen key rows → length rows ≡ rows_counted groups
+unfolding grouped_seen
+grouped-counted seen key groups rows is =
     let ns = numbers key rows in
-    sym (length_permutation rows (parts key rows ns) (parts-numbers key rows)) ∙ length-flat_map (part key rows) ns ∙ sym (counts-parts key rows ns) ∙ ap rows_counted (sym is)
+    sym (length_permutation rows (parts key rows ns) (parts-numbers key rows)) ∙ length-flat_map (part key rows) ns ∙ sym (counts-parts seen key rows ns) ∙ ap rows_counted (sym is)
 
 -- the order of the rows does not matter
-pub grouped-same : (key : Row → ℕ) (rows other : List Row) → IsPermutation rows other → grouped key rows ≡ grouped key other
-unfolding grouped
-grouped-same key rows other moved =
-    let same : (n : ℕ) → group_sum key rows n ≡ group_sum key other n = λ n. total-IsPermutation _ _ (IsPermutation-filter (λ row. eqb (key row) n) rows other moved) in
+pub grouped-same : (seen : Meta → Meta) (key : Row → ℕ) (rows other : List Row) → IsPermutation rows other → grouped_seen seen key rows ≡ grouped_seen seen key other
+unfolding grouped_seen
+grouped-same seen key rows other moved =
+    let same : (n : ℕ) → group_sum seen key rows n ≡ group_sum seen key other n = λ n. total_seen-IsPermutation seen _ _ (IsPermutation-filter (λ row. eqb (key row) n) rows other moved) in
     let ns : numbers key rows ≡ numbers key other = sorted-reordered (map key rows) (map key other) (IsPermutation-map key rows other moved) in
     λ i. map (λ n. (n, same n i)) (ns i)
 
-pub grouped-reordered : (key : Row → ℕ) (groups : List (ℕ × Summary)) (rows other : List Row) → IsPermutation rows other → groups ≡ grouped key rows → groups ≡ grouped key other
-grouped-reordered key groups rows other moved is = is ∙ grouped-same key rows other moved
+pub grouped-reordered : (seen : Meta → Meta) (key : Row → ℕ) (groups : List (ℕ × Summary)) (rows other : List Row) → IsPermutation rows other → groups ≡ grouped_seen seen key rows → groups ≡ grouped_seen seen key other
+grouped-reordered seen key groups rows other moved is = is ∙ grouped-same seen key rows other moved

@@ -3,12 +3,13 @@ use Rattle.std.specs.Prelude.{ℕ, ◌==◌, List, ◌++◌, length, map, filter
 use Rattle.std.specs.List.{flat_map, sum_by}
 use Rattle.std.specs.Map.{lookup}
 use Rattle.std.specs.Ordering.{nat_cmp, is_eq}
+use Rattle.gufi_base.specs.declared.record.Meta.{Meta}
 use Rattle.gufi_base.specs.declared.record.Row.{Row}
 use Rattle.gufi_base.specs.Rows.{depth_below}
 use Rattle.gufi_base.specs.Basics.{distinct, sort_by, line}
 use Rattle.gufi_sums.specs.declared.summary.Summary.{Summary}
 use Rattle.gufi_sums.specs.Counts.{counts_text}
-use Rattle.gufi_sums.specs.Total.{total, empty, rows_in}
+use Rattle.gufi_sums.specs.Total.{total_of, empty, rows_in}
 use Rattle.gufi_stats.specs.declared.by_key.Key.{Key}
 use Rattle.gufi_stats.specs.declared.by_key.Key.TheVariants.{Level, Uid, Gid}
 
@@ -27,17 +28,25 @@ uid row = row.rec.meta.uid
 abbrev pub gid : Row → ℕ
 gid row = row.rec.meta.gid
 
+-- the sum of rows whose records are seen in some way
+unfoldable pub total_seen : (Meta → Meta) → List Row → Summary
+total_seen seen rows = total_of (map (λ row. seen row.rec.meta) rows)
+
 -- the sum of the rows that have a number
-abbrev pub group_sum : (Row → ℕ) → List Row → ℕ → Summary
-group_sum key rows n = total (filter (λ row. key row == n) rows)
+abbrev pub group_sum : (Meta → Meta) → (Row → ℕ) → List Row → ℕ → Summary
+group_sum seen key rows n = total_seen seen (filter (λ row. key row == n) rows)
 
 -- the numbers that a row has, ascending
 abbrev pub numbers : (Row → ℕ) → List Row → List ℕ
 numbers key rows = sort_by nat_cmp (distinct (map key rows))
 
 -- each number that a row has, ascending, with its sum
-unfoldable pub grouped : (Row → ℕ) → List Row → List (ℕ × Summary)
-grouped key rows = map (λ n. (n, group_sum key rows n)) (numbers key rows)
+unfoldable pub grouped_seen : (Meta → Meta) → (Row → ℕ) → List Row → List (ℕ × Summary)
+grouped_seen seen key rows = map (λ n. (n, group_sum seen key rows n)) (numbers key rows)
+
+-- the same where each record is seen as it is
+abbrev pub grouped : (Row → ℕ) → List Row → List (ℕ × Summary)
+grouped key rows = grouped_seen (λ meta. meta) key rows
 
 -- how many rows are in the sums
 abbrev pub rows_counted : List (ℕ × Summary) → ℕ

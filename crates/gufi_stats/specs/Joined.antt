@@ -6,7 +6,7 @@ use Rattle.std.specs.Ordering.{nat_cmp}
 use Rattle.std.specs.BTreeMap.{insert_entry}
 use Rattle.gufi_sums.specs.declared.summary.Summary.{Summary}
 use Rattle.gufi_sums.specs.Total.{join, IsBounded}
-use Rattle.gufi_stats.specs.declared.groups.Run.{Run}
+use Rattle.gufi_stats.specs.declared.sums.Run.{Run}
 use Rattle.gufi_stats.specs.Grouped.{sum_in}
 
 -- a sum is joined to that at a number

@@ -4,7 +4,7 @@ ghost use Rattle.std.specs.Prelude.{◌≡◌, ◌^◌, ◌<◌, length, IfOk};
 ghost use Rattle.gufi_stats.specs.Grouped.{number_of, grouped};
 ghost use Rattle.gufi_stats.specs.Reports.{by_key};
 
-use crate::groups::Groups;
+use crate::sums::NumberSums;
 use gufi_base::{Memory, Row};
 use std::alloc::Global;
 
@@ -29,11 +29,11 @@ impl Key {
     }
 }
 
-fn groups_of(alloc: Global, rows: &[Row], key: Key) -> Result<Groups, Memory>
+fn groups_of(alloc: Global, rows: &[Row], key: Key) -> Result<NumberSums, Memory>
     requires { length rows.now < 2 ^ 40 }
     ensures { IfOk result (λ groups. groups ≡ grouped (number_of key) rows.now) }
 {
-    let mut groups = Groups::new(alloc);
+    let mut groups = NumberSums::new(alloc);
     for row in rows {
         groups.add(key.number(row), &row.rec.meta)?;
     }

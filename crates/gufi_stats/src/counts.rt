@@ -6,7 +6,7 @@ ghost use Rattle.gufi_stats.specs.Grouped.{grouped, rows_counted};
 ghost use Rattle.gufi_stats.specs.GroupLaws.{grouped-counted, grouped-reordered};
 ghost use Rattle.gufi_stats.specs.Reports.{by_key};
 
-use crate::groups::Groups;
+use crate::sums::NumberSums;
 use crate::number::RowNumber;
 use gufi_base::{Memory, RowRef, Yield};
 use std::alloc::Global;
@@ -19,7 +19,7 @@ use std::marker::{Model, PhantomData};
 /// constant time where it has the number of the row before it.
 #[derive(Drop)]
 pub struct Counts<K: RowNumber> {
-    groups: Groups,
+    groups: NumberSums,
     of: PhantomData<K>,
 }
 
@@ -37,13 +37,13 @@ impl<K: RowNumber> Yield for Counts<K> {
 
     ghost stands_for = { λ groups rows. groups ≡ grouped K.number rows };
 
-    ghost counted = { grouped-counted K.number };
+    ghost counted = { grouped-counted (λ meta. meta) K.number };
 
-    ghost reordered = { grouped-reordered K.number };
+    ghost reordered = { grouped-reordered (λ meta. meta) K.number };
 
     fn none(alloc: Global) -> Result<Counts<K>, Memory> {
         Ok(Counts {
-            groups: Groups::new(alloc),
+            groups: NumberSums::new(alloc),
             of: PhantomData,
         })
     }

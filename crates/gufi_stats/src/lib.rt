@@ -1,17 +1,19 @@
 //! Reports over rows: how many there are by depth, owner or group, and the directories without one below them.
 //!
-//! Contracts see a report as its bytes: `stats_text` says which. `Counts` keeps the sums of rows as they come, and no row.
-//! It stands on `gufi_base` and `gufi_sums`; the call that prints a report stands on it.
+//! Contracts see a report as its bytes: `stats_text` says which. `Counts` keeps the sums of rows as they come, and no row;
+//! `NumberSums` keeps such sums of records for others that group rows.
+//! It stands on `gufi_base` and `gufi_sums`; groups of rows and the call that prints a report stand on it.
 #![tactic(auto)]
 
 mod by_key;
 mod counts;
-mod groups;
 mod leaves;
 mod number;
 mod report;
+mod sums;
 
 pub use counts::Counts;
 pub use leaves::Directories;
 pub use number::{Depth, Gid, RowNumber, Uid};
 pub use report::{Report, gids_text, leaves_text, levels_text, stats_text, uids_text};
+pub use sums::NumberSums;

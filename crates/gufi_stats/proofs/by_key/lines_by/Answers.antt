@@ -7,7 +7,7 @@ use Rattle.gufi_stats.proofs.by_key.lines_by.Goals as goal
 
 pub lines-requires : goal.lines-requires
 lines-requires c =
-    let count = grouped-counted (number_of c.args.key) c.in_ok-groups.groups c.args.rows.now c.in_ok-groups.ensures in
+    let count = grouped-counted (λ meta. meta) (number_of c.args.key) c.in_ok-groups.groups c.args.rows.now c.in_ok-groups.ensures in
     omega (arith, count, c.requires)
 
 pub returns : goal.returns

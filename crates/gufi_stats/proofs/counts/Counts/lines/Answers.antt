@@ -6,7 +6,7 @@ use Rattle.gufi_stats.proofs.counts.Counts.lines.Goals as goal
 
 pub lines-requires : goal.lines-requires
 lines-requires g c =
-    let count = grouped-counted g.K.RowNumber.number c.self.inside.groups c.requires.0 (c.self.view_is ∙ c.requires.1) in
+    let count = grouped-counted (λ meta. meta) g.K.RowNumber.number c.self.inside.groups c.requires.0 (c.self.view_is ∙ c.requires.1) in
     omega (arith, count, c.requires.2)
 
 pub returns : goal.returns

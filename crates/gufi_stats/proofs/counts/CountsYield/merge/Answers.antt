@@ -14,4 +14,4 @@ join-requires g c = λ n.
 pub returns : goal.returns
 returns g c =
     on_ok_weaker c.join.result (λ put rows more own others.
-    rows-joined g.K.RowNumber.number rows more c.self.inside.groups c.other.inside.groups c.join.new.self (c.self.view_is ∙ own) (c.other.view_is ∙ others) put) c.join.ensures
+    rows-joined (λ meta. meta) g.K.RowNumber.number rows more c.self.inside.groups c.other.inside.groups c.join.new.self (c.self.view_is ∙ own) (c.other.view_is ∙ others) put) c.join.ensures

@@ -13,4 +13,4 @@ add-requires g c = λ n.
 pub returns : goal.returns
 returns g c =
     on_ok_weaker c.add.result (λ added of rows stands is.
-    row-counted g.K.RowNumber.number rows of c.of.result c.args.row.meta.now c.self.inside.groups c.add.new.self (c.of.ensures of stands) stands.meta (c.self.view_is ∙ is) added) c.add.ensures
+    row-counted (λ meta. meta) g.K.RowNumber.number rows of c.of.result c.args.row.meta.now c.self.inside.groups c.add.new.self (c.of.ensures of stands) stands.meta (c.self.view_is ∙ is) added) c.add.ensures

@@ -4,7 +4,7 @@ use Rattle.std.specs.BTreeMap.{insert_entry}
 use Rattle.gufi_sums.specs.Total.{join}
 use Rattle.gufi_stats.specs.Joined.{joined, AreBounded}
 use Rattle.gufi_stats.proofs.Joined.{sum-bounded, bounded-put}
-use Rattle.gufi_stats.proofs.groups.join_sum.Goals as goal
+use Rattle.gufi_stats.proofs.sums.join_sum.Goals as goal
 
 pub join-requires-clause-in_bounds : goal.join-requires-clause-in_bounds
 join-requires-clause-in_bounds c = rw c.sum_at-sum.ensures (sum-bounded c.args.sums.now.entries c.args.number c.requires.in_bounds)

@@ -32,15 +32,17 @@ impl Run {
     }
 }
 
-/// A sum for each number that a row has. The rows that came last have a sum of their own as long as they have one
-/// number: most rows have the number of the row before them.
+/// A sum of records for each number under which one was added. Contracts see the numbers, ascending, with their sums.
+///
+/// The records that came last have a sum of their own as long as they have one number: most have the number of the one
+/// before them.
 #[derive(Drop)]
-pub(crate) struct Groups {
+pub struct NumberSums {
     sums: BTreeMap<u64, Summary>,
     last: Option<Run>,
 }
 
-impl Model for Groups {
+impl Model for NumberSums {
     ghost use Rattle.std.specs.Prelude.{ℕ, List};
     ghost use Rattle.gufi_sums.specs.declared.summary.Summary.{Summary};
     ghost use Rattle.gufi_stats.specs.Joined.{with_run, AreKept};
@@ -95,12 +97,12 @@ fn join_all(
     Ok(())
 }
 
-impl Groups {
-    /// No group.
-    pub(crate) fn new(alloc: Global) -> Groups
+impl NumberSums {
+    /// No sum.
+    pub fn new(alloc: Global) -> NumberSums
         ensures { result ≡ [] }
     {
-        Groups {
+        NumberSums {
             sums: BTreeMap::new(alloc),
             last: None,
         }
@@ -118,8 +120,8 @@ impl Groups {
         Ok(())
     }
 
-    /// Adds a row that has a number.
-    pub(crate) fn add(&mut self, number: u64, meta: &Meta) -> Result<(), Memory>
+    /// Adds a record under a number: `O(log n)` in the numbers, and `O(1)` where it is that of the record before.
+    pub fn add(&mut self, number: u64, meta: &Meta) -> Result<(), Memory>
         requires { (n : ℕ) → rows_in (sum_in self.old n) + 1 < 2 ^ 40 }
         ensures { OnOk result (self.new ≡ joined self.old number (meta_total meta.now)) }
     {
@@ -132,28 +134,28 @@ impl Groups {
         self.begin(number, meta)
     }
 
-    /// The sums, with that of the last rows among them.
-    fn into_sums(self) -> Result<BTreeMap<u64, Summary>, Memory>
+    /// The sums by their numbers.
+    pub fn into_sums(self) -> Result<BTreeMap<u64, Summary>, Memory>
         requires { (n : ℕ) → rows_in (sum_in self n) < 2 ^ 40 }
         ensures sums { IfOk result (λ sums. sums.entries ≡ self) }
         ensures bounded { IfOk result (λ sums. AreBounded sums.entries) }
     {
-        let Groups { mut sums, last } = self;
+        let NumberSums { mut sums, last } = self;
         if let Some(run) = last {
             join_sum(&mut sums, run.number, &run.sum)?;
         }
         Ok(sums)
     }
 
-    /// Joins other groups.
-    pub(crate) fn join(&mut self, alloc: Global, other: Groups) -> Result<(), Memory>
+    /// Joins other sums.
+    pub fn join(&mut self, alloc: Global, other: NumberSums) -> Result<(), Memory>
         requires { (n : ℕ) → rows_in (sum_in self.old n) + rows_counted other < 2 ^ 40 }
         ensures { OnOk result (self.new ≡ all_joined 0 self.old other) }
     {
-        let mut sums = mem::replace(self, Groups::new(alloc)).into_sums()?;
+        let mut sums = mem::replace(self, NumberSums::new(alloc)).into_sums()?;
         let more = other.into_sums()?;
         join_all(&mut sums, &more, 0)?;
-        *self = Groups { sums, last: None };
+        *self = NumberSums { sums, last: None };
         Ok(())
     }
 

@@ -2,7 +2,7 @@ use Rattle.std.proofs.Common.{◌≡◌, ℕ, ◌+◌, ◌^◌, ◌<◌}
 use Rattle.gufi_sums.specs.Total.{rows_in}
 use Rattle.gufi_stats.specs.Grouped.{sum_in, rows_counted}
 use Rattle.gufi_stats.specs.Joined.{all_joined, AreBounded}
-use Rattle.gufi_stats.proofs.groups.join_all.Given as goal
+use Rattle.gufi_stats.proofs.sums.join_all.Given as goal
 
 abbrev pub invariant-loop-number : goal.invariant-loop-number
 invariant-loop-number l = record {

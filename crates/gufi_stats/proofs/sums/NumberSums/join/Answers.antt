@@ -1,6 +1,6 @@
 use Rattle.std.proofs.Common.{arith}
 use Rattle.gufi_stats.proofs.Joined.{sum-most}
-use Rattle.gufi_stats.proofs.groups.Groups.join.Goals as goal
+use Rattle.gufi_stats.proofs.sums.NumberSums.join.Goals as goal
 
 pub into_sums-requires-2 : goal.into_sums-requires-2
 into_sums-requires-2 c = λ n.

@@ -1,7 +1,7 @@
 use Rattle.std.proofs.Common.{arith}
 use Rattle.gufi_sums.specs.Total.{meta_total}
 use Rattle.gufi_stats.proofs.Joined.{run-there, run-longer}
-use Rattle.gufi_stats.proofs.groups.Groups.add.Goals as goal
+use Rattle.gufi_stats.proofs.sums.NumberSums.add.Goals as goal
 
 pub add-requires-clause-room : goal.add-requires-clause-room
 add-requires-clause-room c =

@@ -1,6 +1,6 @@
 use Rattle.std.proofs.Common.{arith}
 use Rattle.gufi_stats.proofs.Joined.{run-there}
-use Rattle.gufi_stats.proofs.groups.Groups.begin.Goals as goal
+use Rattle.gufi_stats.proofs.sums.NumberSums.begin.Goals as goal
 
 pub join_sum-requires-clause-room : goal.join_sum-requires-clause-room
 join_sum-requires-clause-room c =

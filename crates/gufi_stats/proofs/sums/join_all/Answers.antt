@@ -2,7 +2,7 @@ use Rattle.std.proofs.Common.{◌≡◌, ◌∷◌, ◌∙◌, rules, arith, sub
 use Rattle.std.proofs.lemmas.Grind.{common_steps}
 use Rattle.gufi_stats.specs.Joined.{AreBounded}
 use Rattle.gufi_stats.proofs.Joined.{next-joined, next-room}
-use Rattle.gufi_stats.proofs.groups.join_all.Goals as goal
+use Rattle.gufi_stats.proofs.sums.join_all.Goals as goal
 
 pub loop-number-preserved : goal.loop-number-preserved
 loop-number-preserved c =
