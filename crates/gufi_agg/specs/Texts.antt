@@ -28,6 +28,10 @@ item_text MaxSize group = decimal group.size.1
 item_text MinMtime group = signed_decimal group.mtime.0
 item_text MaxMtime group = signed_decimal group.mtime.1
 
+-- items, each behind a tab
+abbrev pub tabbed_items : List Item → Group → List ℕ
+tabbed_items items group = flat_map (λ item. 9 ∷ item_text item group) items
+
 -- its number and its items, a tab between each
 abbrev pub group_line : Agg → ℕ → Group → List ℕ
 group_line agg above group = line (join_with_byte 9 (key_text agg.key above group.key ∷ map (λ item. item_text item group) agg.items))
