@@ -12,8 +12,9 @@ use Rattle.gufi_top.specs.Reasons.{Reason, tables_in, index_in}
 use Rattle.gufi_top.specs.Verdict.{Asking, asked, asked_if, user_in, asked_by, index_over, ask_over}
 use Rattle.gufi_find.specs.Expressions.{Find}
 use Rattle.gufi_select.specs.Columns.{Select}
+use Rattle.gufi_agg.specs.Aggs.{Agg}
 use Rattle.gufi_base.specs.Paths.{Components}
-use Rattle.gufi_top.specs.Asks.{find_ask, query_ask}
+use Rattle.gufi_top.specs.Asks.{Ask, find_ask, query_ask, agg_ask}
 use Rattle.gufi_top.specs.Calls.{Gives, GivesOver}
 use Rattle.gufi_top.specs.Views.{text_view}
 use Rattle.gufi_top.specs.declared.halt.Output.{Output}
@@ -35,35 +36,52 @@ by_err common asking tables snap halts.Memory read = tt
 
 pub ruleset users = (by_ok, by_err)
 
--- ---- the words of an expression, and then its rows
+-- ---- the query words, and then the rows
+
+module _ {A : Type 0} (ask_of : A → Ask) where
+  query_ok : (tree : List Directory) (who : Principal) (start : Components) (read : Result A Reason) (query : A) (r : Result Output Halt)
+      → Gives {A = A} (λ q. q) (Ok query) read → Gives text_view r (asked tree who start (ask_of query))
+      → Gives text_view r (asked_if tree who start (read >>= λ q. Ok (ask_of q)))
+  query_ok tree who start read query r is given = rw is given
+
+  query_err : (tree : List Directory) (who : Principal) (start : Components) (read : Result A Reason) (e : Halt)
+      → Gives {A = A} (λ q. q) (Err e) read → Gives text_view (Err e) (asked_if tree who start (read >>= λ q. Ok (ask_of q)))
+  query_err tree who start read (halts.Refused status note) is = rw is refl
+  query_err tree who start read halts.ReadFault is = tt
+  query_err tree who start read halts.Memory is = tt
 
 pub expression_ok : (tree : List Directory) (who : Principal) (start : Components) (read : Result Find Reason) (expression : Find) (r : Result Output Halt)
     → Gives {A = Find} (λ f. f) (Ok expression) read → Gives text_view r (asked tree who start (find_ask expression))
     → Gives text_view r (asked_if tree who start (read >>= λ f. Ok (find_ask f)))
-expression_ok tree who start read expression r is given = rw is given
+expression_ok = query_ok find_ask
 
 pub expression_err : (tree : List Directory) (who : Principal) (start : Components) (read : Result Find Reason) (e : Halt)
     → Gives {A = Find} (λ f. f) (Err e) read → Gives text_view (Err e) (asked_if tree who start (read >>= λ f. Ok (find_ask f)))
-expression_err tree who start read (halts.Refused status note) is = rw is refl
-expression_err tree who start read halts.ReadFault is = tt
-expression_err tree who start read halts.Memory is = tt
+expression_err = query_err find_ask
 
 pub ruleset expressions = (expression_ok, expression_err)
-
--- ---- the text of a query, and then its rows
 
 pub select_ok : (tree : List Directory) (who : Principal) (start : Components) (read : Result Select Reason) (select : Select) (r : Result Output Halt)
     → Gives {A = Select} (λ s. s) (Ok select) read → Gives text_view r (asked tree who start (query_ask select))
     → Gives text_view r (asked_if tree who start (read >>= λ s. Ok (query_ask s)))
-select_ok tree who start read select r is given = rw is given
+select_ok = query_ok query_ask
 
 pub select_err : (tree : List Directory) (who : Principal) (start : Components) (read : Result Select Reason) (e : Halt)
     → Gives {A = Select} (λ s. s) (Err e) read → Gives text_view (Err e) (asked_if tree who start (read >>= λ s. Ok (query_ask s)))
-select_err tree who start read (halts.Refused status note) is = rw is refl
-select_err tree who start read halts.ReadFault is = tt
-select_err tree who start read halts.Memory is = tt
+select_err = query_err query_ask
 
 pub ruleset selects = (select_ok, select_err)
+
+pub agg_ok : (tree : List Directory) (who : Principal) (start : Components) (read : Result Agg Reason) (agg : Agg) (r : Result Output Halt)
+    → Gives {A = Agg} (λ a. a) (Ok agg) read → Gives text_view r (asked tree who start (agg_ask agg))
+    → Gives text_view r (asked_if tree who start (read >>= λ a. Ok (agg_ask a)))
+agg_ok = query_ok agg_ask
+
+pub agg_err : (tree : List Directory) (who : Principal) (start : Components) (read : Result Agg Reason) (e : Halt)
+    → Gives {A = Agg} (λ a. a) (Err e) read → Gives text_view (Err e) (asked_if tree who start (read >>= λ a. Ok (agg_ask a)))
+agg_err = query_err agg_ask
+
+pub ruleset aggs = (agg_ok, agg_err)
 
 -- ---- the index's file, and then the principal
 

@@ -12,6 +12,8 @@ use Rattle.gufi_sums.specs.Total.{total}
 use Rattle.gufi_users.specs.Entries.{UserTables}
 use Rattle.gufi_find.specs.Expressions.{Find, find_holds}
 use Rattle.gufi_select.specs.Columns.{Select, select_holds, select_lines}
+use Rattle.gufi_agg.specs.Aggs.{Agg}
+use Rattle.gufi_agg.specs.Texts.{agg_lines}
 use Rattle.gufi_list.specs.Texts.{stat_text, total_text}
 use Rattle.gufi_list.specs.Listings.{ls_text, ls_asks}
 use Rattle.gufi_stats.specs.declared.report.Report.{Report}
@@ -28,6 +30,7 @@ pub data Ask : Type 0 where
   stats_ask : Report → Ask
   total_ask : List ℕ → Ask
   query_ask : Select → Ask
+  agg_ask : Agg → Ask
 
 -- whether an ask admits a row at a depth below its start
 abbrev pub ask_holds : Ask → Row → ℕ → Bool
@@ -38,6 +41,7 @@ ask_holds stat_ask row depth = true
 ask_holds (stats_ask report) row depth = true
 ask_holds (total_ask name) row depth = true
 ask_holds (query_ask select) row depth = select_holds select row depth
+ask_holds (agg_ask agg) row depth = select_holds agg.select row depth
 
 -- The start's own row is among those of an answer.
 abbrev pub stat_lines : Components → List Row → List ℕ
@@ -56,6 +60,7 @@ ask_text stat_ask start rows = stat_lines start rows
 ask_text (stats_ask report) start rows = stats_text rows start report
 ask_text (total_ask name) start rows = total_line name (total rows)
 ask_text (query_ask select) start rows = select_lines select start rows
+ask_text (agg_ask agg) start rows = agg_lines agg start rows
 
 -- the refusal of the start, or what is written
 unfoldable pub ask_reply : List Directory → Principal → Components → Ask → Result (List ℕ) Refusal

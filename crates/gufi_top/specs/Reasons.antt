@@ -32,6 +32,9 @@ use Rattle.gufi_find.specs.Faults.{find_kind_text}
 use Rattle.gufi_select.specs.declared.fault.SelectError.{SelectError}
 use Rattle.gufi_select.specs.declared.fault.SelectError.TheVariants as select_errors
 use Rattle.gufi_select.specs.Faults.{select_kind_text}
+use Rattle.gufi_agg.specs.declared.fault.AggError.{AggError}
+use Rattle.gufi_agg.specs.declared.fault.AggError.TheVariants as agg_errors
+use Rattle.gufi_agg.specs.Faults.{agg_kind_text}
 use Rattle.gufi_words.specs.declared.word.WordError.{WordError}
 use Rattle.gufi_words.specs.declared.word.WordError.TheVariants as word_errors
 use Rattle.gufi_script.specs.declared.fault.ScriptKind.{ScriptKind}
@@ -163,7 +166,7 @@ abbrev pub find_reason : ℕ → FindError → Reason
 find_reason user_at (find_errors.Fault word kind) = word_fault (capped_number (user_at + 1 + word)) (find_kind_text kind)
 find_reason user_at find_errors.Memory = no_memory
 
--- ---- the text of a query, which is the word after START, and an offset in it
+-- ---- the text of a query or an agg, which is the word after START, and an offset in it
 
 abbrev pub text_fault : ℕ → ℕ → List ℕ → Reason
 text_fault k offset text = reason 2 (codes "word " ++ (decimal k ++ (codes " at " ++ (decimal offset ++ (codes " " ++ text)))))
@@ -171,6 +174,10 @@ text_fault k offset text = reason 2 (codes "word " ++ (decimal k ++ (codes " at 
 abbrev pub select_reason : ℕ → SelectError → Reason
 select_reason user_at (select_errors.Fault offset kind) = text_fault (capped_number (user_at + 2)) offset (select_kind_text kind)
 select_reason user_at select_errors.Memory = no_memory
+
+abbrev pub agg_reason : ℕ → AggError → Reason
+agg_reason user_at (agg_errors.Fault offset kind) = text_fault (capped_number (user_at + 2)) offset (agg_kind_text kind)
+agg_reason user_at agg_errors.Memory = no_memory
 
 -- ---- a start that can't be walked from
 

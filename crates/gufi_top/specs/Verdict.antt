@@ -13,6 +13,8 @@ use Rattle.gufi_find.specs.Expressions.{Find}
 use Rattle.gufi_find.specs.Reading.{read_find}
 use Rattle.gufi_select.specs.Columns.{Select}
 use Rattle.gufi_select.specs.Reading.{read_select}
+use Rattle.gufi_agg.specs.Aggs.{Agg}
+use Rattle.gufi_agg.specs.Reading.{read_agg}
 use Rattle.gufi_stats.specs.declared.report.Report.{Report}
 use Rattle.gufi_stats.specs.declared.report.Report.TheVariants as reports
 use Rattle.gufi_gen.specs.Generated.{gen_text}
@@ -28,8 +30,8 @@ use Rattle.gufi_words.specs.declared.command.ReportWord.TheVariants as report_wo
 use Rattle.gufi_words.specs.declared.command.Common.{Common}
 use Rattle.gufi_words.specs.declared.command.Command.{Command}
 use Rattle.gufi_words.specs.declared.command.Command.TheVariants as commands
-use Rattle.gufi_top.specs.Reasons.{Reason, word_refused, words_reason, find_reason, select_reason, script_reason, start_reason, tables_in, acts_in, trace_in, tree_within, index_in}
-use Rattle.gufi_top.specs.Asks.{Ask, walk_ask, find_ask, ls_ask, stat_ask, stats_ask, total_ask, query_ask, ask_reply}
+use Rattle.gufi_top.specs.Reasons.{Reason, word_refused, words_reason, find_reason, select_reason, agg_reason, script_reason, start_reason, tables_in, acts_in, trace_in, tree_within, index_in}
+use Rattle.gufi_top.specs.Asks.{Ask, walk_ask, find_ask, ls_ask, stat_ask, stats_ask, total_ask, query_ask, agg_ask, ask_reply}
 
 -- what goes to the output, and the note of status 0
 pub record Written : Type 0 where
@@ -110,6 +112,13 @@ select_in user_at text = result_map_err (select_reason user_at) (read_select tex
 abbrev pub query_asking : ℕ → List ℕ → Asking
 query_asking user_at text tables = select_in user_at text >>= λ select. Ok (query_ask select)
 
+-- the text of an agg, in which no users play a part either
+abbrev pub agg_in : ℕ → List ℕ → Result Agg Reason
+agg_in user_at text = result_map_err (agg_reason user_at) (read_agg text)
+
+abbrev pub agg_asking : ℕ → List ℕ → Asking
+agg_asking user_at text tables = agg_in user_at text >>= λ agg. Ok (agg_ask agg)
+
 -- ---- trace2index: the image of a trace's tree, of which nothing is rolled up
 
 unfoldable pub trace2index_over : List ℕ → ℕ → Files → Result Verdict Reason
@@ -176,6 +185,7 @@ command_over (commands.Walk trace uid gids delim) = walk_over trace (principal u
 command_over (commands.Trace2index trace delim) = trace2index_over trace delim
 command_over (commands.Rollup index delim limit) = rollup_over index delim limit
 command_over (commands.Query common text) = ask_over common (query_asking common.user_at text)
+command_over (commands.Agg common text) = ask_over common (agg_asking common.user_at text)
 command_over (commands.Find common now words) = ask_over common (find_asking common.user_at now words)
 command_over (commands.Ls common long all) = ask_over common (ls_asking long all)
 command_over (commands.Stat common) = ask_over common stat_asking
@@ -189,6 +199,7 @@ is_one_shot (commands.Walk trace uid gids delim) = true
 is_one_shot (commands.Trace2index trace delim) = true
 is_one_shot (commands.Rollup index delim limit) = true
 is_one_shot (commands.Query common text) = true
+is_one_shot (commands.Agg common text) = true
 is_one_shot (commands.Find common now words) = true
 is_one_shot (commands.Ls common long all) = true
 is_one_shot (commands.Stat common) = true
@@ -211,6 +222,7 @@ may_refuse (commands.Walk trace uid gids delim) = false
 may_refuse (commands.Trace2index trace delim) = false
 may_refuse (commands.Rollup index delim limit) = false
 may_refuse (commands.Query common text) = true
+may_refuse (commands.Agg common text) = true
 may_refuse (commands.Find common now words) = true
 may_refuse (commands.Ls common long all) = true
 may_refuse (commands.Stat common) = true

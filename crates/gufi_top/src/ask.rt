@@ -2,16 +2,20 @@
 ghost use Rattle.std.specs.Prelude.{◌≡◌, ◌≢◌, true, Some, None, IfOk, IfErr, OnOk};
 ghost use Rattle.gufi_tree.specs.Resolve.{resolve};
 ghost use Rattle.gufi_stats.specs.Grouped.{grouped};
+ghost use Rattle.gufi_select.specs.Columns.{select_holds};
+ghost use Rattle.gufi_agg.specs.Grouped.{grouped_rows, key_number};
 ghost use Rattle.gufi_walk.specs.Answer.{answer, refusal_of};
-ghost use Rattle.gufi_top.specs.Asks.{walk_ask, find_ask, ls_ask, stat_ask, stats_ask, total_ask, query_ask, total_line, ask_reply};
+ghost use Rattle.gufi_top.specs.Asks.{walk_ask, find_ask, ls_ask, stat_ask, stats_ask, total_ask, query_ask, agg_ask, total_line, ask_reply};
 ghost use Rattle.gufi_top.specs.Calls.{Replies};
 
 use gufi_access::Principal;
+use gufi_agg::{Agg, AggKey, Group, Groups, Letter, agg_text};
 use gufi_base::{Always, Memory, Path};
 use gufi_find::FindExpr;
 use gufi_io::Gate;
 use gufi_list::{LsLine, OneBelow, stat_text, total_text};
-use gufi_select::{Select, SelectLine};
+use gufi_prune::{Pruner, find_pruner, select_pruner};
+use gufi_select::{Select, SelectLine, SelectQuestion};
 use gufi_snap::Snapshot;
 use gufi_stats::{
     Counts, Depth, Directories, Gid, Report, RowNumber, Uid, gids_text, leaves_text, levels_text,
@@ -20,26 +24,45 @@ use gufi_stats::{
 use gufi_sums::{NoDeeper, NoSkip, Summary};
 use gufi_users::Users;
 use gufi_walk::{
-    Refusal, Walkers, answer, answer_lines, answer_list, answer_rows, answer_total, found_start,
+    Refusal, Walkers, answer, answer_list, answer_paths, answer_rows, answer_total, found_start,
     total_from,
 };
 use std::alloc::Global;
+use std::mem::forget;
 use std::sync::Wait;
 use std::thread::Threads;
+
+/// How many rows are many to print: their text takes megabytes.
+const MANY: usize = 65536;
+
+/// Gives a snapshot back where many rows are to be printed, so that their text takes its place in memory.
+///
+/// Else it isn't given back, since the run ends soon: part by part that would take a part of its time.
+fn make_room(snap: Snapshot, rows: usize) {
+    if rows < MANY {
+        forget(snap);
+    }
+}
 
 /// The paths of all rows that the principal lists from the start.
 pub(crate) fn walk_text<R: Threads + Wait + Sync, G: Gate + Sync>(
     walkers: &Walkers<'_, R, G>,
     alloc: Global,
-    snap: &Snapshot,
+    snap: Snapshot,
     who: &Principal,
     start: &Path,
 ) -> Result<Vec<u8>, Refusal>
-    ensures { Replies result (ask_reply snap.now.tree who.now start.now walk_ask) }
+    ensures { Replies result (ask_reply snap.tree who.now start.now walk_ask) }
 {
-    match answer_lines(walkers, alloc, snap, who, start, &Always, &NoSkip) {
-        Ok(lines) => Ok(lines.text),
-        Err(refusal) => Err(refusal),
+    match answer_paths(walkers, alloc, &snap, who, start, &Always, &NoSkip) {
+        Ok(paths) => {
+            make_room(snap, paths.len());
+            Ok(paths.lines(alloc)?)
+        }
+        Err(refusal) => {
+            forget(snap);
+            Err(refusal)
+        }
     }
 }
 
@@ -47,20 +70,24 @@ pub(crate) fn walk_text<R: Threads + Wait + Sync, G: Gate + Sync>(
 pub(crate) fn find_text<R: Threads + Wait + Sync, G: Gate + Sync>(
     walkers: &Walkers<'_, R, G>,
     alloc: Global,
-    snap: &Snapshot,
+    snap: Snapshot,
     who: &Principal,
     start: &Path,
     expression: &FindExpr,
 ) -> Result<Vec<u8>, Refusal>
-    ensures { Replies result (ask_reply snap.now.tree who.now start.now (find_ask expression.now)) }
+    ensures { Replies result (ask_reply snap.tree who.now start.now (find_ask expression.now)) }
 {
     let question = expression.question();
-    let skip = NoDeeper {
-        than: expression.max_depth(),
-    };
-    match answer_lines(walkers, alloc, snap, who, start, &question, &skip) {
-        Ok(lines) => Ok(lines.text),
-        Err(refusal) => Err(refusal),
+    let skip = find_pruner(alloc, expression)?;
+    match answer_paths(walkers, alloc, &snap, who, start, &question, &skip) {
+        Ok(paths) => {
+            make_room(snap, paths.len());
+            Ok(paths.lines(alloc)?)
+        }
+        Err(refusal) => {
+            forget(snap);
+            Err(refusal)
+        }
     }
 }
 
@@ -215,27 +242,102 @@ pub(crate) fn record_text(
 pub(crate) fn query_text<R: Threads + Wait + Sync, G: Gate + Sync>(
     walkers: &Walkers<'_, R, G>,
     alloc: Global,
-    snap: &Snapshot,
+    snap: Snapshot,
     who: &Principal,
     start: &Path,
     select: &Select,
 ) -> Result<Vec<u8>, Refusal>
-    ensures { Replies result (ask_reply snap.now.tree who.now start.now (query_ask select.now)) }
+    ensures { Replies result (ask_reply snap.tree who.now start.now (query_ask select.now)) }
 {
     let line = SelectLine {
         select,
         above: start.depth(),
     };
     let question = select.question();
-    let skip = NoDeeper {
-        than: select.max_depth(),
-    };
-    match answer_list(walkers, alloc, snap, who, start, &question, &skip) {
+    let skip = select_pruner(alloc, select)?;
+    match answer_list(walkers, alloc, &snap, who, start, &question, &skip) {
         Ok(rows) => {
+            make_room(snap, rows.len());
             let mut text = Vec::new(alloc);
             rows.put_lines(alloc, &line, &mut text)?;
             Ok(text)
         }
+        Err(refusal) => {
+            forget(snap);
+            Err(refusal)
+        }
+    }
+}
+
+/// The groups by a number of the rows that the principal lists from the start and that a SELECT chooses. No row is kept.
+fn groups_by<K: RowNumber + Send + Sync, R: Threads + Wait + Sync, G: Gate + Sync>(
+    walkers: &Walkers<'_, R, G>,
+    alloc: Global,
+    snap: &Snapshot,
+    who: &Principal,
+    start: &Path,
+    select: &Select,
+) -> Result<Vec<Group>, Refusal>
+    ensures groups { IfOk result (λ groups. groups.items ≡ grouped_rows K.number (answer snap.now.tree who.now start.now (select_holds select.now))) }
+    ensures found { OnOk result (refusal_of (resolve snap.now.tree who.now start.now) ≡ None) }
+    ensures refusal { IfErr result (λ refusal. refusal ≢ Refusal.Memory → refusal_of (resolve snap.now.tree who.now start.now) ≡ Some refusal) }
+{
+    // The tree's count tells that the rows of an answer are few.
+    let _tree = snap.tree();
+    let question = select.question();
+    let skip = select_pruner(alloc, select)?;
+    let groups = answer::<R, SelectQuestion<'_>, Groups<K>, Pruner, G>(
+        walkers.rt,
+        alloc,
+        snap,
+        who,
+        start,
+        &question,
+        &skip,
+        walkers.count,
+        walkers.gate,
+    );
+    match groups {
+        Ok(groups) => Ok(groups.sorted(alloc)?),
+        Err(refusal) => Err(refusal),
+    }
+}
+
+/// The groups that an agg asks for.
+fn groups_of<R: Threads + Wait + Sync, G: Gate + Sync>(
+    walkers: &Walkers<'_, R, G>,
+    alloc: Global,
+    snap: &Snapshot,
+    who: &Principal,
+    start: &Path,
+    agg: &Agg,
+) -> Result<Vec<Group>, Refusal>
+    ensures groups { IfOk result (λ groups. groups.items ≡ grouped_rows (key_number agg.now.key) (answer snap.now.tree who.now start.now (select_holds agg.now.select))) }
+    ensures found { OnOk result (refusal_of (resolve snap.now.tree who.now start.now) ≡ None) }
+    ensures refusal { IfErr result (λ refusal. refusal ≢ Refusal.Memory → refusal_of (resolve snap.now.tree who.now start.now) ≡ Some refusal) }
+{
+    let select = agg.select();
+    match agg.key() {
+        AggKey::Uid => groups_by::<Uid, R, G>(walkers, alloc, snap, who, start, select),
+        AggKey::Gid => groups_by::<Gid, R, G>(walkers, alloc, snap, who, start, select),
+        AggKey::Letter => groups_by::<Letter, R, G>(walkers, alloc, snap, who, start, select),
+        AggKey::Level => groups_by::<Depth, R, G>(walkers, alloc, snap, who, start, select),
+    }
+}
+
+/// A line for each group of the rows that the principal lists from the start and that an agg chooses.
+pub(crate) fn groups_text<R: Threads + Wait + Sync, G: Gate + Sync>(
+    walkers: &Walkers<'_, R, G>,
+    alloc: Global,
+    snap: &Snapshot,
+    who: &Principal,
+    start: &Path,
+    agg: &Agg,
+) -> Result<Vec<u8>, Refusal>
+    ensures { Replies result (ask_reply snap.now.tree who.now start.now (agg_ask agg.now)) }
+{
+    match groups_of(walkers, alloc, snap, who, start, agg) {
+        Ok(groups) => Ok(agg_text(alloc, &groups, agg, start.depth() as u32)?),
         Err(refusal) => Err(refusal),
     }
 }

@@ -55,6 +55,7 @@ pub(crate) fn workers_of(command: &Command) -> u32 {
     match command {
         Command::Find { common, .. }
         | Command::Query { common, .. }
+        | Command::Agg { common, .. }
         | Command::Ls { common, .. }
         | Command::Stat { common }
         | Command::Stats { common, .. } => common.workers,
@@ -97,6 +98,10 @@ pub(crate) fn answer_command<R: Threads + Wait + Sync, F: Shelf, G: Gate + Sync>
         }
         Command::Query { common, text } => {
             let question = Question::query(common, text);
+            ask(walkers, alloc, shelf, common, &question)
+        }
+        Command::Agg { common, text } => {
+            let question = Question::agg(common, text);
             ask(walkers, alloc, shelf, common, &question)
         }
         Command::Ls { common, long, all } => {

@@ -10,8 +10,10 @@ ghost use Rattle.gufi_roll.specs.CanRoll.{report_text};
 ghost use Rattle.gufi_image.specs.Kinds.{image_kind_text};
 ghost use Rattle.gufi_find.specs.Faults.{find_kind_text};
 ghost use Rattle.gufi_select.specs.Faults.{select_kind_text};
+ghost use Rattle.gufi_agg.specs.Faults.{agg_kind_text};
 ghost use Rattle.gufi_base.specs.Basics.{line};
 
+use gufi_agg::AggKind;
 use gufi_base::Memory;
 use gufi_find::FindKind;
 use gufi_image::ImageKind;
@@ -156,6 +158,18 @@ pub(crate) fn select_word(
     kind: SelectKind,
 ) -> Result<Vec<u8>, AllocError>
     ensures { IfOk result (λ note. note.items ≡ (text_fault word offset (select_kind_text kind)).note) }
+{
+    Ok(format!(in alloc; "gufi: word {word} at {offset} {kind}\n")?.into_bytes())
+}
+
+/// An offset in the text of an agg that is at fault.
+pub(crate) fn agg_word(
+    alloc: Global,
+    word: u32,
+    offset: u32,
+    kind: AggKind,
+) -> Result<Vec<u8>, AllocError>
+    ensures { IfOk result (λ note. note.items ≡ (text_fault word offset (agg_kind_text kind)).note) }
 {
     Ok(format!(in alloc; "gufi: word {word} at {offset} {kind}\n")?.into_bytes())
 }

@@ -5,17 +5,20 @@ ghost use Rattle.gufi_find.specs.Expressions.{Find as SeenFind};
 ghost use Rattle.gufi_find.specs.Faults.{find_kind_text};
 ghost use Rattle.gufi_select.specs.Columns.{Select as SeenSelect};
 ghost use Rattle.gufi_select.specs.Faults.{select_kind_text};
+ghost use Rattle.gufi_agg.specs.Aggs.{Agg as SeenAgg};
+ghost use Rattle.gufi_agg.specs.Faults.{agg_kind_text};
 ghost use Rattle.gufi_top.specs.Questions.{asks};
 ghost use Rattle.gufi_top.specs.Reasons.{word_fault, text_fault};
 ghost use Rattle.gufi_top.specs.Views.{text_view};
-ghost use Rattle.gufi_top.specs.Verdict.{asked_if, expression_in, find_asking, stats_asking, report_of, select_in, query_asking};
+ghost use Rattle.gufi_top.specs.Verdict.{asked_if, expression_in, find_asking, stats_asking, report_of, select_in, query_asking, agg_in, agg_asking};
 ghost use Rattle.gufi_top.specs.Calls.{Gives, IsOfBytes};
 
-use crate::ask::{find_text, listing_text, query_text, record_text, report_text};
+use crate::ask::{find_text, groups_text, listing_text, query_text, record_text, report_text};
 use crate::halt::{Halt, Output, refused};
 use crate::note;
 use crate::start::written;
 use gufi_access::Principal;
+use gufi_agg::{Agg, AggError, AggKind, read_agg};
 use gufi_base::{Bytes, Items, Path, Text};
 use gufi_find::{FindError, FindExpr, FindKind, read_find};
 use gufi_io::Gate;
@@ -26,6 +29,7 @@ use gufi_users::Users;
 use gufi_walk::Walkers;
 use gufi_words::{Common, ReportWord};
 use std::alloc::{AllocError, Global};
+use std::mem::forget;
 use std::sync::Wait;
 use std::thread::Threads;
 
@@ -121,6 +125,38 @@ impl Query<'_> {
     }
 }
 
+/// Groups of the rows that a SELECT chooses.
+#[derive(Clone, Copy)]
+pub(crate) struct Aggregate<'a> {
+    /// The number of the word USER, behind which START and the text stand.
+    user_at: u32,
+    text: &'a [u8],
+}
+
+// An agg isn't read: its text is faulty at an offset.
+fn refuse_agg<T>(alloc: Global, word: u32, offset: u32, kind: AggKind) -> Result<T, Halt>
+    ensures reason { Gives (λ (x : T). x) result (Err (text_fault word offset (agg_kind_text kind))) }
+    ensures of_bytes { IfErr result IsOfBytes }
+{
+    refused(2, note::agg_word(alloc, word, offset, kind)?)
+}
+
+impl Aggregate<'_> {
+    // The agg that the text is.
+    fn agg(&self, alloc: Global) -> Result<Agg, Halt>
+        ensures agg { Gives (λ (a : SeenAgg). a) result (agg_in self.now.user_at self.now.text.now) }
+        ensures of_bytes { IfErr result IsOfBytes }
+    {
+        match read_agg(alloc, self.text) {
+            Ok(agg) => Ok(agg),
+            Err(AggError::Fault { at, kind }) => {
+                refuse_agg(alloc, text_word(self.user_at), at, kind)
+            }
+            Err(AggError::Memory) => Err(Halt::Memory),
+        }
+    }
+}
+
 // The report that the word asks for.
 fn report_of(word: ReportWord) -> Report
     ensures { result ≡ report_of word }
@@ -144,6 +180,7 @@ pub(crate) enum Question<'a> {
     /// A report over all rows that the user lists from the start.
     Stats(Report),
     Query(Query<'a>),
+    Agg(Aggregate<'a>),
 }
 
 impl<'a> Question<'a> {
@@ -166,6 +203,15 @@ impl<'a> Question<'a> {
         })
     }
 
+    pub(crate) fn agg(common: &Common, text: &'a Text) -> Question<'a>
+        ensures { asks result ≡ agg_asking common.now.user_at text.now }
+    {
+        Question::Agg(Aggregate {
+            user_at: common.user_at,
+            text: text.as_str().as_bytes(),
+        })
+    }
+
     pub(crate) fn stats(word: ReportWord) -> Question<'a>
         ensures { asks result ≡ stats_asking (report_of word) }
     {
@@ -173,7 +219,7 @@ impl<'a> Question<'a> {
     }
 
     /// What it writes of a snapshot. The query words are judged before the start.
-    #[tactic(auto, using(crate::proofs::AskLemmas::asking, crate::proofs::SearchLemmas::expressions, crate::proofs::SearchLemmas::selects))]
+    #[tactic(auto, using(crate::proofs::AskLemmas::asking, crate::proofs::SearchLemmas::expressions, crate::proofs::SearchLemmas::selects, crate::proofs::SearchLemmas::aggs))]
     pub(crate) fn answer<R: Threads + Wait + Sync, G: Gate + Sync>(
         &self,
         walkers: &Walkers<'_, R, G>,
@@ -188,19 +234,37 @@ impl<'a> Question<'a> {
     {
         let reply = match self {
             Question::Find(find) => match find.expression(alloc, users) {
-                Ok(expression) => find_text(walkers, alloc, &snap, who, start, &expression),
+                Ok(expression) => find_text(walkers, alloc, snap, who, start, &expression),
                 Err(halt) => return Err(halt),
             },
             Question::Query(query) => match query.select(alloc) {
-                Ok(select) => query_text(walkers, alloc, &snap, who, start, &select),
+                Ok(select) => query_text(walkers, alloc, snap, who, start, &select),
                 Err(halt) => return Err(halt),
             },
-            Question::Stat => record_text(alloc, &snap, who, start),
-            Question::Ls { long, all } => {
-                listing_text(walkers, alloc, &snap, who, start, users, *long, *all)
+            Question::Agg(aggregate) => match aggregate.agg(alloc) {
+                Ok(agg) => {
+                    let reply = groups_text(walkers, alloc, &snap, who, start, &agg);
+                    forget(snap);
+                    reply
+                }
+                Err(halt) => return Err(halt),
+            },
+            Question::Stat => {
+                let reply = record_text(alloc, &snap, who, start);
+                forget(snap);
+                reply
             }
-            Question::Stats(report) => report_text(walkers, alloc, &snap, who, start, *report),
+            Question::Ls { long, all } => {
+                let reply = listing_text(walkers, alloc, &snap, who, start, users, *long, *all);
+                forget(snap);
+                reply
+            }
+            Question::Stats(report) => {
+                let reply = report_text(walkers, alloc, &snap, who, start, *report);
+                forget(snap);
+                reply
+            }
         };
-        written(alloc, snap, reply)
+        written(alloc, reply)
     }
 }
