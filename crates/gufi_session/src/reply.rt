@@ -22,10 +22,11 @@ use gufi_io::Gate;
 use gufi_list::total_text;
 use gufi_phases::Wanted;
 use gufi_plan::{Query, Search, SharedSearch};
+use gufi_prune::{find_pruner, select_pruner};
 use gufi_rows::{PathList, RowList};
 use gufi_select::{Select, SelectLine};
 use gufi_snap::Snapshot;
-use gufi_sums::{NoDeeper, Summary};
+use gufi_sums::Summary;
 use gufi_walk::{
     Refusal, Walkers, answer_list, answer_paths, answer_sum, answer_total, put_refusal,
 };
@@ -102,9 +103,7 @@ fn put_found<R: Threads + Wait + Sync, G: Gate + Sync>(
     ensures { OnOk result (text.new.items ≡ text.old.items ++ answer_or (record { who = who.now; start = start.now; query = Finds find.now }) (reply_rows snap.now.tree who.now start.now (find_holds find.now))) }
 {
     let question = find.question();
-    let skip = NoDeeper {
-        than: find.max_depth(),
-    };
+    let skip = find_pruner(alloc, find)?;
     match answer_paths(walkers, alloc, snap, who, start, &question, &skip) {
         Ok(paths) => put_paths(alloc, text, paths),
         Err(Refusal::Memory) => Err(Memory),
@@ -131,9 +130,7 @@ fn sum_found<R: Threads + Wait + Sync, G: Gate + Sync>(
         return answer_total(alloc, snap, who, start);
     }
     let question = find.question();
-    let skip = NoDeeper {
-        than: find.max_depth(),
-    };
+    let skip = find_pruner(alloc, find)?;
     answer_sum(walkers, alloc, snap, who, start, &question, &skip)
 }
 
@@ -175,9 +172,7 @@ fn put_selected<R: Threads + Wait + Sync, G: Gate + Sync>(
     ensures { OnOk result (text.new.items ≡ text.old.items ++ answer_or (record { who = who.now; start = start.now; query = Selects select.now }) (reply_rows snap.now.tree who.now start.now (select_holds select.now))) }
 {
     let question = select.question();
-    let skip = NoDeeper {
-        than: select.max_depth(),
-    };
+    let skip = select_pruner(alloc, select)?;
     match answer_list(walkers, alloc, snap, who, start, &question, &skip) {
         Ok(rows) => put_rows(alloc, text, rows, select, start),
         Err(Refusal::Memory) => Err(Memory),

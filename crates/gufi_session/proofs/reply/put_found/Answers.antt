@@ -1,15 +1,14 @@
 use Rattle.std.proofs.lemmas.Result.{on_ok_weaker}
 use Rattle.gufi_find.specs.Expressions.{find_holds}
-use Rattle.gufi_sums.specs.Depths.{within_from}
 use Rattle.gufi_walk.specs.Answer.{answer}
 use Rattle.gufi_plan.specs.declared.search.Query.TheVariants.{Finds}
 use Rattle.gufi_session.proofs.Replies.{found_put}
 use Rattle.gufi_session.proofs.reply.put_found.Goals as goal
 
--- no row lies deeper than the expression allows
+-- no row is passed over that the expression admits
 pub answer_paths-requires-clause-query : goal.answer_paths-requires-clause-query
 answer_paths-requires-clause-query g c κs within = λ row depth met.
-    within_from c.max_depth.result depth (λ most is. c.max_depth.ensures.bounded most is row depth (rw c.question-question.ensures at met))
+    c.in_ok-skip.ensures row depth (rw c.question-question.ensures at met)
 
 pub returns-in-Ok : goal.returns-in-Ok
 returns-in-Ok g c =

@@ -3,7 +3,6 @@ use Rattle.std.proofs.lemmas.Result.{on_ok_weaker}
 use Rattle.gufi_select.specs.Columns.{select_holds}
 use Rattle.gufi_select.proofs.Searching.{select_tester_send}
 use Rattle.gufi_select.proofs.Sharing.{question_sync}
-use Rattle.gufi_sums.specs.Depths.{within_from}
 use Rattle.gufi_walk.specs.Answer.{answer}
 use Rattle.gufi_plan.specs.declared.search.Query.TheVariants.{Selects}
 use Rattle.gufi_session.proofs.Replies.{found_put}
@@ -15,10 +14,10 @@ answer_list-requires-sync-P g c κs = search (question_sync, sendable) depth 10
 pub answer_list-requires-send-P-Tester : goal.answer_list-requires-send-P-Tester
 answer_list-requires-send-P-Tester g c κs within = search (select_tester_send, sendable) depth 10
 
--- no row lies deeper than the SELECT allows
+-- no row is passed over that the SELECT admits
 pub answer_list-requires-clause-query : goal.answer_list-requires-clause-query
 answer_list-requires-clause-query g c κs within = λ row depth met.
-    within_from c.max_depth.result depth (λ most is. c.max_depth.ensures.bounded most is row depth (rw c.question-question.ensures at met))
+    c.in_ok-skip.ensures row depth (rw c.question-question.ensures at met)
 
 pub returns-in-Ok : goal.returns-in-Ok
 returns-in-Ok g c =

@@ -1,7 +1,6 @@
 use Rattle.std.proofs.Common.{◌≡◌, ℕ, sym, subst}
 use Rattle.std.specs.Prelude.{Bool, IfOk}
 use Rattle.gufi_base.specs.declared.record.Row.{Row}
-use Rattle.gufi_sums.specs.Depths.{within_from}
 use Rattle.gufi_sums.specs.Total.{total}
 use Rattle.gufi_walk.specs.Answer.{answer}
 use Rattle.gufi_session.proofs.reply.sum_found.Goals as goal
@@ -11,7 +10,7 @@ returns-then-has_no_words-clause-sum g c =
     subst (λ (asks : Row → ℕ → Bool). IfOk c.answer_total.result (λ sum. sum ≡ total (answer c.args.snap.now.tree c.args.who.now c.args.start.now asks)))
     (sym (c.has_no_words.ensures.every_row c.if-has_no_words.true)) c.answer_total.ensures.sum
 
--- no row lies deeper than the expression allows
+-- no row is passed over that the expression admits
 pub answer_sum-requires-clause-query : goal.answer_sum-requires-clause-query
 answer_sum-requires-clause-query g c κs within = λ row depth met.
-    within_from c.max_depth.result depth (λ most is. c.max_depth.ensures.bounded most is row depth (rw c.question-question.ensures at met))
+    c.in_ok-skip.ensures row depth (rw c.question-question.ensures at met)
