@@ -53,6 +53,11 @@ macro_rules! table {
                 "columns of the rows that a SELECT chooses"
                 [$index $user $start ("TEXT" "a SELECT in one word, as 'SELECT size, path FROM entries'")]
                 [$passwd $group $delim $limit $workers]
+            "agg" "[OPTION].. INDEX USER START TEXT"
+                "counts, sums and bounds of the rows that a SELECT chooses, by owner, group, type or level"
+                [$index $user $start
+                    ("TEXT" "a SELECT in one word, as 'SELECT uid, COUNT(*) FROM rows GROUP BY uid'")]
+                [$passwd $group $delim $limit $workers]
             "ls" "[OPTION].. INDEX USER START"
                 "names one level below the start"
                 [$index $user $start]

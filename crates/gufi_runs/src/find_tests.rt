@@ -97,6 +97,24 @@ fn each_piece_is_one_task(rt: HostRuntime) -> Result<(), Fail> {
     Ok(())
 }
 
+// Rows of which a sum leaves no room for a match aren't looked at: sums tell the sizes of files alone, so the root's own counts.
+#[test]
+fn what_sums_rule_out_is_not_looked_at(rt: HostRuntime) -> Result<(), Fail> {
+    for (test, text, stores) in [
+        (["-type", "f", "-size", "+2"].as_slice(), b"".as_slice(), 0u64),
+        (["-type", "f", "-size", "+1"].as_slice(), b"/d\n".as_slice(), 1),
+        (["-size", "+2"].as_slice(), b"/\n".as_slice(), 1),
+    ] {
+        let gate = Counting::new();
+        let mut words = ["find", "--delim=|", "t", "102", "/"].to_vec(rt.alloc())?;
+        words.extend_from_slice(test)?;
+        check_told(&rt, &gate, SIZES, &words, 0, text, b"")?;
+        assert_eq!(rt; gate.tasks(), 1u64);
+        assert_eq!(rt; gate.stores(), stores);
+    }
+    Ok(())
+}
+
 #[test]
 fn expressions_choose_rows(rt: HostRuntime) -> Result<(), Fail> {
     for (bytes, words, text) in [

@@ -110,28 +110,40 @@ pub(crate) fn words_of(alloc: Global, words: &[&str]) -> Result<Vec<String>, All
     Ok(all)
 }
 
-// Counts the tasks of workers that begin.
+// Counts the tasks of workers and the directories whose rows are looked at.
 #[derive(Drop)]
 pub(crate) struct Counting {
     tasks: AtomicU64,
+    stores: AtomicU64,
 }
 
 impl Counting {
     pub(crate) fn new() -> Counting {
         Counting {
             tasks: AtomicU64::new(0),
+            stores: AtomicU64::new(0),
         }
     }
 
     pub(crate) fn tasks(&self) -> u64 {
         self.tasks.load(Ordering::SeqCst)
     }
+
+    pub(crate) fn stores(&self) -> u64 {
+        self.stores.load(Ordering::SeqCst)
+    }
 }
 
 impl Gate for Counting {
     fn begin(&self, kind: GateKind, _number: u32) {
-        if kind == GateKind::Task {
-            self.tasks.fetch_add(1, Ordering::SeqCst);
+        match kind {
+            GateKind::Task => {
+                self.tasks.fetch_add(1, Ordering::SeqCst);
+            }
+            GateKind::Store => {
+                self.stores.fetch_add(1, Ordering::SeqCst);
+            }
+            _ => {}
         }
     }
 }

@@ -45,6 +45,10 @@ fn asking_line(alloc: Global, command: &Command) -> Result<String, AllocError> {
             let (common, text) = (common_line(alloc, common)?, text.as_str());
             format!(in alloc; "query {common} {text}")
         }
+        Command::Agg { common, text } => {
+            let (common, text) = (common_line(alloc, common)?, text.as_str());
+            format!(in alloc; "agg {common} {text}")
+        }
         Command::Find { common, now, words } => {
             let mut line = format!(in alloc; "find {now:?} {}", common_line(alloc, common)?)?;
             for word in words.as_slice() {
@@ -115,6 +119,10 @@ fn each_command_is_read(rt: HostRuntime) -> Result<(), Fail> {
         (
             "query H ana / SELECT",
             "query 30 0 1 H ana 3 0 false false SELECT",
+        ),
+        (
+            "agg --limit=2 H ana / SELECT",
+            "agg 30 2 1 H ana 4 0 false false SELECT",
         ),
         (
             "find --now=-1 --group g H ana / -size 1",
