@@ -11,7 +11,7 @@ use Rattle.gufi_formula.specs.declared.step.Step.TheVariants.{Invert, IfTrue, If
 
 module _ {A : Type 0} where
   -- two operands, with what is between and behind them, in the order in which they are taken
-  operands : (front back : List (Step A)) (skip mark : Step A) (rest : List (Step A))
+  pub operands : (front back : List (Step A)) (skip mark : Step A) (rest : List (Step A))
       → (front ++ (skip ∷ (back ++ mark ∷ []))) ++ rest ≡ front ++ (skip ∷ (back ++ (mark ∷ rest)))
   operands front back skip mark rest =
       append_assoc front (skip ∷ (back ++ mark ∷ [])) rest ∙ ap (λ l. front ++ (skip ∷ l)) (append_assoc back (mark ∷ []) rest)

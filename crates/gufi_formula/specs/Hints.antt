@@ -1,10 +1,10 @@
 -- Formulas as hints in postfix order: tests that sums can bound, others, and the signs behind their operands.
-use Rattle.std.specs.Prelude.{◌≡◌, ℕ, ℤ, Bool, true, false, not, ◌==◌, ◌&&◌, ◌||◌, nat_le, int_le, List, [], ◌∷◌, ◌++◌, Option, Some, None}
+use Rattle.std.specs.Prelude.{◌≡◌, ℕ, Bool, true, not, ◌==◌, ◌&&◌, ◌||◌, nat_le, int_le, List, [], ◌∷◌, ◌++◌, Option, Some, None}
 use Rattle.gufi_base.specs.declared.record.Meta.{Meta}
 use Rattle.gufi_base.specs.declared.record.Row.{Row}
 use Rattle.gufi_base.specs.Kinds.{kind_letter}
 use Rattle.gufi_base.specs.declared.hint.Hint.{Hint}
-use Rattle.gufi_base.specs.declared.hint.Hint.TheVariants.{Kind, SizeIn, MtimeIn, UidIn, GidIn, Unknown, Not, And, Or}
+use Rattle.gufi_base.specs.declared.hint.Hint.TheVariants.{Kind, SizeIn, MtimeIn, UidIn, GidIn, Not, And, Or}
 use Rattle.gufi_formula.specs.Formulas.{Formula, test, negation, both, either}
 
 -- the hints of a formula, where each test has these

@@ -1,6 +1,8 @@
 //! Formulas of tests, kept as steps.
+use crate::hinted::{Hinted, put_steps};
 use crate::step::{Step, has_no_inversion, run};
 use crate::valuation::Valuation;
+use gufi_base::{Hint, Memory};
 use std::alloc::{AllocError, Global};
 use std::marker::Model;
 
@@ -115,5 +117,21 @@ impl<T> Formula<T> {
     {
         let first = valuation.is_true(&self.first);
         run(self.steps.as_slice(), first, valuation)
+    }
+}
+
+impl<T: Hinted> Formula<T> {
+    ghost use Rattle.std.specs.Prelude.{◌≡◌, ◌++◌, OnOk};
+    ghost use Rattle.gufi_formula.specs.Hints.{postfix, AreWhole};
+
+    /// Appends its hints in postfix order, each sign behind its operands. Looks at each of its steps once.
+    #[tactic(auto, using(crate::proofs::HintLemmas::kept_hints, crate::proofs::HintLemmas::postfix_whole))]
+    pub fn put_hints(&self, out: &mut Vec<Hint>) -> Result<(), Memory>
+        ensures exact { OnOk result (out.new.items ≡ out.old.items ++ postfix T.hints self.now) }
+        ensures whole { AreWhole (postfix T.hints self.now) }
+    {
+        self.first.put_hints(out)?;
+        put_steps(out, self.steps.as_slice())?;
+        Ok(())
     }
 }

@@ -5,11 +5,15 @@
 #![tactic(auto)]
 
 mod formula;
+mod hinted;
 mod level;
 mod open_levels;
+mod range;
 mod step;
 mod valuation;
 
 pub use formula::Formula;
+pub use hinted::Hinted;
 pub use open_levels::OpenLevels;
+pub use range::{gids_in, sizes_in, times_in, uids_in};
 pub use valuation::Valuation;
