@@ -6,3 +6,5 @@ pub mod Operands
 pub mod Reading
 pub mod States
 pub mod Spelled
+pub mod TestHints
+pub mod WholeHints

@@ -13,7 +13,7 @@ use std::marker::Model;
 /// An expression, which is true or false of a row and its depth below the start.
 #[derive(Drop)]
 pub struct FindExpr {
-    formula: Formula<Test>,
+    pub(crate) formula: Formula<Test>,
     least_depth: u32,
     most_depth: Option<u32>,
 }

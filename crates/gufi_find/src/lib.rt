@@ -7,6 +7,7 @@
 mod comparison;
 mod expression;
 mod fault;
+mod hint;
 mod laws;
 mod numbers;
 mod operand;
@@ -19,5 +20,5 @@ mod word;
 
 pub use expression::{FindExpr, FindQuestion};
 pub use fault::{FindError, FindKind};
-pub use laws::expressions_read_back;
+pub use laws::{expressions_read_back, hints_tell_tests};
 pub use reading::read_find;

@@ -2,7 +2,9 @@
 use Rattle.std.proofs.Common.{◌≡◌, Bool, true, false, List, [], ◌∷◌, ◌++◌, length, refl, sym, ap, ◌∙◌, subst, append_assoc, append-nil}
 use Rattle.std.specs.Prelude.{Option, Some, None, not, ◌&&◌, ◌||◌}
 use Rattle.std.specs.List.{flat_map}
+use Rattle.gufi_base.specs.declared.record.Meta.{Meta}
 use Rattle.gufi_base.specs.declared.record.Row.{Row}
+use Rattle.gufi_formula.specs.Leaves.{tells}
 use Rattle.gufi_base.specs.declared.hint.Hint.{Hint}
 use Rattle.gufi_base.specs.declared.hint.Hint.TheVariants.{Kind, SizeIn, MtimeIn, UidIn, GidIn, Unknown, Not, And, Or}
 use Rattle.gufi_formula.specs.Formulas.{Formula, test, negation, both, either, holds}
@@ -11,7 +13,7 @@ use Rattle.gufi_formula.specs.declared.step.Step.{Step}
 use Rattle.gufi_formula.specs.declared.step.Step.TheVariants.{Invert, IfTrue, IfFalse, BothEnd, EitherEnd}
 use Rattle.gufi_formula.proofs.Running.{operands}
 use Rattle.gufi_formula.specs.StepHints.{step_hints}
-use Rattle.gufi_formula.specs.Hints.{postfix, with_hint, hints_behind, only_one, formula_of, AreWhole, Chance, turned, both_chances, either_chance, chance, chance_at, chance_or, may_hold}
+use Rattle.gufi_formula.specs.Hints.{postfix, with_hint, hints_behind, only_one, formula_of, AreWhole, Chance, certain, turned, both_chances, either_chance, chance, chance_at, chance_or, may_hold}
 
 -- ---- hints one behind another
 
@@ -109,15 +111,31 @@ pub record Covers (c : Chance) (b : Bool) : Type 0 where
   pub holds : b ≡ true → c.holds ≡ true
   pub fails : b ≡ false → c.fails ≡ true
 
+pub certain_covers : (c : Chance) (b : Bool) → c ≡ certain b → Covers c b
+certain_covers c true e = record { holds = λ _. ap (λ (d : Chance). d.holds) e; fails = λ f. cc }
+certain_covers c false e = record { holds = λ f. cc; fails = λ _. ap (λ (d : Chance). d.fails) e }
+
+-- a hint that is certain, or of which sums tell nothing
+pub hint_covers : (meta : Meta) (hint : Hint) (b : Bool) → (tells hint ≡ true → chance_at meta hint ≡ certain b) → Covers (chance_at meta hint) b
+hint_covers meta Unknown b exact = record { holds = λ _. refl; fails = λ _. refl }
+hint_covers meta Not b exact = record { holds = λ _. refl; fails = λ _. refl }
+hint_covers meta And b exact = record { holds = λ _. refl; fails = λ _. refl }
+hint_covers meta Or b exact = record { holds = λ _. refl; fails = λ _. refl }
+hint_covers meta (Kind kind) b exact = certain_covers (chance_at meta (Kind kind)) b (exact refl)
+hint_covers meta (SizeIn first last) b exact = certain_covers (chance_at meta (SizeIn first last)) b (exact refl)
+hint_covers meta (MtimeIn first last) b exact = certain_covers (chance_at meta (MtimeIn first last)) b (exact refl)
+hint_covers meta (UidIn first last) b exact = certain_covers (chance_at meta (UidIn first last)) b (exact refl)
+hint_covers meta (GidIn first last) b exact = certain_covers (chance_at meta (GidIn first last)) b (exact refl)
+
 or_true : (b : Bool) → b || true ≡ true
 or_true true = refl
 or_true false = refl
 
-covers_turned : (c : Chance) (b : Bool) → Covers c b → Covers (turned c) (not b)
+pub covers_turned : (c : Chance) (b : Bool) → Covers c b → Covers (turned c) (not b)
 covers_turned c true k = record { holds = λ e. cc; fails = λ e. k.holds refl }
 covers_turned c false k = record { holds = λ e. k.fails refl; fails = λ e. cc }
 
-covers_both : (c d : Chance) (a b : Bool) → Covers c a → Covers d b → Covers (both_chances c d) (a && b)
+pub covers_both : (c d : Chance) (a b : Bool) → Covers c a → Covers d b → Covers (both_chances c d) (a && b)
 covers_both c d true true k l = record { holds = λ e. rw (k.holds refl, l.holds refl) refl; fails = λ e. cc }
 covers_both c d true false k l = record { holds = λ e. cc; fails = λ e. rw (l.fails refl) (or_true c.fails) }
 covers_both c d false b k l = record { holds = λ e. cc; fails = λ e. rw (k.fails refl) refl }

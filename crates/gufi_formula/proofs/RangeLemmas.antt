@@ -5,9 +5,10 @@ use Rattle.std.proofs.lemmas.Bool.Decides.{nat_tests}
 use Rattle.std.proofs.lemmas.Int.{ints}
 use Rattle.std.proofs.lemmas.Bool.{and_parts}
 use Rattle.gufi_base.specs.declared.record.Meta.{Meta}
+use Rattle.gufi_base.specs.declared.record.Rec.{Rec}
 use Rattle.gufi_base.specs.declared.hint.Hint.{Hint}
 use Rattle.gufi_base.specs.declared.hint.Hint.TheVariants.{SizeIn, MtimeIn, UidIn, GidIn}
-use Rattle.gufi_base.specs.Rows.{fits_i64}
+use Rattle.gufi_base.specs.Rows.{fits_i64, fits_types}
 use Rattle.gufi_formula.specs.Hints.{is_in, certain, chance_at}
 use Rattle.gufi_formula.specs.Ranges.{nearest_natural, has_naturals, naturals_in, sizes_in, uids_in, gids_in, times_in, nearest_time, least_time, greatest_time}
 
@@ -50,7 +51,7 @@ pub gids_exact : (meta : Meta) (first last : ℤ) → nat_lt meta.gid (2 ^ 32) �
     → chance_at meta (gids_in first last) ≡ certain (int_le first (pos meta.gid) && int_le (pos meta.gid) last)
 gids_exact meta first last fits = naturals_exact meta GidIn 4294967295 meta.gid first last (λ a b. refl) (grind (arith, nat_tests))
 
-not_above : (z : ℤ) → int_lt z (pos (2 ^ 63)) ≡ true → int_le z greatest_time ≡ true
+pub not_above : (z : ℤ) → int_lt z (pos (2 ^ 63)) ≡ true → int_le z greatest_time ≡ true
 not_above z h = grind (arith, ints)
 
 pub times_exact : (meta : Meta) (first last : ℤ) → fits_i64 meta.mtime ≡ true
@@ -60,3 +61,20 @@ times_exact meta first last fits =
     on_both meta (int_le first greatest_time && int_le least_time last) (int_le (nearest_time first) meta.mtime && int_le meta.mtime (nearest_time last)) (int_le (pos 1) meta.mtime && int_le meta.mtime (pos 0))
     (MtimeIn (nearest_time first) (nearest_time last)) (MtimeIn (pos 1) (pos 0)) refl refl
     ∙ ap certain (time_cut least_time greatest_time meta.mtime first last f.0 (not_above meta.mtime f.1))
+
+-- what the types of a record say of the numbers that hints speak of
+pub record InRange (meta : Meta) : Type 0 where
+  pub size : nat_lt meta.size (2 ^ 64) ≡ true
+  pub uid : nat_lt meta.uid (2 ^ 32) ≡ true
+  pub gid : nat_lt meta.gid (2 ^ 32) ≡ true
+  pub mtime : fits_i64 meta.mtime ≡ true
+
+pub in_range : (rec : Rec) → fits_types rec ≡ true → InRange rec.meta
+in_range rec fits =
+    let ctime = and_parts _ _ (and_parts _ _ fits).0 in
+    let mtime = and_parts _ _ ctime.0 in
+    let blocks = and_parts _ _ (and_parts _ _ mtime.0).0 in
+    let size = and_parts _ _ (and_parts _ _ blocks.0).0 in
+    let gid = and_parts _ _ size.0 in
+    let uid = and_parts _ _ gid.0 in
+    record { size = size.1; uid = uid.1; gid = gid.1; mtime = mtime.1 }

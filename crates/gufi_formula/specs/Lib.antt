@@ -4,5 +4,6 @@ pub mod Hints
 pub mod Steps
 pub mod StepHints
 pub mod Ranges
+pub mod Leaves
 pub mod Levels
 pub mod Written
