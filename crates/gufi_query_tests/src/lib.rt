@@ -10,6 +10,8 @@ mod find_tests;
 #[cfg(test)]
 mod glob_tests;
 #[cfg(test)]
+mod hint_tests;
+#[cfg(test)]
 mod plan_tests;
 #[cfg(test)]
 mod select_tests;

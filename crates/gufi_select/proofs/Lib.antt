@@ -3,6 +3,7 @@ pub mod WordLemmas
 pub mod PartLemmas
 pub mod PatternLemmas
 pub mod RowLemmas
+pub mod HintLemmas
 pub mod DepthLemmas
 pub mod TokenLemmas
 pub mod ReadLemmas

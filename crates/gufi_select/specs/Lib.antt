@@ -11,3 +11,5 @@ pub mod Reading
 pub mod States
 pub mod Lines
 pub mod Spelled
+pub mod ConditionHints
+pub mod WholeHints

@@ -8,6 +8,7 @@ mod column;
 mod condition;
 mod depth;
 mod fault;
+mod hint;
 mod laws;
 mod operator;
 mod pattern;
@@ -22,7 +23,7 @@ mod token;
 mod word;
 
 pub use fault::{SelectError, SelectKind};
-pub use laws::conditions_read_back;
+pub use laws::{conditions_read_back, hints_tell_conditions};
 pub use projection::{SelectLine, select_text};
 pub use reading::read_select;
 pub use select::{Select, SelectQuestion, SelectTester};

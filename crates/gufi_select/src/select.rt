@@ -15,7 +15,7 @@ use std::marker::Model;
 #[derive(Drop)]
 pub struct Select {
     pub(crate) columns: Vec<Column>,
-    table: Table,
+    pub(crate) table: Table,
     regexp: Option<Regexp>,
     pub(crate) condition: Option<Formula<Condition>>,
 }
