@@ -1,4 +1,4 @@
--- A walk that goes no deeper than any row can meet its question.
+-- A walk that goes no deeper than any row can meet its question, and not below what a test of sums passes over.
 use Rattle.std.proofs.Common.{◌≡◌, ℕ, ◌+◌, ◌<◌, ◌≤◌, Bool, true, false, cond, List, [], ◌∷◌, ◌++◌, length, refl, sym, ap, ◌∙◌, subst, arith, append_assoc, length-append}
 use Rattle.std.specs.Prelude.{◌-◌, not, ◌&&◌, map, reverse, Option, Some, None}
 use Rattle.std.specs.List.{AllByRecursion, filter, flat_map}
@@ -14,7 +14,9 @@ use Rattle.gufi_base.specs.Paths.{Components, path_eq, is_prefix, parent_path}
 use Rattle.gufi_base.specs.Rows.{depth_below, home, is_dir_row}
 use Rattle.gufi_base.proofs.Permutations.{IsPermutation-filter}
 use Rattle.gufi_access.specs.declared.class.Principal.{Principal}
+use Rattle.gufi_sums.specs.declared.summary.Summary.{Summary}
 use Rattle.gufi_sums.specs.Depths.{is_within, goes_below, within_from}
+use Rattle.gufi_sums.specs.Total.{total}
 use Rattle.gufi_tree.specs.declared.tree.DirId.{DirId}
 use Rattle.gufi_tree.specs.Tree.{Directory, all_rows, subtree_rows, home_rows, HasTreeShape}
 use Rattle.gufi_tree.specs.Listed.{is_listed}
@@ -22,14 +24,13 @@ use Rattle.gufi_tree.specs.Places.{path_at}
 use Rattle.gufi_tree.proofs.Built.{Has, All-Has, All-from_Has, All-weaken, path_eq-Decides}
 use Rattle.gufi_tree.proofs.Filters.{Has-filter, filter-none}
 use Rattle.gufi_tree.proofs.Flat.{is_prefix-rest}
+use Rattle.gufi_tree.proofs.Ranges.{own_prefix}
 use Rattle.gufi_roll.specs.CanRoll.{can_roll, is_under_fold}
-use Rattle.gufi_snap.specs.Pieces.{front, piece}
-use Rattle.gufi_walk.specs.Walk.{kid_ids, meets, lies_within, no_deeper, next_ids, is_small, task_dirs}
-use Rattle.gufi_walk.proofs.Walked.{All-append, All-front, All-reverse, filter-all, IsWalk, IsWalk-more, fronts_at, kids_long, next_split, walk_deep}
-
--- what meets the question lies within the bound
-abbrev pub Bounds : Option ℕ → (Row → ℕ → Bool) → Type 0
-Bounds deepest asks = (most : ℕ) → deepest ≡ Some most → (row : Row) (depth : ℕ) → asks row depth ≡ true → depth ≤ most
+use Rattle.gufi_roll.proofs.Tops.{prefix_trans}
+use Rattle.gufi_snap.specs.Pieces.{front, piece, tree_sum}
+use Rattle.gufi_walk.specs.Walk.{kid_ids, meets, lies_within, no_deeper, not_passed, next_ids, is_whole, task_dirs}
+use Rattle.gufi_walk.proofs.Passed.{IsOfParts, IsTest, piece_passed}
+use Rattle.gufi_walk.proofs.Walked.{All-append, All-front, All-reverse, filter-all, IsOpen, IsWalk, IsWalk-more, fronts_at, kids_long, kids_open, next_split, walk_deep}
 
 -- ---- depths
 
@@ -55,10 +56,23 @@ no_deeper-is : (deepest : Option ℕ) (above : ℕ) (paths : List Components) �
 no_deeper-is None above paths = sym (filter-all paths)
 no_deeper-is (Some most) above paths = refl
 
+-- those of the paths that a walk ticks for: they lie within the bound, and the test doesn't pass over their pieces
+abbrev pub ticked : (Summary → Bool) → List Directory → ℕ → Option ℕ → ℕ → List Components → List Components
+ticked skips tree limit deepest above paths = not_passed skips tree limit (filter (lies_within deepest above) paths)
+
+ticked-is : (skips : Summary → Bool) (tree : List Directory) (limit : ℕ) (deepest : Option ℕ) (above : ℕ) (paths : List Components)
+    → not_passed skips tree limit (no_deeper deepest above paths) ≡ ticked skips tree limit deepest above paths
+ticked-is skips tree limit deepest above paths = ap (not_passed skips tree limit) (no_deeper-is deepest above paths)
+
+ticked-moved : (skips : Summary → Bool) (tree : List Directory) (limit : ℕ) (deepest : Option ℕ) (above : ℕ) (all done : List Components) → IsPermutation all done
+    → length (ticked skips tree limit deepest above done) ≡ length (ticked skips tree limit deepest above all)
+ticked-moved skips tree limit deepest above all done p =
+    length_permutation _ _ (IsPermutation-filter (λ path. not (skips (total (piece tree path limit)))) _ _ (IsPermutation-filter (lies_within deepest above) all done p))
+
 -- as many of all paths as of them in another order
-pub within_all : (deepest : Option ℕ) (above : ℕ) (all done : List Components) → IsPermutation all done → length (filter (lies_within deepest above) done) ≡ length (no_deeper deepest above all)
-within_all deepest above all done p =
-    length_permutation _ _ (IsPermutation-filter (lies_within deepest above) all done p) ∙ ap length (sym (no_deeper-is deepest above all))
+pub ticked_all : (skips : Summary → Bool) (tree : List Directory) (limit : ℕ) (deepest : Option ℕ) (above : ℕ) (all done : List Components) → IsPermutation all done
+    → length (ticked skips tree limit deepest above done) ≡ length (not_passed skips tree limit (no_deeper deepest above all))
+ticked_all skips tree limit deepest above all done p = ticked-moved skips tree limit deepest above all done p ∙ ap length (sym (ticked-is skips tree limit deepest above all))
 
 -- ---- rows
 
@@ -88,18 +102,29 @@ module _ (tree : List Directory) (limit : ℕ) where
         let w = Has-filter (λ (r : Row). path_eq path (home r)) (all_rows tree) row h in
         omega (arith, home_few row, ap length ((path_eq-Decides path (home row)).0 w.1))
 
-  module _ (deepest : Option ℕ) (above : ℕ) (asks : Row → ℕ → Bool) (bounds : Bounds deepest asks) where
+  module _ (met : Row → Bool) where
+    none_of_all : (paths : List Components) → AllByRecursion (λ path. filter met (piece tree path limit) ≡ []) paths → filter met (flat_map (λ p. piece tree p limit) paths) ≡ []
+    none_of_all [] all = refl
+    none_of_all (p ∷ ps) all = filter-append met (piece tree p limit) (flat_map (λ p. piece tree p limit) ps) ∙ (λ i. all.0 i ++ none_of_all ps all.1 i)
+
+  module _ (skips : Summary → Bool) (deepest : Option ℕ) (above : ℕ) (asks : Row → ℕ → Bool) (test : IsTest skips deepest asks) where
     none_meets : (path : Components) → lies_within deepest above path ≡ false → filter (meets asks above) (piece tree path limit) ≡ []
     none_meets path deep = filter-none (meets asks above) (piece tree path limit) (λ row h. false_from_ne_true _ (λ met.
         let few = piece_deep path row h in
         let far = deeper deepest (length path - above) (depth_below above row) deep (omega arith) in
-        false≢true (sym far ∙ within_from deepest (depth_below above row) (λ most is. bounds most is row (depth_below above row) met))))
+        false≢true (sym far ∙ within_from deepest (depth_below above row) (λ most is. test.bounds most is row (depth_below above row) met))))
 
     -- the pieces of directories that lie too deep have no row that meets the question
     pub all_too_deep : (paths : List Components) → AllByRecursion (λ path. lies_within deepest above path ≡ false) paths → filter (meets asks above) (flat_map (λ p. piece tree p limit) paths) ≡ []
-    all_too_deep [] all = refl
-    all_too_deep (p ∷ ps) all =
-        filter-append (meets asks above) (piece tree p limit) (flat_map (λ p. piece tree p limit) ps) ∙ (λ i. none_meets p all.0 i ++ all_too_deep ps all.1 i)
+    all_too_deep paths all =
+        none_of_all (meets asks above) paths
+        (All-weaken (λ path. lies_within deepest above path ≡ false) (λ path. filter (meets asks above) (piece tree path limit) ≡ []) none_meets paths all)
+
+    -- nor do pieces that are passed over
+    pub all_passed : (paths : List Components) → AllByRecursion (λ path. skips (total (piece tree path limit)) ≡ true) paths → filter (meets asks above) (flat_map (λ p. piece tree p limit) paths) ≡ []
+    all_passed paths all =
+        none_of_all (meets asks above) paths
+        (All-weaken (λ path. skips (total (piece tree path limit)) ≡ true) (λ path. filter (meets asks above) (piece tree path limit) ≡ []) (λ path. test.none above (piece tree path limit)) paths all)
 
   -- ---- fronts
 
@@ -114,9 +139,28 @@ module _ (tree : List Directory) (limit : ℕ) where
     fronts_deep n [] all = tt
     fronts_deep n (id ∷ ids) all = All-append (λ (p : Components). n ≤ length p) (front tree who (path_at tree id.0) limit) (fronts_at tree who limit ids) (front_deep n (path_at tree id.0) all.0) (fronts_deep n ids all.1)
 
+    front_below : (top start : Components) → is_prefix top start ≡ true → AllByRecursion (λ p. is_prefix top p ≡ true) (front tree who start limit)
+    front_below top start leads = All-from_Has (λ p. is_prefix top p ≡ true) (front tree who start limit) (λ p h.
+        let w = Has-filter (λ path. is_listed tree who start path && not (is_under_fold tree start limit path)) (map (λ dir. dir.path) tree) p h in
+        prefix_trans top start p leads (and_parts _ _ (and_parts _ _ (and_parts _ _ w.1).0).0).0)
+
+    fronts_below : (top : Components) (ids : List DirId) → AllByRecursion (λ (id : DirId). is_prefix top (path_at tree id.0) ≡ true) ids → AllByRecursion (λ p. is_prefix top p ≡ true) (fronts_at tree who limit ids)
+    fronts_below top [] all = tt
+    fronts_below top (id ∷ ids) all = All-append (λ p. is_prefix top p ≡ true) (front tree who (path_at tree id.0) limit) (fronts_at tree who limit ids) (front_below top (path_at tree id.0) all.0) (fronts_below top ids all.1)
+
+    -- where all rows at and below a directory are passed over, the pieces of its task are
+    pub task_passed : (skips : Summary → Bool) → IsOfParts skips → (grain : ℕ) (path : Components) → skips (tree_sum tree path) ≡ true
+        → AllByRecursion (λ p. skips (total (piece tree p limit)) ≡ true) (task_dirs skips tree who limit grain path)
+    task_passed skips parts grain path passed = by (is_whole skips tree grain path) where
+      by : (b : Bool) → AllByRecursion (λ p. skips (total (piece tree p limit)) ≡ true) (cond b (front tree who path limit) (path ∷ []))
+      by true =
+          All-weaken (λ p. is_prefix path p ≡ true) (λ p. skips (total (piece tree p limit)) ≡ true) (λ p leads. piece_passed skips parts tree limit path p leads passed)
+          (front tree who path limit) (front_below path path (own_prefix path))
+      by false = (piece_passed skips parts tree limit path path (own_prefix path) passed, tt)
+
     -- the directories of a task that lies too deep do as well
-    pub task_too_deep : (deepest : Option ℕ) (above grain : ℕ) (path : Components) → lies_within deepest above path ≡ false → AllByRecursion (λ p. lies_within deepest above p ≡ false) (task_dirs tree who limit grain path)
-    task_too_deep deepest above grain path deep = by (is_small tree grain path) where
+    pub task_too_deep : (skips : Summary → Bool) (deepest : Option ℕ) (above grain : ℕ) (path : Components) → lies_within deepest above path ≡ false → AllByRecursion (λ p. lies_within deepest above p ≡ false) (task_dirs skips tree who limit grain path)
+    task_too_deep skips deepest above grain path deep = by (is_whole skips tree grain path) where
       by : (b : Bool) → AllByRecursion (λ p. lies_within deepest above p ≡ false) (cond b (front tree who path limit) (path ∷ []))
       by true =
           All-weaken (λ (p : Components). length path ≤ length p) (λ p. lies_within deepest above p ≡ false) (λ p le. deeper deepest (length path - above) (length p - above) deep (omega arith))
@@ -124,11 +168,11 @@ module _ (tree : List Directory) (limit : ℕ) where
       by false = (deep, tt)
 
     -- what counts as done behind a step, with what is left out, and where the walk goes on
-    pub record IsNext (deepest : Option ℕ) (above : ℕ) (start : Components) (done : List Components) (id : DirId) (asks : Row → ℕ → Bool) (all : List Components) (more : List DirId) : Type 0 where
+    pub record IsNext (skips : Summary → Bool) (deepest : Option ℕ) (above : ℕ) (start : Components) (done : List Components) (id : DirId) (asks : Row → ℕ → Bool) (all : List Components) (more : List DirId) : Type 0 where
       pub walk : IsWalk tree who limit start all more
       pub within : AllByRecursion (λ (id : DirId). lies_within deepest above (path_at tree id.0) ≡ true) more
       pub rows : filter (meets asks above) (flat_map (λ p. piece tree p limit) all) ≡ filter (meets asks above) (flat_map (λ p. piece tree p limit) (done ++ path_at tree id.0 ∷ []))
-      pub count : length (filter (lies_within deepest above) all) ≡ length (filter (lies_within deepest above) done) + 1
+      pub count : length (ticked skips tree limit deepest above all) ≡ length (ticked skips tree limit deepest above done) + length (not_passed skips tree limit (path_at tree id.0 ∷ []))
       pub longer : length done + 1 ≤ length all
 
     module _ (shape : HasTreeShape tree) where
@@ -144,50 +188,82 @@ module _ (tree : List Directory) (limit : ℕ) where
             each = (All-front _ rest out walk.each).0;
           }
 
-      module _ (deepest : Option ℕ) (above : ℕ) (start : Components) (far : above ≤ length start) (done : List Components) (todo rest : List DirId) (id : DirId) (walk : IsWalk tree who limit start done todo)
-          (last : todo ≡ rest ++ id ∷ []) (within : AllByRecursion (λ (id : DirId). lies_within deepest above (path_at tree id.0) ≡ true) todo) where
+      module _ (skips : Summary → Bool) (deepest : Option ℕ) (above : ℕ) (start : Components) (far : above ≤ length start) (done : List Components) (todo rest : List DirId) (id : DirId)
+          (walk : IsWalk tree who limit start done todo) (last : todo ≡ rest ++ id ∷ []) (within : AllByRecursion (λ (id : DirId). lies_within deepest above (path_at tree id.0) ≡ true) todo) where
         parts : AllByRecursion (λ (id : DirId). lies_within deepest above (path_at tree id.0) ≡ true) rest × AllByRecursion (λ (id : DirId). lies_within deepest above (path_at tree id.0) ≡ true) (id ∷ [])
         parts = All-front _ rest (id ∷ []) (subst (AllByRecursion (λ (id : DirId). lies_within deepest above (path_at tree id.0) ≡ true)) last within)
 
         abbrev inner : List Components → List Components
-        inner paths = filter (lies_within deepest above) paths
+        inner paths = ticked skips tree limit deepest above paths
 
-        one_more : length (inner (done ++ path_at tree id.0 ∷ [])) ≡ length (inner done) + 1
+        inner-append : (xs ys : List Components) → length (inner (xs ++ ys)) ≡ length (inner xs) + length (inner ys)
+        inner-append xs ys =
+            ap length (ap (not_passed skips tree limit) (filter-append (lies_within deepest above) xs ys)
+            ∙ filter-append (λ path. not (skips (total (piece tree path limit)))) (filter (lies_within deepest above) xs) (filter (lies_within deepest above) ys))
+            ∙ length-append (inner xs) (inner ys)
+
+        one_more : length (inner (done ++ path_at tree id.0 ∷ [])) ≡ length (inner done) + length (not_passed skips tree limit (path_at tree id.0 ∷ []))
         one_more =
             let p : Components = path_at tree id.0 in
-            let one : inner (p ∷ []) ≡ p ∷ [] = ap (λ b. cond b (p ∷ []) []) parts.1.0 in
-            omega (arith, ap length (filter-append (lies_within deepest above) done (p ∷ [])), length-append (inner done) (inner (p ∷ [])), ap length one)
+            inner-append done (p ∷ []) ∙ ap (λ b. length (inner done) + length (not_passed skips tree limit (cond b (p ∷ []) []))) parts.1.0
 
-        -- what is done and the place where the walk is are within what lies no deeper of the front
-        pub walk_left_within : length (inner done) + 1 ≤ length (no_deeper deepest above (front tree who start limit))
+        -- what is done and the place where the walk is are within what it ticks for of the front
+        pub walk_left_within : length (inner done) + length (not_passed skips tree limit (path_at tree id.0 ∷ [])) ≤ length (not_passed skips tree limit (no_deeper deepest above (front tree who start limit)))
         walk_left_within =
             let p : Components = path_at tree id.0 in
             let rest_of : List Components = fronts_at tree who limit (rest ++ reverse (kid_ids tree who p limit)) in
-            let split = IsPermutation-filter (lies_within deepest above) _ _ (next_split tree who shape limit start done todo rest id walk last) in
-            omega (
-              arith,
-              ap length (no_deeper-is deepest above (front tree who start limit)),
-              length_permutation _ _ split,
-              ap length (filter-append (lies_within deepest above) (done ++ p ∷ []) rest_of),
-              length-append (inner (done ++ p ∷ [])) (inner rest_of),
-              one_more,
-            )
+            let split = ticked_all skips tree limit deepest above _ _ (next_split tree who shape limit start done todo rest id walk last) in
+            omega (arith, split, inner-append (done ++ p ∷ []) rest_of, one_more)
 
-        pub walk_next : (asks : Row → ℕ → Bool) → Bounds deepest asks → (more : List DirId) → more ≡ rest ++ reverse (next_ids deepest above tree who (path_at tree id.0) limit) → (all : List Components) × IsNext deepest above start done id asks all more
-        walk_next asks bounds more e = by (goes_below deepest (length (path_at tree id.0) - above)) refl e where
-          long : AllByRecursion (λ (k : DirId). length (path_at tree k.0) ≡ length (path_at tree id.0) + 1) (reverse (kid_ids tree who (path_at tree id.0) limit))
-          long = All-reverse _ _ (kids_long tree who shape limit (path_at tree id.0))
-
+        module _ (asks : Row → ℕ → Bool) (test : IsTest skips deepest asks) where
           here : above ≤ length (path_at tree id.0)
           here = let deep = walk_deep tree who shape limit start done todo rest id walk last in omega (arith, far)
 
-          by : (b : Bool) → goes_below deepest (length (path_at tree id.0) - above) ≡ b → more ≡ rest ++ reverse (cond b (kid_ids tree who (path_at tree id.0) limit) []) → (all : List Components) × IsNext deepest above start done id asks all more
-          by true on e = (
+          abbrev below : List DirId
+          below = reverse (kid_ids tree who (path_at tree id.0) limit)
+
+          abbrev out : List Components
+          out = fronts_at tree who limit (reverse (kid_ids tree who (path_at tree id.0) limit))
+
+          long : AllByRecursion (λ (k : DirId). length (path_at tree k.0) ≡ length (path_at tree id.0) + 1) (reverse (kid_ids tree who (path_at tree id.0) limit))
+          long = All-reverse _ _ (kids_long tree who shape limit (path_at tree id.0))
+
+          -- what lies below has no row that meets the question, and no tick
+          record IsLeftOut : Type 0 where
+            rows : filter (meets asks above) (flat_map (λ p. piece tree p limit) out) ≡ []
+            count : inner out ≡ []
+
+          left_deep : goes_below deepest (length (path_at tree id.0) - above) ≡ false → IsLeftOut
+          left_deep off =
+              let p : Components = path_at tree id.0 in
+              let too_deep : AllByRecursion (λ q. lies_within deepest above q ≡ false) out =
+              All-weaken (λ (q : Components). length p + 1 ≤ length q) (λ q. lies_within deepest above q ≡ false) (λ q le. below_bound deepest (length p - above) (length q - above) off (omega (arith, here))) out
+              (fronts_deep (length p + 1) below (All-weaken (λ (k : DirId). length (path_at tree k.0) ≡ length p + 1) (λ (k : DirId). length p + 1 ≤ length (path_at tree k.0)) (λ k is. omega (arith, is)) _ long)) in
+              record {
+                rows = all_too_deep skips deepest above asks test out too_deep;
+                count = ap (not_passed skips tree limit) (filter-none (lies_within deepest above) out (λ q h. All-Has (λ q. lies_within deepest above q ≡ false) out q too_deep h));
+              }
+
+          left_passed : skips (tree_sum tree (path_at tree id.0)) ≡ true → IsLeftOut
+          left_passed passed =
+              let p : Components = path_at tree id.0 in
+              let leads : AllByRecursion (λ (k : DirId). is_prefix p (path_at tree k.0) ≡ true) below =
+              All-reverse _ _ (All-weaken (IsOpen tree who p) (λ (k : DirId). is_prefix p (path_at tree k.0) ≡ true) (λ k o. o.below) (kid_ids tree who p limit) (kids_open tree who shape limit p p (own_prefix p))) in
+              let all : AllByRecursion (λ q. skips (total (piece tree q limit)) ≡ true) out =
+              All-weaken (λ q. is_prefix p q ≡ true) (λ q. skips (total (piece tree q limit)) ≡ true) (λ q leads. piece_passed skips test.parts tree limit p q leads passed) out (fronts_below p below leads) in
+              record {
+                rows = all_passed skips deepest above asks test out all;
+                count = filter-none (λ path. not (skips (total (piece tree path limit)))) (filter (lies_within deepest above) out) (λ q h.
+                    ap not (All-Has (λ q. skips (total (piece tree q limit)) ≡ true) out q all (Has-filter (lies_within deepest above) out q h).0));
+              }
+
+          go_on : goes_below deepest (length (path_at tree id.0) - above) ≡ true → (more : List DirId) → more ≡ rest ++ below → (all : List Components) × IsNext skips deepest above start done id asks all more
+          go_on on more e = (
             done ++ path_at tree id.0 ∷ [],
             record {
               walk = IsWalk-more tree who shape limit start done todo rest id walk last more e;
               within = subst (AllByRecursion (λ (k : DirId). lies_within deepest above (path_at tree k.0) ≡ true)) (sym e)
-                  (All-append _ rest (reverse (kid_ids tree who (path_at tree id.0) limit)) parts.0
+                  (All-append _ rest below parts.0
                   (All-weaken (λ (k : DirId). length (path_at tree k.0) ≡ length (path_at tree id.0) + 1) (λ (k : DirId). lies_within deepest above (path_at tree k.0) ≡ true)
                   (λ k is. next_within deepest (length (path_at tree id.0) - above) (length (path_at tree k.0) - above) on (omega (arith, is, here))) _ long));
               rows = refl;
@@ -195,29 +271,34 @@ module _ (tree : List Directory) (limit : ℕ) where
               longer = omega (arith, length-append done (path_at tree id.0 ∷ []));
             },
           )
-          by false off e =
+
+          stop : IsLeftOut → (more : List DirId) → more ≡ rest ++ [] → (all : List Components) × IsNext skips deepest above start done id asks all more
+          stop left more e =
               let p : Components = path_at tree id.0 in
-              let out : List Components = fronts_at tree who limit (reverse (kid_ids tree who p limit)) in
-              let too_deep : AllByRecursion (λ q. lies_within deepest above q ≡ false) out =
-              All-weaken (λ (q : Components). length p + 1 ≤ length q) (λ q. lies_within deepest above q ≡ false) (λ q le. below_bound deepest (length p - above) (length q - above) off (omega (arith, here))) out
-              (fronts_deep (length p + 1) (reverse (kid_ids tree who p limit)) (All-weaken (λ (k : DirId). length (path_at tree k.0) ≡ length p + 1) (λ (k : DirId). length p + 1 ≤ length (path_at tree k.0)) (λ k is. omega (arith, is)) _ long)) in
-              let none : inner out ≡ [] = filter-none (lies_within deepest above) out (λ q h. All-Has (λ q. lies_within deepest above q ≡ false) out q too_deep h) in
               let P : Components → List Row = λ q. piece tree q limit in
               let met = meets asks above in
               let same : more ≡ rest = e ∙ append-nil rest in (
                 (done ++ p ∷ []) ++ out,
                 record {
                   walk = subst (IsWalk tree who limit start ((done ++ p ∷ []) ++ out)) (sym same)
-                      (walk_without start (done ++ p ∷ []) rest (reverse (kid_ids tree who p limit)) (IsWalk-more tree who shape limit start done todo rest id walk last _ refl));
+                      (walk_without start (done ++ p ∷ []) rest below (IsWalk-more tree who shape limit start done todo rest id walk last _ refl));
                   within = subst (AllByRecursion (λ (k : DirId). lies_within deepest above (path_at tree k.0) ≡ true)) (sym same) parts.0;
                   rows = ap (filter met) (flat_map-append P (done ++ p ∷ []) out) ∙ filter-append met (flat_map P (done ++ p ∷ [])) (flat_map P out)
-                      ∙ ap (λ l. filter met (flat_map P (done ++ p ∷ [])) ++ l) (all_too_deep deepest above asks bounds out too_deep) ∙ append-nil (filter met (flat_map P (done ++ p ∷ [])));
-                  count = ap length (filter-append (lies_within deepest above) (done ++ p ∷ []) out ∙ ap (λ l. inner (done ++ p ∷ []) ++ l) none ∙ append-nil (inner (done ++ p ∷ []))) ∙ one_more;
+                      ∙ ap (λ l. filter met (flat_map P (done ++ p ∷ [])) ++ l) left.rows ∙ append-nil (filter met (flat_map P (done ++ p ∷ [])));
+                  count = omega (arith, inner-append (done ++ p ∷ []) out, ap length left.count, one_more);
                   longer = omega (arith, length-append (done ++ p ∷ []) out, length-append done (p ∷ []));
                 },
               )
 
+          pub walk_next : (more : List DirId) → more ≡ rest ++ reverse (next_ids skips deepest above tree who (path_at tree id.0) limit) → (all : List Components) × IsNext skips deepest above start done id asks all more
+          walk_next more e = by (goes_below deepest (length (path_at tree id.0) - above)) (skips (tree_sum tree (path_at tree id.0))) refl refl e where
+            by : (a b : Bool) → goes_below deepest (length (path_at tree id.0) - above) ≡ a → skips (tree_sum tree (path_at tree id.0)) ≡ b
+                → more ≡ rest ++ reverse (cond (a && not b) (kid_ids tree who (path_at tree id.0) limit) []) → (all : List Components) × IsNext skips deepest above start done id asks all more
+            by true true on passed e = stop (left_passed passed) more e
+            by true false on open_ e = go_on on more e
+            by false b off any e = stop (left_deep off) more e
+
         -- there is less to do
-        pub next_less : (asks : Row → ℕ → Bool) (all : List Components) (more : List DirId) → IsNext deepest above start done id asks all more → length (fronts_at tree who limit more) < length (fronts_at tree who limit todo)
+        pub next_less : (asks : Row → ℕ → Bool) (all : List Components) (more : List DirId) → IsNext skips deepest above start done id asks all more → length (fronts_at tree who limit more) < length (fronts_at tree who limit todo)
         next_less asks all more next =
             omega (arith, length_permutation _ _ walk.split, length_permutation _ _ next.walk.split, next.longer, length-append done (fronts_at tree who limit todo), length-append all (fronts_at tree who limit more))

@@ -2,6 +2,7 @@ pub mod Bounded
 pub mod Folds
 pub mod Isolation
 pub mod Joins
+pub mod Passed
 pub mod Pieces
 pub mod StartRow
 pub mod Tasks

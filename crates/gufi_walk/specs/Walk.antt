@@ -1,11 +1,13 @@
 -- Where a walk goes on from a directory, by places.
-use Rattle.std.specs.Prelude.{ℕ, ◌-◌, ◌&&◌, nat_le, Bool, List, [], ◌∷◌, filter, map, length, Option, Some, None, if◌then◌else◌}
+use Rattle.std.specs.Prelude.{ℕ, ◌-◌, ◌&&◌, ◌||◌, not, nat_le, Bool, List, [], ◌∷◌, filter, map, length, Option, Some, None, if◌then◌else◌}
 use Rattle.std.specs.List.{list_any, flat_map, range_with_len}
 use Rattle.gufi_base.specs.declared.record.Row.{Row}
 use Rattle.gufi_base.specs.Paths.{Components, path_eq, is_prefix}
 use Rattle.gufi_base.specs.Rows.{depth_below}
 use Rattle.gufi_access.specs.declared.class.Principal.{Principal}
+use Rattle.gufi_sums.specs.declared.summary.Summary.{Summary}
 use Rattle.gufi_sums.specs.Depths.{is_within, goes_below}
+use Rattle.gufi_sums.specs.Total.{total}
 use Rattle.gufi_tree.specs.declared.tree.DirId.{DirId}
 use Rattle.gufi_tree.specs.Tree.{Directory, may_list}
 use Rattle.gufi_tree.specs.Places.{path_at, child_ids}
@@ -36,29 +38,38 @@ no_deeper (Some most) above paths = filter (lies_within (Some most) above) paths
 abbrev pub front_within : Option ℕ → List Directory → Principal → Components → ℕ → List Components
 front_within deepest tree who start limit = no_deeper deepest (length start) (front tree who start limit)
 
--- where a walk goes on that goes no deeper than a bound
-abbrev pub next_ids : Option ℕ → ℕ → List Directory → Principal → Components → ℕ → List DirId
-next_ids deepest above tree who path limit = if goes_below deepest (length path - above) then kid_ids tree who path limit else []
+-- those of the paths whose pieces a test of sums doesn't pass over
+abbrev pub not_passed : (Summary → Bool) → List Directory → ℕ → List Components → List Components
+not_passed skips tree limit paths = filter (λ path. not (skips (total (piece tree path limit)))) paths
 
--- at most so many directories are at and below it: then its task takes them all, and has no kids
-abbrev pub is_small : List Directory → ℕ → Components → Bool
-is_small tree grain path = nat_le (tree_sum tree path).dirs grain
+-- those of a front that lie no deeper than a bound
+abbrev pub front_met : (Summary → Bool) → Option ℕ → List Directory → Principal → Components → ℕ → List Components
+front_met skips deepest tree who start limit = not_passed skips tree limit (front_within deepest tree who start limit)
+
+-- where a walk goes on that goes no deeper than a bound, nor below what a test of sums passes over
+abbrev pub next_ids : (Summary → Bool) → Option ℕ → ℕ → List Directory → Principal → Components → ℕ → List DirId
+next_ids skips deepest above tree who path limit =
+    if goes_below deepest (length path - above) && not (skips (tree_sum tree path)) then kid_ids tree who path limit else []
+
+-- at most so many directories are at and below it, or the test passes over them all: then its task takes them all, and has no kids
+abbrev pub is_whole : (Summary → Bool) → List Directory → ℕ → Components → Bool
+is_whole skips tree grain path = nat_le (tree_sum tree path).dirs grain || skips (tree_sum tree path)
 
 -- the members of the front that one task takes
-abbrev pub task_dirs : List Directory → Principal → ℕ → ℕ → Components → List Components
-task_dirs tree who limit grain path = if is_small tree grain path then front tree who path limit else path ∷ []
+abbrev pub task_dirs : (Summary → Bool) → List Directory → Principal → ℕ → ℕ → Components → List Components
+task_dirs skips tree who limit grain path = if is_whole skips tree grain path then front tree who path limit else path ∷ []
 
 -- the tasks that a task brings forth
-abbrev pub task_kids : List Directory → Principal → ℕ → ℕ → ℕ → List ℕ
-task_kids tree who limit grain k = if is_small tree grain (path_at tree k) then [] else map (λ id. id.0) (kid_ids tree who (path_at tree k) limit)
+abbrev pub task_kids : (Summary → Bool) → List Directory → Principal → ℕ → ℕ → ℕ → List ℕ
+task_kids skips tree who limit grain k = if is_whole skips tree grain (path_at tree k) then [] else map (λ id. id.0) (kid_ids tree who (path_at tree k) limit)
 
 -- the directories at or below the start that may be listed: all that can be tasks
 abbrev pub open_places : List Directory → Principal → Components → List ℕ
 open_places tree who start = filter (λ k. is_prefix start (path_at tree k) && lists_at tree who (path_at tree k)) (range_with_len 0 (length tree))
 
 -- the rows that one task adds
-abbrev pub task_rows : List Directory → Principal → ℕ → ℕ → (Row → Bool) → ℕ → List Row
-task_rows tree who limit grain met k = filter met (flat_map (λ path. piece tree path limit) (task_dirs tree who limit grain (path_at tree k)))
+abbrev pub task_rows : (Summary → Bool) → List Directory → Principal → ℕ → ℕ → (Row → Bool) → ℕ → List Row
+task_rows skips tree who limit grain met k = filter met (flat_map (λ path. piece tree path limit) (task_dirs skips tree who limit grain (path_at tree k)))
 
 -- the row meets the question at its depth
 abbrev pub meets : (Row → ℕ → Bool) → ℕ → Row → Bool

@@ -1,18 +1,17 @@
 //! One thread's answer: down from the start, by subdirectories that may be listed, a piece at a time.
 
-ghost use Rattle.std.specs.Prelude.{◌≡◌, ◌≢◌, ℕ, ◌+◌, ◌-◌, ◌<◌, ◌≤◌, ◌^◌, true, false, List, [], ◌∷◌, ◌++◌, length, filter, reverse, Option, Some, None, IfOk, OnOk, IfErr, All};
+ghost use Rattle.std.specs.Prelude.{◌≡◌, ◌≢◌, ℕ, ◌+◌, ◌-◌, ◌<◌, ◌≤◌, ◌^◌, true, List, [], ◌∷◌, ◌++◌, length, filter, reverse, Option, Some, None, IfOk, OnOk, IfErr, All};
 ghost use Rattle.std.specs.List.{flat_map};
 ghost use Rattle.gufi_base.specs.declared.record.Row.{Row};
 ghost use Rattle.gufi_access.specs.Access.{can_list};
 ghost use Rattle.gufi_tree.specs.Places.{path_at};
 ghost use Rattle.gufi_tree.specs.Resolve.{resolve};
 ghost use Rattle.gufi_tree.specs.Tree.{HasTreeShape};
-ghost use Rattle.gufi_sums.specs.declared.summary.Summary.{Summary as SeenSummary};
 ghost use Rattle.gufi_sums.specs.Depths.{goes_below};
-ghost use Rattle.gufi_sums.specs.Total.{IsTotal};
-ghost use Rattle.gufi_snap.specs.Pieces.{front, piece};
+ghost use Rattle.gufi_sums.specs.Total.{IsTotal, total};
+ghost use Rattle.gufi_snap.specs.Pieces.{front, piece, tree_sum};
 ghost use Rattle.gufi_walk.specs.Answer.{answer, refusal_of};
-ghost use Rattle.gufi_walk.specs.Walk.{lists_at, open_ids, kid_ids, next_ids, lies_within, no_deeper, front_within, meets};
+ghost use Rattle.gufi_walk.specs.Walk.{lists_at, open_ids, kid_ids, next_ids, lies_within, no_deeper, not_passed, front_met, meets};
 
 use crate::refusal::Refusal;
 use crate::start::found_start;
@@ -88,7 +87,8 @@ pub(crate) fn sum_of_piece(snap: &Snapshot, id: DirId) -> &Summary
     }
 }
 
-/// Adds the rows of a piece that meet the question, unless its sum shows that there are none.
+/// Adds the rows of a piece that meet the question, unless its sum shows that there are none. It answers whether the piece was
+/// so passed over.
 pub(crate) fn visit<T: Tester, Y: Yield, S: Skip, G: Gate, L: Ledger>(
     alloc: Global,
     snap: &Snapshot,
@@ -99,7 +99,7 @@ pub(crate) fn visit<T: Tester, Y: Yield, S: Skip, G: Gate, L: Ledger>(
     gate: &G,
     out: &mut Y,
     steps: &mut Steps<L>,
-) -> Result<(), Memory>
+) -> Result<bool, Memory>
     requires id { id.0 < length snap.now.tree }
     requires above { above ≤ length (path_at snap.now.tree id.0) }
     requires room { Y.count out.old + length (piece snap.now.tree (path_at snap.now.tree id.0) snap.now.limit) < 2 ^ 40 }
@@ -108,14 +108,26 @@ pub(crate) fn visit<T: Tester, Y: Yield, S: Skip, G: Gate, L: Ledger>(
     ensures rows { OnOk result ((rows : List Row) → Y.stands_for out.old rows →
         Y.stands_for out.new (rows ++ filter (meets (T.meets tester.old) above) (piece snap.now.tree (path_at snap.now.tree id.0) snap.now.limit))) }
     ensures same { T.meets tester.new ≡ T.meets tester.old }
-    ensures at_most { steps.new ≤ steps.old + 1 }
-    ensures exact { ((sum : SeenSummary) → S.skips skip.now sum ≡ false) → steps.new ≡ steps.old + 1 }
+    ensures passed { IfOk result (λ passed. passed ≡ S.skips skip.now (total (piece snap.now.tree (path_at snap.now.tree id.0) snap.now.limit))) }
+    ensures exact { steps.new ≡ steps.old + length (not_passed (S.skips skip.now) snap.now.tree snap.now.limit (path_at snap.now.tree id.0 ∷ [])) }
 {
     if skip.none_match(sum_of_piece(snap, id)) {
-        return Ok(());
+        return Ok(true);
     }
     gate.begin(GateKind::Store, id.0);
-    snap.scan_piece(alloc, id, tester, above, out, steps)
+    snap.scan_piece(alloc, id, tester, above, out, steps)?;
+    Ok(false)
+}
+
+/// Whether the test passes over all that is at and below a directory, where it is known whether it passes over its piece.
+///
+/// It looks at a sum only where the piece is passed over: else not all of it is.
+fn passes_below<S: Skip>(snap: &Snapshot, id: DirId, skip: &S, passed: bool) -> bool
+    requires id { id.0 < length snap.now.tree }
+    requires passed { passed ≡ S.skips skip.now (total (piece snap.now.tree (path_at snap.now.tree id.0) snap.now.limit)) }
+    ensures { result ≡ S.skips skip.now (tree_sum snap.now.tree (path_at snap.now.tree id.0)) }
+{
+    passed && skip.none_match(snap.tree_sum(id))
 }
 
 /// How many components the path of a directory has: no more than there are directories before it.
@@ -152,7 +164,7 @@ fn goes_below<S: Skip>(snap: &Snapshot, id: DirId, skip: &S, above: u32) -> bool
 }
 
 /// Puts the directories where a walk goes on on the list, the last one first, but none that lies too deep for a row that meets
-/// the query.
+/// the query, and none below a directory where the sum of all rows shows that none does.
 fn push_next<S: Skip>(
     todo: &mut Vec<DirId>,
     snap: &Snapshot,
@@ -160,12 +172,14 @@ fn push_next<S: Skip>(
     id: DirId,
     skip: &S,
     above: u32,
+    passed: bool,
 ) -> Result<(), AllocError>
     requires id { id.0 < length snap.now.tree }
     requires above { above ≤ length (path_at snap.now.tree id.0) }
-    ensures { OnOk result (todo.new.items ≡ todo.old.items ++ reverse (next_ids (S.deepest skip.now) above snap.now.tree who.now (path_at snap.now.tree id.0) snap.now.limit)) }
+    requires passed { passed ≡ S.skips skip.now (total (piece snap.now.tree (path_at snap.now.tree id.0) snap.now.limit)) }
+    ensures { OnOk result (todo.new.items ≡ todo.old.items ++ reverse (next_ids (S.skips skip.now) (S.deepest skip.now) above snap.now.tree who.now (path_at snap.now.tree id.0) snap.now.limit)) }
 {
-    if goes_below(snap, id, skip, above) {
+    if goes_below(snap, id, skip, above) && !passes_below(snap, id, skip, passed) {
         push_kids(todo, snap, who, id)?;
     }
     Ok(())
@@ -179,7 +193,7 @@ fn tell<G: Gate>(gate: &G, id: DirId, first: DirId) {
 }
 
 /// The rows of the pieces at and below a directory that meet the question. It takes the directories in path order, but none that
-/// lies too deep for a row that meets the query.
+/// lies too deep for a row that meets the query, and none below a directory where the sum of all rows shows that none does.
 pub(crate) fn rows_below<T: Tester, Y: Yield, S: Skip, G: Gate, L: Ledger>(
     alloc: Global,
     snap: &Snapshot,
@@ -198,9 +212,10 @@ pub(crate) fn rows_below<T: Tester, Y: Yield, S: Skip, G: Gate, L: Ledger>(
     requires within { lies_within (S.deepest skip.now) above (path_at snap.now.tree start.0) ≡ true }
     ensures rows { IfOk result (λ y. Y.stands_for y (filter (meets (T.meets tester.old) above)
         (flat_map (λ path. piece snap.now.tree path snap.now.limit) (front snap.now.tree who.now (path_at snap.now.tree start.0) snap.now.limit)))) }
-    ensures at_most { steps.new ≤ steps.old + length (no_deeper (S.deepest skip.now) above (front snap.now.tree who.now (path_at snap.now.tree start.0) snap.now.limit)) }
-    ensures exact { OnOk result (((sum : SeenSummary) → S.skips skip.now sum ≡ false)
-        → steps.new ≡ steps.old + length (no_deeper (S.deepest skip.now) above (front snap.now.tree who.now (path_at snap.now.tree start.0) snap.now.limit))) }
+    ensures at_most { steps.new ≤ steps.old + length (not_passed (S.skips skip.now) snap.now.tree snap.now.limit
+        (no_deeper (S.deepest skip.now) above (front snap.now.tree who.now (path_at snap.now.tree start.0) snap.now.limit))) }
+    ensures exact { OnOk result (steps.new ≡ steps.old + length (not_passed (S.skips skip.now) snap.now.tree snap.now.limit
+        (no_deeper (S.deepest skip.now) above (front snap.now.tree who.now (path_at snap.now.tree start.0) snap.now.limit)))) }
 {
     // The tree's shape tells that the walk ends.
     let _tree = snap.tree();
@@ -208,8 +223,8 @@ pub(crate) fn rows_below<T: Tester, Y: Yield, S: Skip, G: Gate, L: Ledger>(
     let mut todo = list_of(alloc, start)?;
     while let Some(id) = todo.pop() {
         tell(gate, id, start);
-        visit(alloc, snap, id, tester, skip, above, gate, &mut out, steps)?;
-        push_next(&mut todo, snap, who, id, skip, above)?;
+        let passed = visit(alloc, snap, id, tester, skip, above, gate, &mut out, steps)?;
+        push_next(&mut todo, snap, who, id, skip, above, passed)?;
     }
     Ok(out)
 }
@@ -228,9 +243,8 @@ fn answer_from<P: Pred, Y: Yield, S: Skip, L: Ledger>(
     requires listed { lists_at snap.now.tree who.now (path_at snap.now.tree start.0) ≡ true }
     requires query { (row : Row) (depth : ℕ) → P.sat pred.now row depth ≡ true → S.query skip.now row depth ≡ true }
     ensures rows { IfOk result (λ y. Y.stands_for y (answer snap.now.tree who.now (path_at snap.now.tree start.0) (P.sat pred.now))) }
-    ensures at_most { steps.new ≤ steps.old + length (front_within (S.deepest skip.now) snap.now.tree who.now (path_at snap.now.tree start.0) snap.now.limit) }
-    ensures exact { OnOk result (((sum : SeenSummary) → S.skips skip.now sum ≡ false)
-        → steps.new ≡ steps.old + length (front_within (S.deepest skip.now) snap.now.tree who.now (path_at snap.now.tree start.0) snap.now.limit)) }
+    ensures at_most { steps.new ≤ steps.old + length (front_met (S.skips skip.now) (S.deepest skip.now) snap.now.tree who.now (path_at snap.now.tree start.0) snap.now.limit) }
+    ensures exact { OnOk result (steps.new ≡ steps.old + length (front_met (S.skips skip.now) (S.deepest skip.now) snap.now.tree who.now (path_at snap.now.tree start.0) snap.now.limit)) }
 {
     let above = depth_of(snap.tree(), start);
     let mut tester = pred.tester(alloc)?;
@@ -249,8 +263,9 @@ fn answer_from<P: Pred, Y: Yield, S: Skip, L: Ledger>(
 
 /// The rows that the principal gets who walks from the start and that meet the question, or the refusal of the start.
 ///
-/// It takes the directories in path order. Cost: the pieces of the front, but for directories that lie too deep for a row that
-/// meets the query, and nothing else of the tree; a start that is refused costs no step.
+/// It takes the directories in path order. Cost: one step for each piece of the front whose directory lies no deeper than a row
+/// that meets the query may and whose sum isn't passed over; nothing is looked at below a directory whose rows, all in all, are
+/// passed over, and of such a directory two sums at most. A start that is refused costs no step.
 pub fn answer_alone<P: Pred, Y: Yield, S: Skip, L: Ledger>(
     alloc: Global,
     snap: &Snapshot,
@@ -265,9 +280,8 @@ pub fn answer_alone<P: Pred, Y: Yield, S: Skip, L: Ledger>(
     ensures found { OnOk result (refusal_of (resolve snap.now.tree who.now start.now) ≡ None) }
     ensures refusal { IfErr result (λ refusal. refusal ≢ Refusal.Memory → refusal_of (resolve snap.now.tree who.now start.now) ≡ Some refusal) }
     ensures refused { IfErr result (λ refusal. refusal ≢ Refusal.Memory → steps.new ≡ steps.old) }
-    ensures at_most { steps.new ≤ steps.old + length (front_within (S.deepest skip.now) snap.now.tree who.now start.now snap.now.limit) }
-    ensures exact { OnOk result (((sum : SeenSummary) → S.skips skip.now sum ≡ false)
-        → steps.new ≡ steps.old + length (front_within (S.deepest skip.now) snap.now.tree who.now start.now snap.now.limit)) }
+    ensures at_most { steps.new ≤ steps.old + length (front_met (S.skips skip.now) (S.deepest skip.now) snap.now.tree who.now start.now snap.now.limit) }
+    ensures exact { OnOk result (steps.new ≡ steps.old + length (front_met (S.skips skip.now) (S.deepest skip.now) snap.now.tree who.now start.now snap.now.limit)) }
 {
     let id = found_start(snap, who, start)?;
     Ok(answer_from(alloc, snap, who, id, pred, skip, steps)?)

@@ -3,7 +3,8 @@
 ghost use Rattle.std.specs.Prelude.{◌≡◌, ℕ, ◌<◌, true, List, [], ◌∷◌, ◌++◌, length, filter, map, All, Contains, IfOk, OnOk};
 ghost use Rattle.gufi_base.specs.declared.record.Row.{Row};
 ghost use Rattle.gufi_tree.specs.Places.{path_at};
-ghost use Rattle.gufi_walk.specs.Walk.{lists_at, kid_ids, meets, is_small, task_kids, task_rows, open_places};
+ghost use Rattle.gufi_snap.specs.Pieces.{tree_sum};
+ghost use Rattle.gufi_walk.specs.Walk.{lists_at, kid_ids, meets, is_whole, task_kids, task_rows, open_places};
 ghost use Rattle.gufi_walk.specs.Chunks.{AreChunks};
 
 use crate::chunk::Chunk;
@@ -88,12 +89,20 @@ fn push_places(
 }
 
 impl<P: Pred, Y: Yield, S: Skip> Walk<'_, P, Y, S> {
-    /// Whether a task takes all directories at and below its own.
+    /// Whether the test passes over all that is at and below a directory.
+    fn passes_below(&self, id: DirId) -> bool
+        requires { id.0 < length self.now.snap.now.tree }
+        ensures { result ≡ S.skips self.now.skip.now (tree_sum self.now.snap.now.tree (path_at self.now.snap.now.tree id.0)) }
+    {
+        self.skip.none_match(self.snap.tree_sum(id))
+    }
+
+    /// Whether a task takes all directories at and below its own: where they are few, or passed over.
     fn is_whole(&self, id: DirId) -> bool
         requires { id.0 < length self.now.snap.now.tree }
-        ensures { result ≡ is_small self.now.snap.now.tree self.now.grain (path_at self.now.snap.now.tree id.0) }
+        ensures { result ≡ is_whole (S.skips self.now.skip.now) self.now.snap.now.tree self.now.grain (path_at self.now.snap.now.tree id.0) }
     {
-        self.snap.tree_sum(id).dirs <= self.grain
+        self.snap.tree_sum(id).dirs <= self.grain || self.passes_below(id)
     }
 
     /// The rows that a task adds.
@@ -108,11 +117,14 @@ impl<P: Pred, Y: Yield, S: Skip> Walk<'_, P, Y, S> {
         requires parts { blank.parts ≡ L.parts }
         requires one { 0 < blank.parts }
         requires given { Contains (open_places self.now.snap.now.tree self.now.who.now (path_at self.now.snap.now.tree self.now.start.0)) id.0 }
-        ensures { IfOk result (λ y. Y.stands_for y (task_rows self.now.snap.now.tree self.now.who.now self.now.snap.now.limit self.now.grain (meets (P.sat self.now.pred.now) self.now.above) id.0)) }
+        ensures { IfOk result (λ y. Y.stands_for y (task_rows (S.skips self.now.skip.now) self.now.snap.now.tree self.now.who.now self.now.snap.now.limit self.now.grain (meets (P.sat self.now.pred.now) self.now.above) id.0)) }
     {
         // The tree's shape tells how deep the directory of a task lies.
         let _tree = self.snap.tree();
         if !lies_within(self.snap, id, self.skip, self.above) {
+            return Y::none(alloc);
+        }
+        if self.passes_below(id) {
             return Y::none(alloc);
         }
         let mut steps = Steps::<L>::new(blank);
@@ -148,7 +160,7 @@ impl<P: Pred, Y: Yield, S: Skip> Walk<'_, P, Y, S> {
     /// The rows that a task adds, in order where walkers share that work.
     fn settled_rows<G: Gate>(&self, alloc: Global, gate: &G, id: DirId) -> Result<Y, Memory>
         requires given { Contains (open_places self.now.snap.now.tree self.now.who.now (path_at self.now.snap.now.tree self.now.start.0)) id.0 }
-        ensures { IfOk result (λ y. Y.stands_for y (task_rows self.now.snap.now.tree self.now.who.now self.now.snap.now.limit self.now.grain (meets (P.sat self.now.pred.now) self.now.above) id.0)) }
+        ensures { IfOk result (λ y. Y.stands_for y (task_rows (S.skips self.now.skip.now) self.now.snap.now.tree self.now.who.now self.now.snap.now.limit self.now.grain (meets (P.sat self.now.pred.now) self.now.above) id.0)) }
     {
         let mut rows = self.rows_of_task::<G, Brand>(alloc, gate, id, Blank::new(1))?;
         if self.settles {
@@ -160,7 +172,7 @@ impl<P: Pred, Y: Yield, S: Skip> Walk<'_, P, Y, S> {
     /// Adds the tasks that a task brings forth.
     fn push_kids(&self, kids: &mut Vec<u32>, id: DirId) -> Result<(), AllocError>
         requires { id.0 < length self.now.snap.now.tree }
-        ensures { OnOk result (kids.new.items ≡ kids.old.items ++ task_kids self.now.snap.now.tree self.now.who.now self.now.snap.now.limit self.now.grain id.0) }
+        ensures { OnOk result (kids.new.items ≡ kids.old.items ++ task_kids (S.skips self.now.skip.now) self.now.snap.now.tree self.now.who.now self.now.snap.now.limit self.now.grain id.0) }
     {
         if !self.is_whole(id) {
             push_places(kids, self.snap, self.who, id)?;
@@ -174,9 +186,9 @@ impl<'a, P: Pred + Sync, Y: Yield + Send + Sync, S: Skip + Sync> Job for Walk<'a
 
     ghost given = { λ w. open_places w.snap.now.tree w.who.now (path_at w.snap.now.tree w.start.0) };
 
-    ghost kids_of = { λ w task. task_kids w.snap.now.tree w.who.now w.snap.now.limit w.grain task };
+    ghost kids_of = { λ w task. task_kids (S.skips w.skip.now) w.snap.now.tree w.who.now w.snap.now.limit w.grain task };
 
-    ghost stands = { λ w piece ran. AreChunks Y.stands_for (task_rows w.snap.now.tree w.who.now w.snap.now.limit w.grain (meets (P.sat w.pred.now) w.above)) piece.items ran };
+    ghost stands = { λ w piece ran. AreChunks Y.stands_for (task_rows (S.skips w.skip.now) w.snap.now.tree w.who.now w.snap.now.limit w.grain (meets (P.sat w.pred.now) w.above)) piece.items ran };
 
     fn fresh(&self, alloc: Global) -> Result<Vec<Chunk<Y>>, Memory> {
         Ok(Vec::new(alloc))

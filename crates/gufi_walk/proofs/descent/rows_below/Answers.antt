@@ -5,7 +5,8 @@ use Rattle.gufi_base.specs.Paths.{Components}
 use Rattle.gufi_tree.specs.Places.{path_at}
 use Rattle.gufi_snap.specs.Pieces.{front, piece}
 use Rattle.gufi_walk.specs.Walk.{lies_within, meets}
-use Rattle.gufi_walk.proofs.Bounded.{Bounds, walk_next, next_less, walk_left_within, within_all}
+use Rattle.gufi_walk.proofs.Bounded.{walk_next, next_less, walk_left_within, ticked_all}
+use Rattle.gufi_walk.proofs.Passed.{IsTest, test_of_query}
 use Rattle.gufi_walk.proofs.Walked.{IsWalk, IsWalk-start, IsWalk-all, IsOpenTop-at, walk_last, walk_deep, walk_room, rows-more, rows_of_all, filtered_fewer}
 use Rattle.gufi_walk.proofs.descent.rows_below.Goals as goal
 
@@ -19,8 +20,7 @@ loop-id-init g c =
         within = subst (AllByRecursion (λ id. lies_within (g.S.Skip.deepest c.args.skip.now) c.args.above (path_at snap.tree id.0) ≡ true)) (sym c.in_ok-todo.ensures) (c.requires.within, tt);
         walk = subst (IsWalk snap.tree c.args.who.now snap.limit start []) (sym c.in_ok-todo.ensures) (IsWalk-start snap.tree c.args.who.now c.tree-tree.ensures.shape snap.limit c.args.start.0 c.requires.start c.requires.listed);
         rows = c.in_ok-out.ensures;
-        at_most = omega arith;
-        exact = λ h. omega arith;
+        exact = omega arith;
       },
     )
 
@@ -58,9 +58,13 @@ pub loop-id-smaller : goal.loop-id-smaller
 loop-id-smaller g c =
     let snap = c.args.snap.now in
     let inv = c.loop-id.invariant.1 in
-    let deepest = g.S.Skip.deepest c.args.skip.now in
-    let next = walk_next snap.tree snap.limit c.args.who.now c.tree-tree.ensures.shape deepest c.args.above _ c.requires.above _ _ _ _ inv.walk c.in-Some.ensures.items inv.within (g.S.Skip.query c.args.skip.now) (g.S.Skip.bounded c.args.skip.now) _ c.in_ok-push_next.ensures in
-    next_less snap.tree snap.limit c.args.who.now c.tree-tree.ensures.shape deepest c.args.above _ c.requires.above _ _ _ _ inv.walk c.in-Some.ensures.items inv.within _ _ _ next.1
+    let skip = c.args.skip.now in
+    let skips = g.S.Skip.skips skip in
+    let deepest = g.S.Skip.deepest skip in
+    let sat = g.T.Tester.meets c.args.tester.now in
+    let test : IsTest skips deepest sat = test_of_query skips deepest (g.S.Skip.query skip) sat (g.S.Skip.bounded skip) (g.S.Skip.parts skip) (g.S.Skip.sound skip) c.requires.query in
+    let next = walk_next snap.tree snap.limit c.args.who.now c.tree-tree.ensures.shape skips deepest c.args.above _ c.requires.above _ _ _ _ inv.walk c.in-Some.ensures.items inv.within sat test _ c.in_ok-push_next.ensures in
+    next_less snap.tree snap.limit c.args.who.now c.tree-tree.ensures.shape skips deepest c.args.above _ c.requires.above _ _ _ _ inv.walk c.in-Some.ensures.items inv.within _ _ _ next.1
 
 pub loop-id-preserved : goal.loop-id-preserved
 loop-id-preserved g c =
@@ -71,16 +75,18 @@ loop-id-preserved g c =
     let sat = g.T.Tester.meets c.args.tester.now in
     let met = meets sat c.args.above in
     let old : List Row = filter met (flat_map (λ p. piece snap.tree p snap.limit) done) in
-    let bounds : Bounds (g.S.Skip.deepest c.args.skip.now) sat = λ most is row depth e. g.S.Skip.bounded c.args.skip.now most is row depth (c.requires.query row depth e) in
-    let next = walk_next snap.tree snap.limit c.args.who.now c.tree-tree.ensures.shape (g.S.Skip.deepest c.args.skip.now) c.args.above _ c.requires.above done _ _ _ inv.walk c.in-Some.ensures.items inv.within sat bounds _ c.in_ok-push_next.ensures in (
+    let skip = c.args.skip.now in
+    let skips = g.S.Skip.skips skip in
+    let deepest = g.S.Skip.deepest skip in
+    let test : IsTest skips deepest sat = test_of_query skips deepest (g.S.Skip.query skip) sat (g.S.Skip.bounded skip) (g.S.Skip.parts skip) (g.S.Skip.sound skip) c.requires.query in
+    let next = walk_next snap.tree snap.limit c.args.who.now c.tree-tree.ensures.shape skips deepest c.args.above _ c.requires.above done _ _ _ inv.walk c.in-Some.ensures.items inv.within sat test _ c.in_ok-push_next.ensures in (
       next.0,
       record {
-        same = c.in_ok-visit.ensures.same ∙ inv.same;
+        same = c.in_ok-passed.ensures.same ∙ inv.same;
         walk = next.1.walk;
         within = next.1.within;
-        rows = subst (λ rows. g.Y.Yield.stands_for c.visit.new.out rows) (sym (next.1.rows ∙ rows-more snap.tree snap.limit met done path)) (rw inv.same at c.in_ok-visit.ensures.rows old inv.rows);
-        at_most = omega (arith, c.in_ok-visit.ensures.at_most, inv.at_most, next.1.count);
-        exact = λ h. omega (arith, c.in_ok-visit.ensures.exact h, inv.exact h, next.1.count);
+        rows = subst (λ rows. g.Y.Yield.stands_for c.visit.new.out rows) (sym (next.1.rows ∙ rows-more snap.tree snap.limit met done path)) (rw inv.same at c.in_ok-passed.ensures.rows old inv.rows);
+        exact = omega (arith, c.in_ok-passed.ensures.exact, inv.exact, next.1.count);
       },
     )
 
@@ -98,27 +104,29 @@ returns-clause-rows g c =
 pub returns-clause-at_most : goal.returns-clause-at_most
 returns-clause-at_most g c =
     let snap = c.args.snap.now in
-    let deepest = g.S.Skip.deepest c.args.skip.now in
+    let skip = c.args.skip.now in
     let all = IsWalk-all snap.tree c.args.who.now c.tree-tree.ensures.shape snap.limit (path_at snap.tree c.args.start.0) c.loop-id.invariant.0 c.loop-id.todo.items c.loop-id.invariant.1.walk (omega (arith, c.loop-id.todo.ok.0, c.in_default.ensures.cases)) in
-    omega (arith, c.loop-id.invariant.1.at_most, within_all deepest c.args.above _ _ all)
+    omega (arith, c.loop-id.invariant.1.exact, ticked_all (g.S.Skip.skips skip) snap.tree snap.limit (g.S.Skip.deepest skip) c.args.above _ _ all)
 
 pub returns-clause-exact : goal.returns-clause-exact
-returns-clause-exact g c = λ h.
+returns-clause-exact g c =
     let snap = c.args.snap.now in
-    let deepest = g.S.Skip.deepest c.args.skip.now in
+    let skip = c.args.skip.now in
     let all = IsWalk-all snap.tree c.args.who.now c.tree-tree.ensures.shape snap.limit (path_at snap.tree c.args.start.0) c.loop-id.invariant.0 c.loop-id.todo.items c.loop-id.invariant.1.walk (omega (arith, c.loop-id.todo.ok.0, c.in_default.ensures.cases)) in
-    omega (arith, c.loop-id.invariant.1.exact h, within_all deepest c.args.above _ _ all)
+    omega (arith, c.loop-id.invariant.1.exact, ticked_all (g.S.Skip.skips skip) snap.tree snap.limit (g.S.Skip.deepest skip) c.args.above _ _ all)
 
-pub returns-in_err-visit-clause-at_most : goal.returns-in_err-visit-clause-at_most
-returns-in_err-visit-clause-at_most g c =
+pub returns-in_err-passed-clause-at_most : goal.returns-in_err-passed-clause-at_most
+returns-in_err-passed-clause-at_most g c =
     let snap = c.args.snap.now in
     let inv = c.loop-id.invariant.1 in
-    let left = walk_left_within snap.tree snap.limit c.args.who.now c.tree-tree.ensures.shape (g.S.Skip.deepest c.args.skip.now) c.args.above _ c.requires.above _ _ _ _ inv.walk c.in-Some.ensures.items inv.within in
-    omega (arith, inv.at_most, c.visit.ensures.at_most, left)
+    let skip = c.args.skip.now in
+    let left = walk_left_within snap.tree snap.limit c.args.who.now c.tree-tree.ensures.shape (g.S.Skip.skips skip) (g.S.Skip.deepest skip) c.args.above _ c.requires.above _ _ _ _ inv.walk c.in-Some.ensures.items inv.within in
+    omega (arith, inv.exact, c.visit.ensures.exact, left)
 
 pub returns-in_err-push_next-clause-at_most : goal.returns-in_err-push_next-clause-at_most
 returns-in_err-push_next-clause-at_most g c =
     let snap = c.args.snap.now in
     let inv = c.loop-id.invariant.1 in
-    let left = walk_left_within snap.tree snap.limit c.args.who.now c.tree-tree.ensures.shape (g.S.Skip.deepest c.args.skip.now) c.args.above _ c.requires.above _ _ _ _ inv.walk c.in-Some.ensures.items inv.within in
-    omega (arith, inv.at_most, c.visit.ensures.at_most, left)
+    let skip = c.args.skip.now in
+    let left = walk_left_within snap.tree snap.limit c.args.who.now c.tree-tree.ensures.shape (g.S.Skip.skips skip) (g.S.Skip.deepest skip) c.args.above _ c.requires.above _ _ _ _ inv.walk c.in-Some.ensures.items inv.within in
+    omega (arith, inv.exact, c.in_ok-passed.ensures.exact, left)

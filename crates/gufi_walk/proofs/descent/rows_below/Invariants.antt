@@ -1,10 +1,10 @@
-use Rattle.std.proofs.Common.{◌≡◌, ◌+◌, ◌≤◌, true, false, List, length, filter}
+use Rattle.std.proofs.Common.{◌≡◌, ◌+◌, true, List, length, filter}
 use Rattle.std.specs.List.{AllByRecursion, flat_map}
 use Rattle.gufi_base.specs.Paths.{Components}
-use Rattle.gufi_sums.specs.declared.summary.Summary.{Summary}
 use Rattle.gufi_tree.specs.Places.{path_at}
 use Rattle.gufi_snap.specs.Pieces.{piece}
 use Rattle.gufi_walk.specs.Walk.{lies_within, meets}
+use Rattle.gufi_walk.proofs.Bounded.{ticked}
 use Rattle.gufi_walk.proofs.Walked.{IsWalk, fronts_at}
 use Rattle.gufi_walk.proofs.descent.rows_below.Given as goal
 
@@ -14,8 +14,7 @@ invariant-loop-id g l = (done : List Components) × record {
   walk : IsWalk l.snap.tree l.who l.snap.limit (path_at l.snap.tree l.fn.start.0) done l.todo.items;
   within : AllByRecursion (λ id. lies_within (g.S.Skip.deepest l.skip) l.above (path_at l.snap.tree id.0) ≡ true) l.todo.items;
   rows : g.Y.Yield.stands_for l.out (filter (meets (g.T.Tester.meets l.fn.tester) l.above) (flat_map (λ path. piece l.snap.tree path l.snap.limit) done));
-  at_most : l.steps ≤ l.fn.steps + length (filter (lies_within (g.S.Skip.deepest l.skip) l.above) done);
-  exact : ((sum : Summary) → g.S.Skip.skips l.skip sum ≡ false) → l.steps ≡ l.fn.steps + length (filter (lies_within (g.S.Skip.deepest l.skip) l.above) done);
+  exact : l.steps ≡ l.fn.steps + length (ticked (g.S.Skip.skips l.skip) l.snap.tree l.snap.limit (g.S.Skip.deepest l.skip) l.above done);
 }
 
 abbrev pub decreases-loop-id : goal.decreases-loop-id

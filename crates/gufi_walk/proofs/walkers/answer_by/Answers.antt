@@ -12,13 +12,13 @@ use Rattle.gufi_walk.proofs.walkers.answer_by.Goals as goal
 
 pub run_pool-requires-clause-shape : goal.run_pool-requires-clause-shape
 run_pool-requires-clause-shape g c κs within =
-    walk_shape c.args.snap.now.tree c.args.who.now c.tree.ensures.shape c.args.snap.now.limit c.grain_for-grain.result c.args.start.0 c.requires.start c.requires.listed
+    walk_shape c.args.snap.now.tree c.args.who.now c.tree.ensures.shape (g.S.Skip.skips c.args.skip.now) c.args.snap.now.limit c.grain_for-grain.result c.args.start.0 c.requires.start c.requires.listed
 
 pub rows_of_pieces-requires : goal.rows_of_pieces-requires
 rows_of_pieces-requires g c =
     let snap = c.args.snap.now in
     let grain = c.grain_for-grain.result in
-    let rows_of : ℕ → List Row = task_rows snap.tree c.args.who.now snap.limit grain (meets (g.P.Pred.sat c.args.pred.now) c.depth_of-above.result) in
+    let rows_of : ℕ → List Row = task_rows (g.S.Skip.skips c.args.skip.now) snap.tree c.args.who.now snap.limit grain (meets (g.P.Pred.sat c.args.pred.now) c.depth_of-above.result) in
     let once = c.in_ok-pieces.ensures.once in
     let are = chunks_tasks (λ piece. piece.items) g.Y.Yield.stands_for rows_of c.in_ok-pieces.pieces.items once.lists once.each in (
       rows_of,
@@ -26,7 +26,7 @@ rows_of_pieces-requires g c =
       omega (
         arith,
         ap (λ l. length (flat_map rows_of l)) are,
-        tasks_few snap.tree c.args.who.now c.tree.ensures.shape snap.limit grain c.args.start.0 c.requires.start c.requires.listed _ once.allowed once.balanced (meets (g.P.Pred.sat c.args.pred.now) c.depth_of-above.result),
+        tasks_few snap.tree c.args.who.now c.tree.ensures.shape (g.S.Skip.skips c.args.skip.now) snap.limit grain c.args.start.0 c.requires.start c.requires.listed _ once.allowed once.balanced (meets (g.P.Pred.sat c.args.pred.now) c.depth_of-above.result),
         c.tree.ensures.few,
       ),
     )
@@ -36,7 +36,7 @@ returns g c =
     let snap = c.args.snap.now in
     let grain = c.grain_for-grain.result in
     let sat = g.P.Pred.sat c.args.pred.now in
-    let rows_of : ℕ → List Row = task_rows snap.tree c.args.who.now snap.limit grain (meets sat c.depth_of-above.result) in
+    let rows_of : ℕ → List Row = task_rows (g.S.Skip.skips c.args.skip.now) snap.tree c.args.who.now snap.limit grain (meets sat c.depth_of-above.result) in
     let once = c.in_ok-pieces.ensures.once in
     let are = chunks_tasks (λ piece. piece.items) g.Y.Yield.stands_for rows_of c.in_ok-pieces.pieces.items once.lists once.each in
     let above : c.depth_of-above.result ≡ length (path_at snap.tree c.args.start.0) = c.depth_of-above.ensures ∙ ap (λ (ds : List Directory). length (path_at ds c.args.start.0)) c.tree.ensures.tree in
@@ -44,6 +44,6 @@ returns g c =
     (λ y h.
     let got = subst (λ l. g.Y.Yield.stands_for y (flat_map rows_of l)) are (h rows_of (chunks_rows (λ piece. piece.items) g.Y.Yield.stands_for rows_of c.in_ok-pieces.pieces.items once.lists once.each)) in
     (g.met.Y.Yield g.world.𝓛 g.world.𝓜 g.world.𝓡 (λ s x. x, λ x. x, λ x. x, λ x. x)).reordered y _ (answer snap.tree c.args.who.now (path_at snap.tree c.args.start.0) sat)
-    (tasks_answer snap.tree c.args.who.now c.tree.ensures.shape snap.limit grain c.args.start.0 c.requires.start c.requires.listed _ once.allowed once.balanced sat)
-    (subst (λ n. g.Y.Yield.stands_for y (flat_map (task_rows snap.tree c.args.who.now snap.limit grain (meets sat n)) (concat once.lists))) above got))
+    (tasks_answer snap.tree c.args.who.now c.tree.ensures.shape (g.S.Skip.skips c.args.skip.now) snap.limit grain c.args.start.0 c.requires.start c.requires.listed _ once.allowed once.balanced sat)
+    (subst (λ n. g.Y.Yield.stands_for y (flat_map (task_rows (g.S.Skip.skips c.args.skip.now) snap.tree c.args.who.now snap.limit grain (meets sat n)) (concat once.lists))) above got))
     c.rows_of_pieces.ensures

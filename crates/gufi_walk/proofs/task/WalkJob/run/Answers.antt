@@ -12,4 +12,4 @@ push_kids-requires g c =
 pub returns-clause-piece : goal.returns-clause-piece
 returns-clause-piece g c = λ ran are.
     let w = c.args.self.now in
-    chunks_more g.Y.Yield.stands_for (task_rows w.snap.now.tree w.who.now w.snap.now.limit w.grain (meets (g.P.Pred.sat w.pred.now) w.above)) c.args.piece.now.items c.push.new.self.items _ ran are c.in_ok-rows.ensures c.in_ok-push.ensures.items
+    chunks_more g.Y.Yield.stands_for (task_rows (g.S.Skip.skips w.skip.now) w.snap.now.tree w.who.now w.snap.now.limit w.grain (meets (g.P.Pred.sat w.pred.now) w.above)) c.args.piece.now.items c.push.new.self.items _ ran are c.in_ok-rows.ensures c.in_ok-push.ensures.items
