@@ -1,2 +1,3 @@
 pub mod GroupLemmas
 pub mod LineLemmas
+pub mod Marking

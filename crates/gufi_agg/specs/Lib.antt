@@ -2,5 +2,8 @@ pub mod Aggs
 pub mod Faults
 pub mod Grouped
 pub mod Letters
+pub mod Heads
+pub mod Marks
 pub mod Reading
+pub mod Tails
 pub mod Texts

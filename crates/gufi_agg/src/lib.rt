@@ -7,7 +7,11 @@
 mod agg;
 mod fault;
 mod groups;
+mod head;
+mod mark;
+mod placed;
 mod reading;
+mod tail;
 mod text;
 
 pub use agg::{Agg, AggKey, Item};

@@ -4,6 +4,8 @@
 #![tactic(auto)]
 
 #[cfg(test)]
+mod agg_tests;
+#[cfg(test)]
 mod asking;
 #[cfg(test)]
 mod find_tests;

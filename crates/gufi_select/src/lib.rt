@@ -27,3 +27,4 @@ pub use laws::{conditions_read_back, hints_tell_conditions};
 pub use projection::{SelectLine, select_text};
 pub use reading::read_select;
 pub use select::{Select, SelectQuestion, SelectTester};
+pub use token::{Front, Sign, Token, front_token, is_blank, word_front};

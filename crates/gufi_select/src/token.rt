@@ -8,6 +8,7 @@ use crate::word::{Word, word_of};
 use gufi_base::{Bytes, read_u64};
 use std::alloc::{AllocError, Global};
 
+/// A sign of the grammar.
 #[derive(Clone, Copy)]
 pub enum Sign {
     Comma,
@@ -19,8 +20,10 @@ pub enum Sign {
     Compare(Operator),
 }
 
+/// What begins at a byte that is no blank.
 #[derive(Drop)]
 pub enum Token {
+    /// Letters, digits and `_`, the first of which is no digit.
     Word(Word),
     /// The number, where it has at most 64 bits.
     Digits(Option<u64>),
@@ -48,7 +51,7 @@ pub struct Quoted {
 }
 
 /// Whether a byte separates tokens.
-pub(crate) fn is_blank(byte: u8) -> bool
+pub fn is_blank(byte: u8) -> bool
     ensures { result ≡ is_blank byte }
 {
     byte == b' ' || byte == b'\t' || byte == b'\n'
@@ -73,8 +76,7 @@ fn is_word_byte(byte: u8) -> bool
 }
 
 /// The letters, digits and `_` at the front.
-
-fn word_front(bytes: &[u8]) -> &[u8]
+pub fn word_front(bytes: &[u8]) -> &[u8]
     ensures { result.now ≡ take_while is_word_byte bytes.now }
 {
     let mut size = 0;
@@ -204,7 +206,9 @@ fn text_at(alloc: Global, rest: &[u8]) -> Result<Front, AllocError>
 }
 
 /// The token that a byte begins, which is the first of these bytes; the others follow it.
-pub(crate) fn front_token(
+///
+/// Memory for a text alone. Time in proportion to the token's bytes.
+pub fn front_token(
     alloc: Global,
     first: u8,
     rest: &[u8],
