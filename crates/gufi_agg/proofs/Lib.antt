@@ -1,3 +1,3 @@
 pub mod GroupLemmas
 pub mod LineLemmas
-pub mod Marking
+pub mod TokenSteps

@@ -10,11 +10,11 @@ use Rattle.gufi_agg.specs.declared.fault.AggError.TheVariants.{Fault}
 use Rattle.gufi_agg.specs.declared.fault.AggKind.TheVariants as kinds
 use Rattle.gufi_agg.specs.declared.head.HeadPlace.{HeadPlace}
 use Rattle.gufi_agg.specs.declared.head.HeadPlace.TheVariants as places
-use Rattle.gufi_agg.specs.declared.mark.Function.{Function}
-use Rattle.gufi_agg.specs.declared.mark.Function.TheVariants as functions
-use Rattle.gufi_agg.specs.declared.mark.Mark.{Mark}
-use Rattle.gufi_agg.specs.declared.mark.Mark.TheVariants as marks
-use Rattle.gufi_agg.specs.declared.mark.Placed.{Placed}
+use Rattle.gufi_agg.specs.declared.token.Function.{Function}
+use Rattle.gufi_agg.specs.declared.token.Function.TheVariants as functions
+use Rattle.gufi_agg.specs.declared.token.AggToken.{AggToken}
+use Rattle.gufi_agg.specs.declared.token.AggToken.TheVariants as agg_tokens
+use Rattle.gufi_agg.specs.declared.token.Placed.{Placed}
 
 -- what is wanted next, the key and its offset, and the items that were read
 pub record Head : Type 0 where
@@ -27,30 +27,30 @@ abbrev pub head_fault : ℕ → AggError
 head_fault offset = Fault (capped_number offset) kinds.Head
 
 -- what a function of `*` or of a column is
-abbrev pub item_of : Function → Mark → Option Item
-item_of functions.Count marks.Star = Some «items».Count
-item_of functions.Sum marks.Size = Some «items».SumSize
-item_of functions.Min marks.Size = Some «items».MinSize
-item_of functions.Max marks.Size = Some «items».MaxSize
-item_of functions.Min marks.Mtime = Some «items».MinMtime
-item_of functions.Max marks.Mtime = Some «items».MaxMtime
-item_of function mark = None
+abbrev pub item_of : Function → AggToken → Option Item
+item_of functions.Count agg_tokens.Star = Some «items».Count
+item_of functions.Sum agg_tokens.Size = Some «items».SumSize
+item_of functions.Min agg_tokens.Size = Some «items».MinSize
+item_of functions.Max agg_tokens.Size = Some «items».MaxSize
+item_of functions.Min agg_tokens.Mtime = Some «items».MinMtime
+item_of functions.Max agg_tokens.Mtime = Some «items».MaxMtime
+item_of function token = None
 
 -- what is wanted behind a token, where it is allowed
-abbrev pub next_place : HeadPlace → Mark → Option HeadPlace
-next_place places.SelectWord marks.Select = Some places.Key
-next_place places.Key (marks.Key key) = Some places.CommaOrFrom
-next_place places.CommaOrFrom marks.Comma = Some places.Function
-next_place places.Function (marks.Function function) = Some (places.Open function)
-next_place (places.Open function) marks.Open = Some (places.Argument function)
-next_place (places.Argument function) mark = option_map places.Close (item_of function mark)
-next_place (places.Close item) marks.Close = Some places.CommaOrFrom
-next_place place mark = None
+abbrev pub next_place : HeadPlace → AggToken → Option HeadPlace
+next_place places.SelectWord agg_tokens.Select = Some places.Key
+next_place places.Key (agg_tokens.Key key) = Some places.CommaOrFrom
+next_place places.CommaOrFrom agg_tokens.Comma = Some places.Function
+next_place places.Function (agg_tokens.Function function) = Some (places.Open function)
+next_place (places.Open function) agg_tokens.Open = Some (places.Argument function)
+next_place (places.Argument function) token = option_map places.Close (item_of function token)
+next_place (places.Close item) agg_tokens.Close = Some places.CommaOrFrom
+next_place place token = None
 
 -- the key is read with its offset
-abbrev pub with_key : Placed → Mark → Head → Head
-with_key p (marks.Key key) head = record head { key = key; key_at = p.offset }
-with_key p mark head = head
+abbrev pub with_key : Placed → AggToken → Head → Head
+with_key p (agg_tokens.Key key) head = record head { key = key; key_at = p.offset }
+with_key p token head = head
 
 -- an item is read with its `)`
 abbrev pub with_item : HeadPlace → Head → Head
@@ -58,11 +58,11 @@ with_item (places.Close item) head = record head { items = head.items ++ item �
 with_item place head = head
 
 abbrev pub head_behind : Head → Placed → Option HeadPlace → Result Head AggError
-head_behind head p (Some place) = Ok (record (with_key p p.mark (with_item head.place head)) { place = place })
+head_behind head p (Some place) = Ok (record (with_key p p.token (with_item head.place head)) { place = place })
 head_behind head p None = Err (head_fault p.offset)
 
-abbrev pub read_mark : Head → Placed → Result Head AggError
-read_mark head p = head_behind head p (next_place head.place p.mark)
+abbrev pub read_token : Head → Placed → Result Head AggError
+read_token head p = head_behind head p (next_place head.place p.token)
 
 -- FROM is allowed behind the key and behind an item
 abbrev pub may_end : HeadPlace → Bool
@@ -70,12 +70,12 @@ may_end places.CommaOrFrom = true
 may_end place = false
 
 -- the tokens before FROM, where that or the stop of reading has an offset
-abbrev pub read_marks : ℕ → Head → List Placed → Result Head AggError
-read_marks end head [] = if may_end head.place then Ok head else Err (head_fault end)
-read_marks end head (p ∷ rest) = read_mark head p >>= λ next. read_marks end next rest
+abbrev pub read_tokens : ℕ → Head → List Placed → Result Head AggError
+read_tokens end head [] = if may_end head.place then Ok head else Err (head_fault end)
+read_tokens end head (p ∷ rest) = read_token head p >>= λ next. read_tokens end next rest
 
 abbrev pub head_start : Head
 head_start = record { place = places.SelectWord; key = Uid; key_at = 0; items = [] }
 
 abbrev pub read_head : ℕ → List Placed → Result Head AggError
-read_head end placed = read_marks end head_start placed
+read_head end placed = read_tokens end head_start placed

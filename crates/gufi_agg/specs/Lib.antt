@@ -1,9 +1,9 @@
+pub mod AggTokens
 pub mod Aggs
 pub mod Faults
 pub mod Grouped
-pub mod Letters
 pub mod Heads
-pub mod Marks
+pub mod Letters
 pub mod Reading
 pub mod Tails
 pub mod Texts

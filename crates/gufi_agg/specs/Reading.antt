@@ -11,11 +11,11 @@ use Rattle.gufi_agg.specs.declared.agg.AggKey.TheVariants.{Uid, Gid, Letter, Lev
 use Rattle.gufi_agg.specs.declared.fault.AggKind.TheVariants.{Inner}
 use Rattle.gufi_agg.specs.declared.fault.AggError.{AggError}
 use Rattle.gufi_agg.specs.declared.fault.AggError.TheVariants.{Fault, Memory}
-use Rattle.gufi_agg.specs.declared.mark.Placed.{Placed}
+use Rattle.gufi_agg.specs.declared.token.Placed.{Placed}
 use Rattle.gufi_agg.specs.declared.tail.Ends.{Ends}
 use Rattle.gufi_agg.specs.Aggs.{Agg}
 use Rattle.gufi_agg.specs.Heads.{Head, head_fault, read_head}
-use Rattle.gufi_agg.specs.Marks.{placed_in, stop_in, count_before, is_from}
+use Rattle.gufi_agg.specs.AggTokens.{placed_in, stop_in, count_before, is_from}
 use Rattle.gufi_agg.specs.Tails.{read_tail}
 
 -- how many letters a key has

@@ -6,11 +6,11 @@ use Rattle.gufi_agg.specs.declared.agg.AggKey.TheVariants.{Uid, Gid, Letter, Lev
 use Rattle.gufi_agg.specs.declared.fault.AggError.{AggError}
 use Rattle.gufi_agg.specs.declared.fault.AggError.TheVariants.{Fault}
 use Rattle.gufi_agg.specs.declared.fault.AggKind.TheVariants.{Tail}
-use Rattle.gufi_agg.specs.declared.mark.Mark.{Mark}
-use Rattle.gufi_agg.specs.declared.mark.Mark.TheVariants as marks
-use Rattle.gufi_agg.specs.declared.mark.Placed.{Placed}
+use Rattle.gufi_agg.specs.declared.token.AggToken.{AggToken}
+use Rattle.gufi_agg.specs.declared.token.AggToken.TheVariants as agg_tokens
+use Rattle.gufi_agg.specs.declared.token.Placed.{Placed}
 use Rattle.gufi_agg.specs.declared.tail.Ends.{Ends}
-use Rattle.gufi_agg.specs.Marks.{count_before, is_group, is_by, is_semicolon}
+use Rattle.gufi_agg.specs.AggTokens.{count_before, is_group, is_by, is_semicolon}
 
 abbrev pub tail_fault : ℕ → AggError
 tail_fault offset = Fault (capped_number offset) Tail
@@ -22,9 +22,9 @@ same_key Letter Letter = true
 same_key Level Level = true
 same_key key other = false
 
-abbrev pub is_key : AggKey → Mark → Bool
-is_key key (marks.Key other) = same_key key other
-is_key key mark = false
+abbrev pub is_key : AggKey → AggToken → Bool
+is_key key (agg_tokens.Key other) = same_key key other
+is_key key token = false
 
 -- ---- the tokens behind GROUP: the first that isn't allowed has the fault, or else the stop of reading, unless that is the text's end
 
@@ -37,22 +37,22 @@ behind_semicolon ends (p ∷ rest) = Err (tail_fault p.offset)
 
 abbrev pub behind_key : Ends → List Placed → Result (Unit {0}) AggError
 behind_key ends [] = at_end ends
-behind_key ends (p ∷ rest) = if is_semicolon p.mark then behind_semicolon ends rest else Err (tail_fault p.offset)
+behind_key ends (p ∷ rest) = if is_semicolon p.token then behind_semicolon ends rest else Err (tail_fault p.offset)
 
 abbrev pub behind_by : AggKey → Ends → List Placed → Result (Unit {0}) AggError
 behind_by key ends [] = Err (tail_fault ends.stop)
-behind_by key ends (p ∷ rest) = if is_key key p.mark then behind_key ends rest else Err (tail_fault p.offset)
+behind_by key ends (p ∷ rest) = if is_key key p.token then behind_key ends rest else Err (tail_fault p.offset)
 
 abbrev pub behind_group : AggKey → Ends → List Placed → Result (Unit {0}) AggError
 behind_group key ends [] = Err (tail_fault ends.stop)
-behind_group key ends (p ∷ rest) = if is_by p.mark then behind_by key ends rest else Err (tail_fault p.offset)
+behind_group key ends (p ∷ rest) = if is_by p.token then behind_by key ends rest else Err (tail_fault p.offset)
 
 -- ---- the first GROUP
 
 -- a `;` right before GROUP has the fault
 abbrev pub before_group : Option Placed → Result (Unit {0}) AggError
 before_group None = Ok tt
-before_group (Some p) = refuse (is_semicolon p.mark) (tail_fault p.offset)
+before_group (Some p) = refuse (is_semicolon p.token) (tail_fault p.offset)
 
 abbrev pub at_group : AggKey → Ends → Option Placed → List Placed → Result ℕ AggError
 at_group key ends before [] = Err (tail_fault ends.whole)

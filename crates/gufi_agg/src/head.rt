@@ -1,11 +1,11 @@
 //! What an agg says up to FROM.
 ghost use Rattle.std.specs.Prelude.{◌≡◌, IfOk};
 ghost use Rattle.gufi_agg.specs.Faults.{Tells};
-ghost use Rattle.gufi_agg.specs.Heads.{Head, head_fault, item_of, next_place, with_key, with_item, read_mark, may_end, head_start, read_head};
+ghost use Rattle.gufi_agg.specs.Heads.{Head, head_fault, item_of, next_place, with_key, with_item, read_token, may_end, head_start, read_head};
 
 use crate::agg::{AggKey, Item};
 use crate::fault::{AggError, AggKind};
-use crate::mark::{Function, Mark, Placed};
+use crate::token::{AggToken, Function, Placed};
 use gufi_base::capped_u32;
 use std::alloc::{AllocError, Global};
 use std::marker::Model;
@@ -50,35 +50,35 @@ pub(crate) fn head_fault(offset: usize) -> AggError
     }
 }
 
-fn item_of(function: Function, mark: Mark) -> Option<Item>
-    ensures { result ≡ item_of function mark }
+fn item_of(function: Function, token: AggToken) -> Option<Item>
+    ensures { result ≡ item_of function token }
 {
-    match (function, mark) {
-        (Function::Count, Mark::Star) => Some(Item::Count),
-        (Function::Sum, Mark::Size) => Some(Item::SumSize),
-        (Function::Min, Mark::Size) => Some(Item::MinSize),
-        (Function::Max, Mark::Size) => Some(Item::MaxSize),
-        (Function::Min, Mark::Mtime) => Some(Item::MinMtime),
-        (Function::Max, Mark::Mtime) => Some(Item::MaxMtime),
+    match (function, token) {
+        (Function::Count, AggToken::Star) => Some(Item::Count),
+        (Function::Sum, AggToken::Size) => Some(Item::SumSize),
+        (Function::Min, AggToken::Size) => Some(Item::MinSize),
+        (Function::Max, AggToken::Size) => Some(Item::MaxSize),
+        (Function::Min, AggToken::Mtime) => Some(Item::MinMtime),
+        (Function::Max, AggToken::Mtime) => Some(Item::MaxMtime),
         _ => None,
     }
 }
 
 /// What is wanted behind a token, where it is allowed.
-fn next_place(place: HeadPlace, mark: Mark) -> Option<HeadPlace>
-    ensures { result ≡ next_place place mark }
+fn next_place(place: HeadPlace, token: AggToken) -> Option<HeadPlace>
+    ensures { result ≡ next_place place token }
 {
-    match (place, mark) {
-        (HeadPlace::SelectWord, Mark::Select) => Some(HeadPlace::Key),
-        (HeadPlace::Key, Mark::Key(_)) => Some(HeadPlace::CommaOrFrom),
-        (HeadPlace::CommaOrFrom, Mark::Comma) => Some(HeadPlace::Function),
-        (HeadPlace::Function, Mark::Function(function)) => Some(HeadPlace::Open(function)),
-        (HeadPlace::Open(function), Mark::Open) => Some(HeadPlace::Argument(function)),
-        (HeadPlace::Argument(function), mark) => match item_of(function, mark) {
+    match (place, token) {
+        (HeadPlace::SelectWord, AggToken::Select) => Some(HeadPlace::Key),
+        (HeadPlace::Key, AggToken::Key(_)) => Some(HeadPlace::CommaOrFrom),
+        (HeadPlace::CommaOrFrom, AggToken::Comma) => Some(HeadPlace::Function),
+        (HeadPlace::Function, AggToken::Function(function)) => Some(HeadPlace::Open(function)),
+        (HeadPlace::Open(function), AggToken::Open) => Some(HeadPlace::Argument(function)),
+        (HeadPlace::Argument(function), token) => match item_of(function, token) {
             Some(item) => Some(HeadPlace::Close(item)),
             None => None,
         },
-        (HeadPlace::Close(_), Mark::Close) => Some(HeadPlace::CommaOrFrom),
+        (HeadPlace::Close(_), AggToken::Close) => Some(HeadPlace::CommaOrFrom),
         _ => None,
     }
 }
@@ -144,9 +144,9 @@ impl Head {
 
     /// The key is read with its offset.
     fn with_key(self, placed: Placed) -> Head
-        ensures { result ≡ with_key placed placed.mark self }
+        ensures { result ≡ with_key placed placed.token self }
     {
-        let Mark::Key(key) = placed.mark else {
+        let AggToken::Key(key) = placed.token else {
             return self;
         };
         Head {
@@ -158,10 +158,10 @@ impl Head {
     }
 
     /// Behind the next token.
-    fn with_mark(self, placed: Placed) -> Result<Head, AggError>
-        ensures { Tells result (read_mark self placed) }
+    fn with_token(self, placed: Placed) -> Result<Head, AggError>
+        ensures { Tells result (read_token self placed) }
     {
-        let Some(place) = next_place(self.place, placed.mark) else {
+        let Some(place) = next_place(self.place, placed.token) else {
             return Err(head_fault(placed.offset));
         };
         let head = self.with_item()?;
@@ -182,7 +182,7 @@ pub(crate) fn read_head(alloc: Global, end: usize, placed: &[Placed]) -> Result<
 {
     let mut head = Head::new(alloc);
     'tokens: for token in placed {
-        head = match head.with_mark(*token) {
+        head = match head.with_token(*token) {
             Ok(next) => next,
             Err(error) => return Err(error),
         };

@@ -8,11 +8,11 @@ mod agg;
 mod fault;
 mod groups;
 mod head;
-mod mark;
 mod placed;
 mod reading;
 mod tail;
 mod text;
+mod token;
 
 pub use agg::{Agg, AggKey, Item};
 pub use fault::{AggError, AggKind};

@@ -1,9 +1,9 @@
 //! The tokens of an agg, with their offsets.
 ghost use Rattle.std.specs.Prelude.{◌≡◌, IfOk};
 ghost use Rattle.gufi_select.specs.Tokens.{tokens};
-ghost use Rattle.gufi_agg.specs.Marks.{placed_in, stop_in};
+ghost use Rattle.gufi_agg.specs.AggTokens.{placed_in, stop_in};
 
-use crate::mark::{Placed, mark_of, stops};
+use crate::token::{Placed, agg_token_of, stops};
 use gufi_base::{behind, split_first};
 use gufi_select::{front_token, is_blank};
 use std::alloc::{AllocError, Global};
@@ -37,7 +37,7 @@ pub(crate) fn tokens_of(alloc: Global, text: &[u8]) -> Result<Tokens, AllocError
         }
         placed.push(Placed {
             offset,
-            mark: mark_of(&front.token, rest),
+            token: agg_token_of(&front.token, rest),
         })?;
         rest = behind(others, front.size.saturating_sub(1));
     }

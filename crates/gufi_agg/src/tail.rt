@@ -4,7 +4,7 @@ ghost use Rattle.gufi_agg.specs.Tails.{tail_fault, same_key, is_key, at_end, beh
 
 use crate::agg::AggKey;
 use crate::fault::{AggError, AggKind};
-use crate::mark::{Mark, Placed, count_before_group, is_by, is_semicolon};
+use crate::token::{AggToken, Placed, count_before_group, is_by, is_semicolon};
 use gufi_base::{behind, capped_u32, split_first};
 
 /// Where reading stopped, and the text's length, in bytes.
@@ -35,11 +35,11 @@ fn same_key(key: AggKey, other: AggKey) -> bool
     }
 }
 
-fn is_key(key: AggKey, mark: Mark) -> bool
-    ensures { result ≡ is_key key mark }
+fn is_key(key: AggKey, token: AggToken) -> bool
+    ensures { result ≡ is_key key token }
 {
-    match mark {
-        Mark::Key(other) => same_key(key, other),
+    match token {
+        AggToken::Key(other) => same_key(key, other),
         _ => false,
     }
 }
@@ -60,7 +60,7 @@ fn behind_semicolon(ends: Ends, placed: &[Placed]) -> Result<(), AggError>
 {
     match split_first(placed) {
         None => at_end(ends),
-        Some((token, _)) => Err(tail_fault(token.offset)),
+        Some((first, _)) => Err(tail_fault(first.offset)),
     }
 }
 
@@ -69,8 +69,8 @@ fn behind_key(ends: Ends, placed: &[Placed]) -> Result<(), AggError>
 {
     match split_first(placed) {
         None => at_end(ends),
-        Some((token, rest)) if is_semicolon(token.mark) => behind_semicolon(ends, rest),
-        Some((token, _)) => Err(tail_fault(token.offset)),
+        Some((first, rest)) if is_semicolon(first.token) => behind_semicolon(ends, rest),
+        Some((first, _)) => Err(tail_fault(first.offset)),
     }
 }
 
@@ -79,8 +79,8 @@ fn behind_by(key: AggKey, ends: Ends, placed: &[Placed]) -> Result<(), AggError>
 {
     match split_first(placed) {
         None => Err(tail_fault(ends.stop)),
-        Some((token, rest)) if is_key(key, token.mark) => behind_key(ends, rest),
-        Some((token, _)) => Err(tail_fault(token.offset)),
+        Some((first, rest)) if is_key(key, first.token) => behind_key(ends, rest),
+        Some((first, _)) => Err(tail_fault(first.offset)),
     }
 }
 
@@ -90,8 +90,8 @@ fn behind_group(key: AggKey, ends: Ends, placed: &[Placed]) -> Result<(), AggErr
 {
     match split_first(placed) {
         None => Err(tail_fault(ends.stop)),
-        Some((token, rest)) if is_by(token.mark) => behind_by(key, ends, rest),
-        Some((token, _)) => Err(tail_fault(token.offset)),
+        Some((first, rest)) if is_by(first.token) => behind_by(key, ends, rest),
+        Some((first, _)) => Err(tail_fault(first.offset)),
     }
 }
 
@@ -100,7 +100,7 @@ fn before_group(placed: &[Placed]) -> Result<(), AggError>
     ensures { result ≡ before_group (last_of placed.now) }
 {
     match placed.last() {
-        Some(token) if is_semicolon(token.mark) => Err(tail_fault(token.offset)),
+        Some(last) if is_semicolon(last.token) => Err(tail_fault(last.offset)),
         _ => Ok(()),
     }
 }

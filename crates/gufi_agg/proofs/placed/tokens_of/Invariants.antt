@@ -1,5 +1,5 @@
 use Rattle.std.proofs.Common.{length}
-use Rattle.gufi_agg.proofs.Marking.{Led}
+use Rattle.gufi_agg.proofs.TokenSteps.{Led}
 use Rattle.gufi_agg.proofs.placed.tokens_of.Given as goal
 
 abbrev pub invariant-bytes : goal.invariant-bytes

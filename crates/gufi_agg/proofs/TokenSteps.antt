@@ -5,8 +5,8 @@ use Rattle.std.specs.Prelude.{min}
 use Rattle.gufi_select.specs.declared.token.Front.{Front}
 use Rattle.gufi_select.specs.Tokens.{PlacedToken, is_blank, front_token, tokens_from, tokens}
 use Rattle.gufi_select.proofs.TokenLemmas.{tokens_behind, blank_read, token_read}
-use Rattle.gufi_agg.specs.declared.mark.Placed.{Placed}
-use Rattle.gufi_agg.specs.Marks.{mark_of, stops, placed_at, placed_in, stop_in}
+use Rattle.gufi_agg.specs.declared.token.Placed.{Placed}
+use Rattle.gufi_agg.specs.AggTokens.{agg_token_of, stops, placed_at, placed_in, stop_in}
 
 -- the tokens before the rest are these, and reading goes on there
 pub record Led (text : List ℕ) (placed : List Placed) (rest : List ℕ) : Type 0 where
@@ -80,7 +80,7 @@ stop_cons text token rest is = rw (stop_in, is) refl
 
 -- the token at these bytes as it is kept
 abbrev pub kept_here : List ℕ → List ℕ → Front → Placed
-kept_here text bytes front = record { offset = length text - length bytes; mark = mark_of front.token bytes }
+kept_here text bytes front = record { offset = length text - length bytes; token = agg_token_of front.token bytes }
 
 abbrev GoesOn : List ℕ → List Placed → List ℕ → ℕ → Front → List ℕ → Type 0
 GoesOn text placed rest b front bytes =
@@ -91,7 +91,7 @@ led_on text placed rest b front word made on led =
     let bytes = b ∷ rest in
     let behind = here text (drop (front.size - 1) rest) in
     let same = one_here b text rest front led.within word made in
-    let kept : placed_at text (token_here text bytes front) ≡ kept_here text bytes front = ap (λ l. record { offset = length text - length bytes; mark = mark_of front.token l }) led.suffix in
+    let kept : placed_at text (token_here text bytes front) ≡ kept_here text bytes front = ap (λ l. record { offset = length text - length bytes; token = agg_token_of front.token l }) led.suffix in
     let less = within_behind 1 text bytes led.within in
     let suffix = suffix_behind 1 text bytes led.suffix led.within in
     record {
