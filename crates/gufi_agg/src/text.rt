@@ -60,12 +60,7 @@ fn put_line(out: &mut Vec<u8>, agg: &Agg, above: u32, group: &Group) -> Result<(
 
 /// A line for each group: its number and its items, a tab between each. `above` says how many names stand above the start.
 #[tactic(auto, unfolding(crate::specs::Texts::agg_text))]
-pub fn agg_text(
-    alloc: Global,
-    groups: &[Group],
-    agg: &Agg,
-    above: u32,
-) -> Result<Vec<u8>, Memory>
+pub fn agg_text(alloc: Global, groups: &[Group], agg: &Agg, above: u32) -> Result<Vec<u8>, Memory>
     requires letters { agg.now.key ≡ AggKey.Letter → All (λ group. group.key < 256) groups.now }
     ensures { IfOk result (λ text. text.items ≡ agg_text agg.now above groups.now) }
 {

@@ -6,8 +6,8 @@ ghost use Rattle.gufi_stats.specs.Grouped.{grouped, rows_counted};
 ghost use Rattle.gufi_stats.specs.GroupLaws.{grouped-counted, grouped-reordered};
 ghost use Rattle.gufi_stats.specs.Reports.{by_key};
 
-use crate::sums::NumberSums;
 use crate::number::RowNumber;
+use crate::sums::NumberSums;
 use gufi_base::{Memory, RowRef, Yield};
 use std::alloc::Global;
 use std::marker::{Model, PhantomData};
