@@ -12,15 +12,19 @@ use gufi_select::Select;
 use std::alloc::Global;
 
 /// Passes over rows for which an expression can't be true: by their sum, and by its bound of depth.
-pub fn find_pruner(_alloc: Global, _expression: &FindExpr) -> Result<Pruner, Memory>
-    ensures { IfOk result (λ pruner. (row : Row) (depth : ℕ) → find_holds _expression.now row depth ≡ true → may_meet_at pruner row depth ≡ true) }
+pub fn find_pruner(alloc: Global, expression: &FindExpr) -> Result<Pruner, Memory>
+    ensures { IfOk result (λ pruner. (row : Row) (depth : ℕ) → find_holds expression.now row depth ≡ true → may_meet_at pruner row depth ≡ true) }
 {
-    Err(Memory)
+    let hints = expression.hints(alloc)?;
+    let pruner = Pruner::of(alloc, hints)?;
+    Ok(pruner.no_deeper(expression.max_depth()))
 }
 
 /// Passes over rows that a SELECT can't choose: by their sum, and by its comparisons of `level`.
-pub fn select_pruner(_alloc: Global, _select: &Select) -> Result<Pruner, Memory>
-    ensures { IfOk result (λ pruner. (row : Row) (depth : ℕ) → select_holds _select.now row depth ≡ true → may_meet_at pruner row depth ≡ true) }
+pub fn select_pruner(alloc: Global, select: &Select) -> Result<Pruner, Memory>
+    ensures { IfOk result (λ pruner. (row : Row) (depth : ℕ) → select_holds select.now row depth ≡ true → may_meet_at pruner row depth ≡ true) }
 {
-    Err(Memory)
+    let hints = select.hints(alloc)?;
+    let pruner = Pruner::of(alloc, hints)?;
+    Ok(pruner.no_deeper(select.max_depth()))
 }
