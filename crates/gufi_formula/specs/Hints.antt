@@ -1,8 +1,9 @@
 -- Formulas as hints in postfix order: tests that sums can bound, others, and the signs behind their operands.
-use Rattle.std.specs.Prelude.{◌≡◌, ℕ, Bool, true, not, ◌==◌, ◌&&◌, ◌||◌, nat_le, int_le, List, [], ◌∷◌, ◌++◌, Option, Some, None}
+use Rattle.std.specs.Prelude.{◌≡◌, ℕ, Bool, true, not, ◌==◌, ◌&&◌, ◌||◌, nat_le, nat_lt, int_le, ◌^◌, List, [], ◌∷◌, ◌++◌, Option, Some, None, if◌then◌else◌}
 use Rattle.gufi_base.specs.declared.record.Meta.{Meta}
 use Rattle.gufi_base.specs.declared.record.Row.{Row}
-use Rattle.gufi_base.specs.Kinds.{kind_letter}
+use Rattle.gufi_base.specs.Kinds.{kind_letter, is_file}
+use Rattle.gufi_base.specs.Rows.{fits_i64}
 use Rattle.gufi_base.specs.declared.hint.Hint.{Hint}
 use Rattle.gufi_base.specs.declared.hint.Hint.TheVariants.{Kind, SizeIn, MtimeIn, UidIn, GidIn, Not, And, Or}
 use Rattle.gufi_formula.specs.Formulas.{Formula, test, negation, both, either}
@@ -84,6 +85,19 @@ abbrev pub chance_or : (Hint → Chance) → Option (Formula Hint) → Chance
 chance_or leaf None = record { holds = true; fails = true }
 chance_or leaf (Some f) = chance leaf f
 
--- Some choice of true or false for each unknown hint makes the list true at a row: no hint stands in two places of a formula.
+abbrev pub is_size : Hint → Bool
+is_size (SizeIn first last) = true
+is_size hint = false
+
+-- what sums can tell of a hint at a row: they hold the sizes of files alone
+abbrev pub chance_told : Meta → Hint → Chance
+chance_told meta hint = if is_size hint && not (is_file meta.kind) then record { holds = true; fails = true } else chance_at meta hint
+
+-- The numbers that sums hold of a record are in the ranges of their types, as those of all records of the program are.
+abbrev pub fits_sums : Meta → Bool
+fits_sums meta = (not (is_file meta.kind) || nat_lt meta.size (2 ^ 64)) && (fits_i64 meta.mtime && (nat_lt meta.uid (2 ^ 32) && nat_lt meta.gid (2 ^ 32)))
+
+-- Some choice of true or false for each unknown hint makes the list true at a row, as far as sums can tell: no hint stands in two
+-- places of a formula. Of numbers out of range hints tell nothing.
 unfoldable pub may_hold : List Hint → Row → Bool
-may_hold hints row = (chance_or (chance_at row.rec.meta) (formula_of hints)).holds
+may_hold hints row = not (fits_sums row.rec.meta) || (chance_or (chance_told row.rec.meta) (formula_of hints)).holds
