@@ -1,5 +1,5 @@
 -- The groups that sums tell of, where each record was counted as a file's.
-use Rattle.std.proofs.Common.{◌≡◌, ℕ, ◌+◌, cond, List, [], ◌∷◌, length, eqb, map, refl, sym, ap, ◌∙◌, arith, min, max}
+use Rattle.std.proofs.Common.{◌≡◌, ℕ, cond, List, [], ◌∷◌, length, eqb, map, refl, ap, ◌∙◌, arith, min, max}
 use Rattle.std.specs.Prelude.{count_by, sum, pos, unwrap_or}
 use Rattle.std.specs.Int.{int_min, int_max}
 use Rattle.std.specs.List.{filter}

@@ -1,6 +1,6 @@
 -- The line of a group, piece by piece.
 use Rattle.std.proofs.Common.{◌≡◌, ℕ, List, [], ◌∷◌, ◌++◌, map, sym, ap, ◌∙◌, append_assoc, append-nil}
-use Rattle.std.specs.List.{flat_map, join_with_byte}
+use Rattle.std.specs.List.{join_with_byte}
 use Rattle.gufi_base.specs.Basics.{line}
 use Rattle.gufi_agg.specs.declared.agg.AggKey.{AggKey}
 use Rattle.gufi_agg.specs.declared.agg.Item.{Item}
