@@ -1,28 +1,28 @@
 -- Laws of sums that leave no room for a match.
 use Rattle.std.proofs.Common.{◌≡◌, ℕ, ◌≤◌, Bool, true, false, not, List, [], ◌∷◌, ◌⊎◌, refl, sym, ap, ◌∙◌, subst, inl, inr, arith, min, max}
-use Rattle.std.specs.Prelude.{◌==◌, ◌&&◌, ◌||◌, Option, Some, None, nat_le, nat_lt, int_le, ℤ, All}
+use Rattle.std.specs.Prelude.{◌==◌, ◌&&◌, ◌||◌, ◌^◌, Option, Some, None, nat_le, nat_lt, int_le, int_lt, ℤ, pos, neg_ℤ, All, if◌then◌else◌}
 use Rattle.std.specs.Int.{int_min, int_max}
 use Rattle.std.proofs.Math.Bool.{or-true}
 use Rattle.std.specs.Cmp.Derive.{both_true}
-use Rattle.std.proofs.lemmas.List.Elements.{All-nil, All-cons, All-weaker}
-use Rattle.std.proofs.lemmas.Bool.{cases_Bool, false≢true, leb-true, le-leb, eqb-true, eq-eqb}
+use Rattle.std.proofs.lemmas.List.Elements.{All-nil, All-cons, All-head, All-tail, All-weaker}
+use Rattle.std.proofs.lemmas.Bool.{cases_Bool, false≢true, and_parts, ltb-true, lt-ltb, leb-true, le-leb, eqb-true, eq-eqb}
 use Rattle.std.proofs.lemmas.Int.{ints, clamps}
 use Rattle.gufi_base.specs.declared.record.Kind.{Kind}
 use Rattle.gufi_base.specs.declared.record.Kind.TheVariants.{Block, Char, Dir, Link, Fifo, File, Socket}
 use Rattle.gufi_base.specs.declared.record.Meta.{Meta}
-use Rattle.gufi_base.specs.Kinds.{kind_letter}
+use Rattle.gufi_base.specs.Kinds.{kind_letter, is_file}
 use Rattle.gufi_base.specs.declared.record.Row.{Row}
 use Rattle.gufi_base.specs.declared.hint.Hint.{Hint}
 use Rattle.gufi_base.specs.declared.hint.Hint.TheVariants as hints
 use Rattle.gufi_formula.specs.Formulas.{Formula, test, negation, both, either}
-use Rattle.gufi_formula.specs.Hints.{Chance, certain, is_in, chance, chance_at, chance_or, formula_of, may_hold}
+use Rattle.gufi_formula.specs.Hints.{Chance, certain, is_in, chance, chance_at, chance_told, chance_or, fits_sums, formula_of, may_hold}
 use Rattle.gufi_sums.specs.declared.summary.Summary.{Summary}
 use Rattle.gufi_sums.specs.Depths.{is_within, within_most}
 use Rattle.gufi_sums.specs.Total.{span, join, total, meta_total, NoneMeets}
 use Rattle.gufi_sums.specs.Laws.{total-append, total_of-one}
 use Rattle.gufi_prune.specs.declared.class.Class.{Class}
 use Rattle.gufi_prune.specs.declared.class.Class.TheVariants.{Dirs, Files, Links, Others}
-use Rattle.gufi_prune.specs.NoMatch.{is_of, count_of, chance_within, chance_of_kind, chance_of_size, chance_in, open_chance, may_meet, no_match, may_meet_at, Pruning}
+use Rattle.gufi_prune.specs.NoMatch.{is_of, count_of, is_below, are_times, fits, chance_within, chance_of_kind, chance_of_size, chance_in, open_chance, may_meet, no_match, may_meet_at, Pruning}
 
 -- what may be in the first may be in the second
 pub record Below (a b : Chance) : Type 0 where
@@ -195,14 +195,45 @@ may_meet-right : (list : List Hint) (a b : Summary) (class : Class) → may_meet
 may_meet-right list a b class =
     and-grows _ _ _ _ (counted-right class a b) (chance_or-grows (chance_in class b) (chance_in class (join a b)) (chance_in-right class a b) (formula_of list)).holds
 
-any_class-grows : (list : List Hint) (a b : Summary) → ((class : Class) → may_meet list a class ≡ true → may_meet list b class ≡ true) → no_match list b ≡ true → no_match list a ≡ true
+any_class-grows : (list : List Hint) (a b : Summary) → ((class : Class) → may_meet list a class ≡ true → may_meet list b class ≡ true) → (fits b ≡ true → fits a ≡ true) → no_match list b ≡ true → no_match list a ≡ true
 unfolding no_match
-any_class-grows list a b h = not-grows _ _ (or-grows _ _ _ _ (or-grows _ _ _ _ (or-grows _ _ _ _ (h Dirs) (h Files)) (h Links)) (h Others))
+any_class-grows list a b h f =
+    and-grows _ _ _ _ f (not-grows _ _ (or-grows _ _ _ _ (or-grows _ _ _ _ (or-grows _ _ _ _ (h Dirs) (h Files)) (h Links)) (h Others)))
+
+below-parts : (most : ℕ) (a b : Option (ℕ × ℕ)) → is_below most (span min max a b) ≡ true → (is_below most a ≡ true) × (is_below most b ≡ true)
+below-parts most None b e = (refl, e)
+below-parts most (Some a) None e = (e, refl)
+below-parts most (Some a) (Some b) e = let k = ltb-true (max a.1 b.1) most e in (lt-ltb a.1 most (omega (arith, k)), lt-ltb b.1 most (omega (arith, k)))
+
+int_before : (a b : ℤ) → (int_lt a b ≡ false → ⊥) → int_lt a b ≡ true
+int_before a b h = elim (cases_Bool (int_lt a b)) [ | inl so ↦ so | inr off ↦ absurd (h off) ]
+
+times-parts : (a b : Option (ℤ × ℤ)) → are_times (span int_min int_max a b) ≡ true → (are_times a ≡ true) × (are_times b ≡ true)
+times-parts None b e = (refl, e)
+times-parts (Some a) None e = (e, refl)
+times-parts (Some a) (Some b) e =
+    let p = and_parts (int_le (neg_ℤ (pos (2 ^ 63))) (int_min a.0 b.0)) (int_lt (int_max a.1 b.1) (pos (2 ^ 63))) e in
+    let low = int_low_back (neg_ℤ (pos (2 ^ 63))) a.0 b.0 p.0 in
+    let high = p.1 in
+    (both_true low.0 (int_before a.1 (pos (2 ^ 63)) (λ off. omega (arith, ints, clamps, high, off))),
+    both_true low.1 (int_before b.1 (pos (2 ^ 63)) (λ off. omega (arith, ints, clamps, high, off))))
+
+fits-parts : (a b : Summary) → fits (join a b) ≡ true → (fits a ≡ true) × (fits b ≡ true)
+fits-parts a b e =
+    let p = and_parts (is_below (2 ^ 64) (join a b).size) _ e in
+    let q = and_parts (are_times (join a b).mtime) _ p.1 in
+    let r = and_parts (is_below (2 ^ 32) (join a b).uid) (is_below (2 ^ 32) (join a b).gid) q.1 in
+    let size = below-parts (2 ^ 64) a.size b.size p.0 in
+    let mtime = times-parts a.mtime b.mtime q.0 in
+    let uid = below-parts (2 ^ 32) a.uid b.uid r.0 in
+    let gid = below-parts (2 ^ 32) a.gid b.gid r.1 in
+    (both_true size.0 (both_true mtime.0 (both_true uid.0 gid.0)), both_true size.1 (both_true mtime.1 (both_true uid.1 gid.1)))
 
 -- what is ruled out of two lists joined is ruled out of each
 pub no_match-parts : (list : List Hint) (a b : Summary) → no_match list (join a b) ≡ true → (no_match list a ≡ true) × (no_match list b ≡ true)
 no_match-parts list a b e =
-    (any_class-grows list a (join a b) (may_meet-left list a b) e, any_class-grows list b (join a b) (may_meet-right list a b) e)
+    (any_class-grows list a (join a b) (may_meet-left list a b) (λ f. (fits-parts a b f).0) e,
+    any_class-grows list b (join a b) (may_meet-right list a b) (λ f. (fits-parts a b f).1) e)
 
 -- ---- the rows of a sum
 
@@ -289,6 +320,30 @@ chance_in-single class meta is hints.Not = Below-open _
 chance_in-single class meta is hints.And = Below-open _
 chance_in-single class meta is hints.Or = Below-open _
 
+chance_told-single : (class : Class) (meta : Meta) → is_of class meta.kind ≡ true → (hint : Hint) → Below (chance_told meta hint) (chance_in class (meta_total meta) hint)
+chance_told-single Dirs meta is (hints.SizeIn first last) = Below-open _
+chance_told-single Files meta is (hints.SizeIn first last) = rw is (within-one nat_le min max nat_spans first last meta.size nat_through)
+chance_told-single Links meta is (hints.SizeIn first last) = Below-open _
+chance_told-single Others meta is (hints.SizeIn first last) = Below-open _
+chance_told-single class meta is (hints.Kind kind) = chance_in-single class meta is (hints.Kind kind)
+chance_told-single class meta is (hints.MtimeIn first last) = chance_in-single class meta is (hints.MtimeIn first last)
+chance_told-single class meta is (hints.UidIn first last) = chance_in-single class meta is (hints.UidIn first last)
+chance_told-single class meta is (hints.GidIn first last) = chance_in-single class meta is (hints.GidIn first last)
+chance_told-single class meta is hints.Unknown = Below-open _
+chance_told-single class meta is hints.Not = Below-open _
+chance_told-single class meta is hints.And = Below-open _
+chance_told-single class meta is hints.Or = Below-open _
+
+-- the numbers of a record whose sum is in range are in range
+size-fits : (file : Bool) (size : ℕ) → is_below (2 ^ 64) (if file then Some (size, size) else None) ≡ true → not file || nat_lt size (2 ^ 64) ≡ true
+size-fits true size e = e
+size-fits false size e = refl
+
+fits-single : (meta : Meta) → fits (meta_total meta) ≡ true → fits_sums meta ≡ true
+fits-single meta e =
+    let p = and_parts (is_below (2 ^ 64) (meta_total meta).size) _ e in
+    both_true (size-fits (is_file meta.kind) meta.size p.0) p.1
+
 counted-single : (class : Class) (meta : Meta) → is_of class meta.kind ≡ true → nat_lt 0 (count_of class (meta_total meta)) ≡ true
 counted-single Dirs meta is = rw is refl
 counted-single Files meta is = rw is refl
@@ -298,7 +353,7 @@ counted-single Others meta is = rw is refl
 -- a sum counts a row of the class, and leaves room for what is known of it
 record Covers (class : Class) (meta : Meta) (sum : Summary) : Type 0 where
   counted : nat_lt 0 (count_of class sum) ≡ true
-  chances : (hint : Hint) → Below (chance_at meta hint) (chance_in class sum hint)
+  chances : (hint : Hint) → Below (chance_told meta hint) (chance_in class sum hint)
 
 total-cons : (row : Row) (rows : List Row) → total (row ∷ rows) ≡ join (meta_total row.rec.meta) (total rows)
 unfolding total
@@ -306,6 +361,12 @@ total-cons row rows = total-append (row ∷ []) rows ∙ ap (λ (s : Summary). j
 
 abbrev IsCovered : Summary → Row → Type 0
 IsCovered sum row = (class : Class) → is_of class row.rec.meta.kind ≡ true → Covers class row.rec.meta sum
+
+all-fit : (rows : List Row) → fits (total rows) ≡ true → All (λ row. fits_sums row.rec.meta ≡ true) rows
+all-fit [] e = All-nil _
+all-fit (row ∷ rows) e =
+    let p = fits-parts (meta_total row.rec.meta) (total rows) (ap fits (sym (total-cons row rows)) ∙ e) in
+    All-cons (λ row. fits_sums row.rec.meta ≡ true) row rows (fits-single row.rec.meta p.0) (all-fit rows p.1)
 
 covered-left : (a b : Summary) (class : Class) (meta : Meta) → Covers class meta a → Covers class meta (join a b)
 covered-left a b class meta c = record { counted = counted-left class a b c.counted; chances = λ hint. Below-trans _ _ _ (c.chances hint) (chance_in-left class a b hint) }
@@ -319,7 +380,7 @@ all-covered (row ∷ rows) =
     let sum = meta_total row.rec.meta in
     subst (λ (s : Summary). All (IsCovered s) (row ∷ rows)) (sym (total-cons row rows))
     (All-cons (IsCovered (join sum (total rows))) row rows
-    (λ class is. covered-left sum (total rows) class row.rec.meta (record { counted = counted-single class row.rec.meta is; chances = chance_in-single class row.rec.meta is }))
+    (λ class is. covered-left sum (total rows) class row.rec.meta (record { counted = counted-single class row.rec.meta is; chances = chance_told-single class row.rec.meta is }))
     (All-weaker (IsCovered (total rows)) (IsCovered (join sum (total rows))) (λ other c class is. covered-right sum (total rows) class other.rec.meta (c class is)) rows (all-covered rows)))
 
 abbrev class_of : Kind → Class
@@ -340,7 +401,8 @@ class_of-is Socket = refl
 -- a class with a match is not ruled out
 ruled_out : (list : List Hint) (sum : Summary) (class : Class) → no_match list sum ≡ true → may_meet list sum class ≡ false
 unfolding no_match
-ruled_out list sum class e = by class (may_meet list sum Dirs) (may_meet list sum Files) (may_meet list sum Links) (may_meet list sum Others) refl refl refl refl e where
+ruled_out list sum class e =
+    by class (may_meet list sum Dirs) (may_meet list sum Files) (may_meet list sum Links) (may_meet list sum Others) refl refl refl refl (and_parts (fits sum) _ e).1 where
   by : (class : Class) (d f l o : Bool) → may_meet list sum Dirs ≡ d → may_meet list sum Files ≡ f → may_meet list sum Links ≡ l → may_meet list sum Others ≡ o
       → not (d || f || l || o) ≡ true → may_meet list sum class ≡ false
   by Dirs false f l o di fi li oi e = di
@@ -358,24 +420,39 @@ ruled_out list sum class e = by class (may_meet list sum Dirs) (may_meet list su
   by Others false false true true di fi li oi e = absurd (false≢true e)
   by Others false false false true di fi li oi e = absurd (false≢true e)
 
-may_hold-ruled : (list : List Hint) (sum : Summary) (row : Row) → no_match list sum ≡ true → IsCovered sum row → may_hold list row ≡ true → ⊥
+in_range_fits : (list : List Hint) (sum : Summary) → no_match list sum ≡ true → fits sum ≡ true
+unfolding no_match
+in_range_fits list sum e = (and_parts (fits sum) _ e).0
+
+second_holds : (p q : Bool) → p ≡ true → not p || q ≡ true → q ≡ true
+second_holds true q is e = e
+second_holds false q is e = absurd (false≢true is)
+
+may_hold-ruled : (list : List Hint) (sum : Summary) (row : Row) → no_match list sum ≡ true → fits_sums row.rec.meta ≡ true → IsCovered sum row → may_hold list row ≡ true → ⊥
 unfolding may_hold
-may_hold-ruled list sum row e covered may =
+may_hold-ruled list sum row e inside covered may =
     let class = class_of row.rec.meta.kind in
     let c = covered class (class_of-is row.rec.meta.kind) in
-    let room = (chance_or-grows (chance_at row.rec.meta) (chance_in class sum) c.chances (formula_of list)).holds may in
+    let room = (chance_or-grows (chance_told row.rec.meta) (chance_in class sum) c.chances (formula_of list)).holds (second_holds (fits_sums row.rec.meta) _ inside may) in
     false≢true (sym (ruled_out list sum class e) ∙ both_true c.counted room)
 
 none-at : (p within : Bool) → (p ≡ true → ⊥) → p && within ≡ false
 none-at true within h = absurd (h refl)
 none-at false within h = refl
 
+both-all : (P Q : Row → Type 0) (rows : List Row) → All P rows → All Q rows → All (λ row. P row × Q row) rows
+both-all P Q [] ps qs = All-nil _
+both-all P Q (row ∷ rows) ps qs =
+    All-cons (λ row. P row × Q row) row rows (All-head P row rows ps, All-head Q row rows qs) (both-all P Q rows (All-tail P row rows ps) (All-tail Q row rows qs))
+
 -- where a sum is ruled out, none of its rows meets the question
 pub no_match-sound : (pruning : Pruning) (sum : Summary) → no_match pruning.hints sum ≡ true → (rows : List Row) → total rows ≡ sum → NoneMeets (may_meet_at pruning) rows
 no_match-sound pruning sum e rows is =
-    All-weaker (IsCovered (total rows)) (λ row. (depth : ℕ) → may_meet_at pruning row depth ≡ false)
-    (λ row covered depth. none-at (may_hold pruning.hints row) (is_within pruning.deepest depth) (may_hold-ruled pruning.hints (total rows) row (ap (no_match pruning.hints) is ∙ e) covered))
-    rows (all-covered rows)
+    let out : no_match pruning.hints (total rows) ≡ true = ap (no_match pruning.hints) is ∙ e in
+    let known = both-all (λ row. fits_sums row.rec.meta ≡ true) (IsCovered (total rows)) rows (all-fit rows (in_range_fits pruning.hints (total rows) out)) (all-covered rows) in
+    All-weaker (λ row. (fits_sums row.rec.meta ≡ true) × IsCovered (total rows) row) (λ row. (depth : ℕ) → may_meet_at pruning row depth ≡ false)
+    (λ row k depth. none-at (may_hold pruning.hints row) (is_within pruning.deepest depth) (may_hold-ruled pruning.hints (total rows) row out k.0 k.1))
+    rows known
 
 -- a row that meets it lies no deeper than is told
 pub met-within : (pruning : Pruning) (most : ℕ) → pruning.deepest ≡ Some most → (row : Row) (depth : ℕ) → may_meet_at pruning row depth ≡ true → depth ≤ most

@@ -1,5 +1,5 @@
 -- Which sums leave no room for a match of a question's hints.
-use Rattle.std.specs.Prelude.{ℕ, Bool, true, false, not, ◌&&◌, ◌||◌, nat_le, int_le, nat_lt, List, Option, Some, None}
+use Rattle.std.specs.Prelude.{ℕ, ◌^◌, ℤ, pos, neg_ℤ, int_lt, Bool, true, false, not, ◌&&◌, ◌||◌, nat_le, int_le, nat_lt, List, Option, Some, None}
 use Rattle.gufi_base.specs.declared.record.Kind.{Kind}
 use Rattle.gufi_base.specs.declared.record.Row.{Row}
 use Rattle.gufi_base.specs.declared.hint.Hint.{Hint}
@@ -60,9 +60,23 @@ chance_in class sum hint = open_chance
 abbrev pub may_meet : List Hint → Summary → Class → Bool
 may_meet hints sum class = nat_lt 0 (count_of class sum) && (chance_or (chance_in class sum) (formula_of hints)).holds
 
+-- ---- numbers in range
+
+abbrev pub is_below : ℕ → Option (ℕ × ℕ) → Bool
+is_below most None = true
+is_below most (Some pair) = nat_lt pair.1 most
+
+abbrev pub are_times : Option (ℤ × ℤ) → Bool
+are_times None = true
+are_times (Some pair) = int_le (neg_ℤ (pos (2 ^ 63))) pair.0 && int_lt pair.1 (pos (2 ^ 63))
+
+-- The numbers of a sum are in the ranges of their types, as those of all sums of the program are.
+abbrev pub fits : Summary → Bool
+fits sum = is_below (2 ^ 64) sum.size && (are_times sum.mtime && (is_below (2 ^ 32) sum.uid && is_below (2 ^ 32) sum.gid))
+
 -- in no class with a row the hints may hold
 unfoldable pub no_match : List Hint → Summary → Bool
-no_match hints sum = not (may_meet hints sum Dirs || may_meet hints sum Files || may_meet hints sum Links || may_meet hints sum Others)
+no_match hints sum = fits sum && not (may_meet hints sum Dirs || may_meet hints sum Files || may_meet hints sum Links || may_meet hints sum Others)
 
 -- the hints of a question, and how deep a row that meets it may lie
 pub record Pruning : Type 0 where

@@ -1,7 +1,7 @@
 //! What passes over rows by their sum.
-ghost use Rattle.std.specs.Prelude.{◌≡◌, ℕ, Option, None, IfOk};
+ghost use Rattle.std.specs.Prelude.{◌≡◌, ◌^◌, ℕ, Option, None, IfOk};
 ghost use Rattle.gufi_formula.specs.Hints.{AreWhole, chance_or, formula_of};
-ghost use Rattle.gufi_prune.specs.NoMatch.{chance_in, may_meet, may_meet_at, no_match};
+ghost use Rattle.gufi_prune.specs.NoMatch.{chance_in, fits, is_below, may_meet, may_meet_at, no_match};
 ghost use Rattle.gufi_prune.specs.Laws.{no_match-sound, no_match-parts, met-within};
 
 use crate::class::Class;
@@ -34,6 +34,30 @@ impl Model for Pruner {
     ghost view = { λ p. record { hints = p.hints.items; deepest = p.deepest } };
 
     ghost invariant = { λ p. IsNormal p.hints.items p.formula };
+}
+
+/// The numbers of a sum are in the ranges of their types: the definitions speak of all numbers.
+fn fits(sum: &Summary) -> bool
+    ensures { result ≡ fits sum.now }
+{
+    let sizes = match sum.size {
+        Some((_, greatest)) => greatest <= u64::MAX,
+        None => true,
+    };
+    let times = match sum.mtime {
+        Some((least, greatest)) => i64::MIN <= least && greatest <= i64::MAX,
+        None => true,
+    };
+    sizes && times && ids_fit(sum.uid) && ids_fit(sum.gid)
+}
+
+fn ids_fit(ids: Option<(u32, u32)>) -> bool
+    ensures { result ≡ is_below (2 ^ 32) ids }
+{
+    match ids {
+        Some((_, greatest)) => greatest <= u32::MAX,
+        None => true,
+    }
 }
 
 impl Pruner {
@@ -80,7 +104,7 @@ impl Pruner {
     fn rules_out(&self, sum: &Summary) -> bool
         ensures { result ≡ no_match self.now.hints sum.now }
     {
-        !(self.may_meet(sum, Class::Dirs)
+        fits(sum) && !(self.may_meet(sum, Class::Dirs)
             || self.may_meet(sum, Class::Files)
             || self.may_meet(sum, Class::Links)
             || self.may_meet(sum, Class::Others))

@@ -1,11 +1,9 @@
-//! Tests of trees and what is made of them: lists of rows, pages, stores, roll-ups, snapshots, reports, groups and walks.
+//! Tests of trees and what is made of them: lists of rows, pages, stores, roll-ups, snapshots, reports and walks.
 //!
 //! They stand beside the crates that they call, since a crate with tests is proved twice; and apart from the tests of texts and
 //! images, since a test is proved the sooner the fewer libraries its crate loads.
 #![tactic(auto)]
 
-#[cfg(test)]
-mod agg_tests;
 #[cfg(test)]
 mod lines;
 #[cfg(test)]

@@ -21,12 +21,7 @@ pub(crate) fn row_of<'a>(path: &'a Path, meta: &'a Meta) -> RowRef<'a>
     }
 }
 
-pub(crate) fn take_row<Y: Yield>(
-    alloc: Global,
-    rows: &mut Y,
-    path: &Path,
-    meta: &Meta,
-) -> Result<(), Memory>
+fn take_row<Y: Yield>(alloc: Global, rows: &mut Y, path: &Path, meta: &Meta) -> Result<(), Memory>
     requires few { Y.count rows.old < 9 }
     requires rows { (given : List SeenRow) × Y.stands_for rows.old given }
     ensures count { OnOk result (Y.count rows.new ≡ Y.count rows.old + 1) }
