@@ -1,9 +1,11 @@
 -- Hints in postfix order give their formula back, and may hold where it holds.
 use Rattle.std.proofs.Common.{◌≡◌, Bool, true, false, List, [], ◌∷◌, ◌++◌, length, refl, sym, ap, ◌∙◌, subst, append_assoc, append-nil}
-use Rattle.std.specs.Prelude.{Option, Some, None, not, ◌&&◌, ◌||◌}
+use Rattle.std.specs.Prelude.{Option, Some, None, not, ◌&&◌, ◌||◌, if◌then◌else◌}
 use Rattle.std.specs.List.{flat_map}
+use Rattle.std.proofs.lemmas.Bool.{false≢true}
 use Rattle.gufi_base.specs.declared.record.Meta.{Meta}
 use Rattle.gufi_base.specs.declared.record.Row.{Row}
+use Rattle.gufi_base.specs.Kinds.{is_file}
 use Rattle.gufi_formula.specs.Leaves.{tells}
 use Rattle.gufi_base.specs.declared.hint.Hint.{Hint}
 use Rattle.gufi_base.specs.declared.hint.Hint.TheVariants.{Kind, SizeIn, MtimeIn, UidIn, GidIn, Unknown, Not, And, Or}
@@ -11,9 +13,10 @@ use Rattle.gufi_formula.specs.Formulas.{Formula, test, negation, both, either, h
 use Rattle.gufi_formula.specs.Steps.{first_of, steps_of, formula_in, IsKept}
 use Rattle.gufi_formula.specs.declared.step.Step.{Step}
 use Rattle.gufi_formula.specs.declared.step.Step.TheVariants.{Invert, IfTrue, IfFalse, BothEnd, EitherEnd}
+use Rattle.gufi_formula.proofs.RangeLemmas.{InRange, in_sums}
 use Rattle.gufi_formula.proofs.Running.{operands}
 use Rattle.gufi_formula.specs.StepHints.{step_hints}
-use Rattle.gufi_formula.specs.Hints.{postfix, with_hint, hints_behind, only_one, formula_of, AreWhole, Chance, certain, turned, both_chances, either_chance, chance, chance_at, chance_or, may_hold}
+use Rattle.gufi_formula.specs.Hints.{postfix, with_hint, hints_behind, only_one, formula_of, AreWhole, Chance, certain, turned, both_chances, either_chance, chance, chance_at, chance_or, is_size, chance_told, fits_sums, may_hold}
 
 -- ---- hints one behind another
 
@@ -116,7 +119,7 @@ certain_covers c true e = record { holds = λ _. ap (λ (d : Chance). d.holds) e
 certain_covers c false e = record { holds = λ f. cc; fails = λ _. ap (λ (d : Chance). d.fails) e }
 
 -- a hint that is certain, or of which sums tell nothing
-pub hint_covers : (meta : Meta) (hint : Hint) (b : Bool) → (tells hint ≡ true → chance_at meta hint ≡ certain b) → Covers (chance_at meta hint) b
+hint_covers : (meta : Meta) (hint : Hint) (b : Bool) → (tells hint ≡ true → chance_at meta hint ≡ certain b) → Covers (chance_at meta hint) b
 hint_covers meta Unknown b exact = record { holds = λ _. refl; fails = λ _. refl }
 hint_covers meta Not b exact = record { holds = λ _. refl; fails = λ _. refl }
 hint_covers meta And b exact = record { holds = λ _. refl; fails = λ _. refl }
@@ -126,6 +129,22 @@ hint_covers meta (SizeIn first last) b exact = certain_covers (chance_at meta (S
 hint_covers meta (MtimeIn first last) b exact = certain_covers (chance_at meta (MtimeIn first last)) b (exact refl)
 hint_covers meta (UidIn first last) b exact = certain_covers (chance_at meta (UidIn first last)) b (exact refl)
 hint_covers meta (GidIn first last) b exact = certain_covers (chance_at meta (GidIn first last)) b (exact refl)
+
+-- a hint that is certain of the numbers that sums hold
+pub told_covers : (meta : Meta) (hint : Hint) (b : Bool) → fits_sums meta ≡ true → (InRange meta hint → tells hint ≡ true → chance_at meta hint ≡ certain b) → Covers (chance_told meta hint) b
+told_covers meta hint b fits exact = by (is_size hint) (is_file meta.kind) refl refl where
+  by : (s f : Bool) → is_size hint ≡ s → is_file meta.kind ≡ f → Covers (if s && not f then record { holds = true; fails = true } else chance_at meta hint) b
+  by true false e file = record { holds = λ _. refl; fails = λ _. refl }
+  by true true e file = hint_covers meta hint b (exact (in_sums meta hint fits (λ s. file)))
+  by false f e file = hint_covers meta hint b (exact (in_sums meta hint fits (λ s. absurd (false≢true (sym e ∙ s)))))
+
+-- of numbers out of range hints tell nothing
+pub may_hold_within : (hints : List Hint) (row : Row) → (fits_sums row.rec.meta ≡ true → (chance_or (chance_told row.rec.meta) (formula_of hints)).holds ≡ true) → may_hold hints row ≡ true
+unfolding may_hold
+may_hold_within hints row within = by (fits_sums row.rec.meta) refl where
+  by : (b : Bool) → fits_sums row.rec.meta ≡ b → (not b || (chance_or (chance_told row.rec.meta) (formula_of hints)).holds) ≡ true
+  by true e = within e
+  by false e = refl
 
 or_true : (b : Bool) → b || true ≡ true
 or_true true = refl
@@ -159,10 +178,11 @@ module _ {A : Type 0} where
   postfix_covers leaf whole at truth each = joined_covers at (λ a. (whole a).0) truth (λ a. subst (λ o. Covers (chance_or at o) (truth a)) (whole a).1 (each a))
 
   pub postfix_may_hold : (leaf : A → List Hint) (whole : (a : A) → AreWhole (leaf a)) (row : Row) (truth : A → Bool)
-      → ((a : A) → Covers (chance_or (chance_at row.rec.meta) (formula_of (leaf a))) (truth a)) → (f : Formula A) → holds truth f ≡ true → may_hold (postfix leaf f) row ≡ true
-  unfolding may_hold
+      → (fits_sums row.rec.meta ≡ true → (a : A) → Covers (chance_or (chance_told row.rec.meta) (formula_of (leaf a))) (truth a))
+      → (f : Formula A) → holds truth f ≡ true → may_hold (postfix leaf f) row ≡ true
   postfix_may_hold leaf whole row truth each f e =
-      ap (λ o. (chance_or (chance_at row.rec.meta) o).holds) (postfix_formula leaf whole f) ∙ ((postfix_covers leaf whole (chance_at row.rec.meta) truth each f).holds e)
+      may_hold_within (postfix leaf f) row (λ fits. ap (λ o. (chance_or (chance_told row.rec.meta) o).holds) (postfix_formula leaf whole f)
+      ∙ ((postfix_covers leaf whole (chance_told row.rec.meta) truth (each fits) f).holds e))
 
   -- ---- steps
 

@@ -1,6 +1,6 @@
 -- Ranges hold exactly where the number that they speak of is in them, as they stood before they were cut.
 use Rattle.std.proofs.Common.{◌≡◌, ℕ, ◌≤◌, ◌^◌, Bool, true, false, refl, ap, ◌∙◌, arith}
-use Rattle.std.specs.Prelude.{ℤ, pos, negsuc, int_le, int_lt, ◌&&◌, nat_lt, if◌then◌else◌}
+use Rattle.std.specs.Prelude.{ℤ, pos, negsuc, int_le, int_lt, ◌&&◌, ◌||◌, not, nat_lt, if◌then◌else◌}
 use Rattle.std.proofs.lemmas.Bool.Decides.{nat_tests}
 use Rattle.std.proofs.lemmas.Int.{ints}
 use Rattle.std.proofs.lemmas.Bool.{and_parts}
@@ -8,8 +8,9 @@ use Rattle.gufi_base.specs.declared.record.Meta.{Meta}
 use Rattle.gufi_base.specs.declared.record.Rec.{Rec}
 use Rattle.gufi_base.specs.declared.hint.Hint.{Hint}
 use Rattle.gufi_base.specs.declared.hint.Hint.TheVariants.{SizeIn, MtimeIn, UidIn, GidIn}
+use Rattle.gufi_base.specs.Kinds.{is_file}
 use Rattle.gufi_base.specs.Rows.{fits_i64, fits_types}
-use Rattle.gufi_formula.specs.Hints.{is_in, certain, chance_at}
+use Rattle.gufi_formula.specs.Hints.{is_in, certain, chance_at, is_size, fits_sums}
 use Rattle.gufi_formula.specs.Ranges.{nearest_natural, has_naturals, naturals_in, sizes_in, uids_in, gids_in, times_in, nearest_time, least_time, greatest_time}
 
 natural_cut : (most n : ℕ) (first last : ℤ) → n ≤ most
@@ -62,19 +63,39 @@ times_exact meta first last fits =
     (MtimeIn (nearest_time first) (nearest_time last)) (MtimeIn (pos 1) (pos 0)) refl refl
     ∙ ap certain (time_cut least_time greatest_time meta.mtime first last f.0 (not_above meta.mtime f.1))
 
--- what the types of a record say of the numbers that hints speak of
-pub record InRange (meta : Meta) : Type 0 where
-  pub size : nat_lt meta.size (2 ^ 64) ≡ true
+chosen_size : (b : Bool) (x y : Hint) → is_size x ≡ true → is_size y ≡ true → is_size (if b then x else y) ≡ true
+chosen_size true x y h k = h
+chosen_size false x y h k = k
+
+pub sizes_speak : (first last : ℤ) → is_size (sizes_in first last) ≡ true
+sizes_speak first last =
+    chosen_size (has_naturals 18446744073709551615 first last) (SizeIn (nearest_natural 18446744073709551615 first) (nearest_natural 18446744073709551615 last)) (SizeIn 1 0) refl refl
+
+-- the numbers that a hint may speak of are in range: a size only where it speaks of sizes
+pub record InRange (meta : Meta) (hint : Hint) : Type 0 where
+  pub size : is_size hint ≡ true → nat_lt meta.size (2 ^ 64) ≡ true
   pub uid : nat_lt meta.uid (2 ^ 32) ≡ true
   pub gid : nat_lt meta.gid (2 ^ 32) ≡ true
   pub mtime : fits_i64 meta.mtime ≡ true
 
-pub in_range : (rec : Rec) → fits_types rec ≡ true → InRange rec.meta
-in_range rec fits =
+pub in_range : (rec : Rec) (hint : Hint) → fits_types rec ≡ true → InRange rec.meta hint
+in_range rec hint fits =
     let ctime = and_parts _ _ (and_parts _ _ fits).0 in
     let mtime = and_parts _ _ ctime.0 in
     let blocks = and_parts _ _ (and_parts _ _ mtime.0).0 in
     let size = and_parts _ _ (and_parts _ _ blocks.0).0 in
     let gid = and_parts _ _ size.0 in
     let uid = and_parts _ _ gid.0 in
-    record { size = size.1; uid = uid.1; gid = gid.1; mtime = mtime.1 }
+    record { size = λ _. size.1; uid = uid.1; gid = gid.1; mtime = mtime.1 }
+
+files_size : (file fits : Bool) → (not file || fits) ≡ true → file ≡ true → fits ≡ true
+files_size true fits h e = h
+files_size false fits h e = cc
+
+-- of what is no file a hint may speak but of no size
+pub in_sums : (meta : Meta) (hint : Hint) → fits_sums meta ≡ true → (is_size hint ≡ true → is_file meta.kind ≡ true) → InRange meta hint
+in_sums meta hint fits file =
+    let size = and_parts (not (is_file meta.kind) || nat_lt meta.size (2 ^ 64)) (fits_i64 meta.mtime && (nat_lt meta.uid (2 ^ 32) && nat_lt meta.gid (2 ^ 32))) fits in
+    let mtime = and_parts (fits_i64 meta.mtime) (nat_lt meta.uid (2 ^ 32) && nat_lt meta.gid (2 ^ 32)) size.1 in
+    let ids = and_parts (nat_lt meta.uid (2 ^ 32)) (nat_lt meta.gid (2 ^ 32)) mtime.1 in
+    record { size = λ s. files_size (is_file meta.kind) (nat_lt meta.size (2 ^ 64)) size.0 (file s); uid = ids.0; gid = ids.1; mtime = mtime.0 }
