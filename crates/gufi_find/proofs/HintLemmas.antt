@@ -14,11 +14,11 @@ use Rattle.gufi_base.specs.declared.hint.Hint.{Hint}
 use Rattle.gufi_base.specs.declared.hint.Hint.TheVariants.{SizeIn}
 use Rattle.gufi_base.specs.Rows.{fits_types, fits_i64}
 use Rattle.gufi_formula.specs.Formulas.{holds as truth_of}
-use Rattle.gufi_formula.specs.Hints.{is_in, formula_of, certain, chance_at, chance_or, may_hold}
+use Rattle.gufi_formula.specs.Hints.{is_in, formula_of, certain, chance_at, chance_or, is_size, chance_told, fits_sums, may_hold}
 use Rattle.gufi_formula.specs.Leaves.{tells}
 use Rattle.gufi_formula.specs.Ranges.{sizes_in, least_time, greatest_time}
-use Rattle.gufi_formula.proofs.HintLemmas.{Covers, hint_covers, postfix_may_hold}
-use Rattle.gufi_formula.proofs.RangeLemmas.{in_range, not_above, sizes_exact, times_exact}
+use Rattle.gufi_formula.proofs.HintLemmas.{Covers, told_covers, postfix_may_hold}
+use Rattle.gufi_formula.proofs.RangeLemmas.{InRange, in_range, not_above, sizes_exact, sizes_speak, times_exact}
 use Rattle.gufi_find.specs.declared.comparison.Comparison.{Comparison}
 use Rattle.gufi_find.specs.declared.comparison.Comparison.TheVariants.{EqualTo, MoreThan, LessThan}
 use Rattle.gufi_find.specs.declared.comparison.SizeUnit.{SizeUnit}
@@ -92,6 +92,12 @@ size_exact meta unit (LessThan n) some fits =
     (λ more. sizes_exact meta (pos 0) (pos ((n - 1) * unit)) fits
     ∙ ap certain (size_less (div_ceil meta.size unit) meta.size n ((n - 1) * unit) (units_at_most meta.size unit (n - 1) some) more))
 
+size_speaks : (unit : ℕ) (c : Comparison) → is_size (size_hint unit c) ≡ true
+size_speaks unit (EqualTo n) =
+    by_none (λ h. is_size h ≡ true) n (SizeIn 0 0) (sizes_in (pos ((n - 1) * unit + 1)) (pos (n * unit))) (λ none. refl) (λ more. sizes_speak (pos ((n - 1) * unit + 1)) (pos (n * unit)))
+size_speaks unit (MoreThan n) = sizes_speak (pos (n * unit + 1)) (pos 18446744073709551615)
+size_speaks unit (LessThan n) = by_none (λ h. is_size h ≡ true) n (SizeIn 1 0) (sizes_in (pos 0) (pos ((n - 1) * unit))) (λ none. refl) (λ more. sizes_speak (pos 0) (pos ((n - 1) * unit)))
+
 -- ---- times
 
 quotient_at_least : (x : ℤ) (k : ℕ) → int_le (pos k) (int_div x (pos 86400)) ≡ int_le (if k == 0 then negsuc 86398 else pos (k * 86400)) x
@@ -144,23 +150,26 @@ every_size n fits = grind (arith, nat_tests)
 same_number : (a n : ℕ) → is_in a a n ≡ (n == a)
 same_number a n = grind (arith, nat_tests)
 
+test_known : (t : Test) (row : Row) → InRange row.rec.meta (test_hint t) → tells (test_hint t) ≡ true → chance_at row.rec.meta (test_hint t) ≡ certain (test_holds t row)
+test_known tests.Always row r known = ap certain (every_size row.rec.meta.size (r.size refl))
+test_known (tests.KindIs kind) row r known = refl
+test_known (tests.SizeIs unit c) row r known = size_exact row.rec.meta (unit_bytes unit) c (unit_some unit) (r.size (size_speaks (unit_bytes unit) c))
+test_known (tests.MtimeIs now c) row r known = mtime_exact row.rec.meta now c r.mtime
+test_known (tests.UserIs uid) row r known = ap certain (same_number uid row.rec.meta.uid)
+test_known (tests.GroupIs gid) row r known = ap certain (same_number gid row.rec.meta.gid)
+test_known _ row r known = absurd (false≢true known)
+
 -- a hint that tells something is true of a row exactly where its test is
 pub test_exact : (t : Test) (row : Row) → fits_types row.rec ≡ true → tells (test_hint t) ≡ true → chance_at row.rec.meta (test_hint t) ≡ certain (test_holds t row)
-test_exact tests.Always row fits known = ap certain (every_size row.rec.meta.size (in_range row.rec fits).size)
-test_exact (tests.KindIs kind) row fits known = refl
-test_exact (tests.SizeIs unit c) row fits known = size_exact row.rec.meta (unit_bytes unit) c (unit_some unit) (in_range row.rec fits).size
-test_exact (tests.MtimeIs now c) row fits known = mtime_exact row.rec.meta now c (in_range row.rec fits).mtime
-test_exact (tests.UserIs uid) row fits known = ap certain (same_number uid row.rec.meta.uid)
-test_exact (tests.GroupIs gid) row fits known = ap certain (same_number gid row.rec.meta.gid)
-test_exact _ row fits known = absurd (false≢true known)
+test_exact t row fits known = test_known t row (in_range row.rec (test_hint t) fits) known
 
-covers : (row : Row) → fits_types row.rec ≡ true → (t : Test) → Covers (chance_or (chance_at row.rec.meta) (formula_of (test_hints t))) (test_holds t row)
+covers : (row : Row) → fits_sums row.rec.meta ≡ true → (t : Test) → Covers (chance_or (chance_told row.rec.meta) (formula_of (test_hints t))) (test_holds t row)
 covers row fits t =
-    subst (λ o. Covers (chance_or (chance_at row.rec.meta) o) (test_holds t row)) (sym (test_formula t))
-    (hint_covers row.rec.meta (test_hint t) (test_holds t row) (test_exact t row fits))
+    subst (λ o. Covers (chance_or (chance_told row.rec.meta) o) (test_holds t row)) (sym (test_formula t))
+    (told_covers row.rec.meta (test_hint t) (test_holds t row) fits (test_known t row))
 
 -- the hints of an expression may hold of each row of which it is true
-pub find_may_hold : (f : Find) (row : Row) (depth : ℕ) → fits_types row.rec ≡ true → find_holds f row depth ≡ true → may_hold (find_hints f) row ≡ true
-find_may_hold f row depth fits holds =
-    postfix_may_hold test_hints tests_whole row (λ t. test_holds t row) (covers row fits) f.expr
+pub find_may_hold : (f : Find) (row : Row) (depth : ℕ) → find_holds f row depth ≡ true → may_hold (find_hints f) row ≡ true
+find_may_hold f row depth holds =
+    postfix_may_hold test_hints tests_whole row (λ t. test_holds t row) (covers row) f.expr
     (and_parts (truth_of (λ t. test_holds t row) f.expr) (nat_le f.least_depth depth) (and_parts _ _ holds).0).0

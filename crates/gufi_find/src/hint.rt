@@ -1,7 +1,6 @@
 //! What sums can bound of an expression.
 ghost use Rattle.std.specs.Prelude.{◌≡◌, ◌+◌, ◌*◌, ◌+ℤ◌, ℕ, pos, IfOk, true};
 ghost use Rattle.gufi_base.specs.declared.record.Row.{Row};
-ghost use Rattle.gufi_base.specs.Rows.{fits_types};
 ghost use Rattle.gufi_formula.specs.Hints.{AreWhole, may_hold};
 ghost use Rattle.gufi_find.specs.Expressions.{find_holds};
 ghost use Rattle.gufi_find.specs.Tests.{unit_bytes};
@@ -111,7 +110,7 @@ impl FindExpr {
     pub fn hints(&self, alloc: Global) -> Result<Vec<Hint>, Memory>
         ensures exact { IfOk result (λ hints. hints.items ≡ find_hints self.now) }
         ensures whole { IfOk result (λ hints. AreWhole hints.items) }
-        ensures sound { IfOk result (λ hints. (row : Row) (depth : ℕ) → fits_types row.rec ≡ true → find_holds self.now row depth ≡ true → may_hold hints.items row ≡ true) }
+        ensures sound { IfOk result (λ hints. (row : Row) (depth : ℕ) → find_holds self.now row depth ≡ true → may_hold hints.items row ≡ true) }
     {
         let mut hints = Vec::new(alloc);
         self.formula.put_hints(&mut hints)?;
