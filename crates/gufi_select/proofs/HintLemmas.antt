@@ -10,17 +10,18 @@ use Rattle.std.proofs.lemmas.Bool.Decides.{nat_tests}
 use Rattle.std.proofs.lemmas.Int.{ints}
 use Rattle.gufi_base.specs.declared.record.Kind.{Kind as KindOf}
 use Rattle.gufi_base.specs.declared.record.Kind.TheVariants as kinds
+use Rattle.gufi_base.specs.declared.record.Meta.{Meta}
 use Rattle.gufi_base.specs.declared.record.Row.{Row}
 use Rattle.gufi_base.specs.declared.hint.Hint.{Hint}
 use Rattle.gufi_base.specs.declared.hint.Hint.TheVariants as hints
 use Rattle.gufi_base.specs.Kinds.{kind_letter, kind_of_letter, read_kind, is_dir}
 use Rattle.gufi_base.specs.Rows.{fits_types, fits_i64}
 use Rattle.gufi_formula.specs.Formulas.{Formula, test, negation, both, holds as truth_of}
-use Rattle.gufi_formula.specs.Hints.{is_in, postfix, formula_of, only_one, hints_behind, AreWhole, Chance, certain, turned, chance, chance_at, chance_or, may_hold}
+use Rattle.gufi_formula.specs.Hints.{is_in, postfix, formula_of, only_one, hints_behind, AreWhole, Chance, certain, turned, chance, chance_at, chance_or, chance_told, fits_sums, may_hold}
 use Rattle.gufi_formula.specs.Leaves.{is_leaf, tells, leaf_formula, turned_formula, leaf_whole, turned_whole}
 use Rattle.gufi_formula.specs.Ranges.{sizes_in, uids_in, gids_in, times_in, least_time, greatest_time}
-use Rattle.gufi_formula.proofs.HintLemmas.{Covers, certain_covers, hint_covers, covers_turned, covers_both, joined, postfix_read, postfix_formula, postfix_whole, postfix_covers, postfix_may_hold}
-use Rattle.gufi_formula.proofs.RangeLemmas.{InRange, in_range, not_above, sizes_exact, uids_exact, gids_exact, times_exact}
+use Rattle.gufi_formula.proofs.HintLemmas.{Covers, told_covers, covers_turned, may_hold_within, joined, postfix_read, postfix_formula, postfix_whole, postfix_covers}
+use Rattle.gufi_formula.proofs.RangeLemmas.{InRange, in_range, not_above, sizes_exact, sizes_speak, uids_exact, gids_exact, times_exact}
 use Rattle.gufi_select.specs.declared.column.Column.TheVariants.{Kind, Uid, Gid, Size, Mtime}
 use Rattle.gufi_select.specs.declared.column.Table.{Table}
 use Rattle.gufi_select.specs.declared.column.Table.TheVariants.{Entries, Summary, Rows}
@@ -163,11 +164,11 @@ size_high n h = grind (arith, nat_tests)
 id_high : (n : ℕ) → nat_lt n (2 ^ 32) ≡ true → int_le (pos n) (pos 4294967295) ≡ true
 id_high n h = grind (arith, nat_tests)
 
-leaf_exact : (found : Bool) (c : Condition) (row : Row) (depth : ℕ) → InRange row.rec.meta → tells (leaf_of c) ≡ true
+leaf_exact : (found : Bool) (c : Condition) (row : Row) (depth : ℕ) → InRange row.rec.meta (leaf_of c) → tells (leaf_of c) ≡ true
     → chance_at row.rec.meta (leaf_of c) ≡ certain (condition_holds found (told c) (seen_row row depth))
 leaf_exact found (Compares Size op (Number n)) row depth r known =
     let e = ends (pos 0) (pos 18446744073709551615) op n in
-    sizes_exact row.rec.meta e.first e.last r.size ∙ ap certain (ends_exact (pos 0) (pos 18446744073709551615) (pos row.rec.meta.size) op n (natural_low row.rec.meta.size) (size_high row.rec.meta.size r.size))
+    sizes_exact row.rec.meta e.first e.last (r.size (sizes_speak e.first e.last)) ∙ ap certain (ends_exact (pos 0) (pos 18446744073709551615) (pos row.rec.meta.size) op n (natural_low row.rec.meta.size) (size_high row.rec.meta.size (r.size (sizes_speak e.first e.last))))
 leaf_exact found (Compares Mtime op (Number n)) row depth r known =
     let e = ends least_time greatest_time op n in
     let f = and_parts (int_le least_time row.rec.meta.mtime) (int_lt row.rec.meta.mtime (pos (2 ^ 63))) r.mtime in
@@ -196,7 +197,7 @@ turned_exact row hint o leaf known e =
     ∙ ap (chance_or (chance_at row.rec.meta)) (turned_formula hint leaf) ∙ ap turned e ∙ turned_order o
 
 -- the hints of a condition are true of a row exactly where it is
-condition_known : (found : Bool) (c : Condition) (row : Row) (depth : ℕ) → InRange row.rec.meta → tells (leaf_of c) ≡ true
+condition_known : (found : Bool) (c : Condition) (row : Row) (depth : ℕ) → InRange row.rec.meta (leaf_of c) → tells (leaf_of c) ≡ true
     → chance_or (chance_at row.rec.meta) (formula_of (condition_hints c)) ≡ certain (condition_holds found c (seen_row row depth))
 condition_known found (Compares Size Unequal (Number n)) row depth r known =
     let c = Compares Size Unequal (Number n) in turned_exact row (leaf_of c) (int_cmp (pos row.rec.meta.size) n) (condition_leaf c) known (leaf_exact found c row depth r known)
@@ -217,21 +218,31 @@ condition_known found Finds row depth r known = absurd (false≢true known)
 
 pub condition_exact : (found : Bool) (c : Condition) (row : Row) (depth : ℕ) → fits_types row.rec ≡ true → tells (leaf_of c) ≡ true
     → chance_or (chance_at row.rec.meta) (formula_of (condition_hints c)) ≡ certain (condition_holds found c (seen_row row depth))
-condition_exact found c row depth fits known = condition_known found c row depth (in_range row.rec fits) known
+condition_exact found c row depth fits known = condition_known found c row depth (in_range row.rec (leaf_of c) fits) known
 
-unknown_hints : (b : Bool) (hint : Hint) → tells hint ≡ false → (if b && tells hint then hint ∷ hints.Not ∷ [] else hint ∷ []) ≡ hint ∷ []
-unknown_hints false hint e = refl
-unknown_hints true hint e = ap (λ (b : Bool). if b then hint ∷ hints.Not ∷ [] else hint ∷ []) e
+turned_back : (c : Chance) (b : Bool) → turned c ≡ certain b → c ≡ certain (not b)
+turned_back c true e = ap turned e
+turned_back c false e = ap turned e
 
-covers : (found : Bool) (row : Row) (depth : ℕ) → fits_types row.rec ≡ true → (c : Condition)
-    → Covers (chance_or (chance_at row.rec.meta) (formula_of (condition_hints c))) (condition_holds found c (seen_row row depth))
-covers found row depth fits c = by (tells (leaf_of c)) refl where
-  by : (b : Bool) → tells (leaf_of c) ≡ b → Covers (chance_or (chance_at row.rec.meta) (formula_of (condition_hints c))) (condition_holds found c (seen_row row depth))
-  by true e = certain_covers _ _ (condition_exact found c row depth fits e)
-  by false e =
-      subst (λ l. Covers (chance_or (chance_at row.rec.meta) (formula_of l)) (condition_holds found c (seen_row row depth))) (sym (unknown_hints (is_turned c) (leaf_of c) e))
-      (subst (λ o. Covers (chance_or (chance_at row.rec.meta) o) (condition_holds found c (seen_row row depth))) (sym (leaf_formula (leaf_of c) (condition_leaf c)))
-      (hint_covers row.rec.meta (leaf_of c) (condition_holds found c (seen_row row depth)) (λ known. absurd (false≢true (sym e ∙ known)))))
+turned_covers : (c : Chance) (b : Bool) → Covers c (not b) → Covers (turned c) b
+turned_covers c true k = covers_turned c false k
+turned_covers c false k = covers_turned c true k
+
+-- a leaf, turned round or not
+signed_covers : (meta : Meta) (hint : Hint) (round b : Bool) → is_leaf hint ≡ true → fits_sums meta ≡ true
+    → (InRange meta hint → tells hint ≡ true → chance_or (chance_at meta) (formula_of (if round then hint ∷ hints.Not ∷ [] else hint ∷ [])) ≡ certain b)
+    → Covers (chance_or (chance_told meta) (formula_of (if round then hint ∷ hints.Not ∷ [] else hint ∷ []))) b
+signed_covers meta hint true b leaf fits exact =
+    subst (λ o. Covers (chance_or (chance_told meta) o) b) (sym (turned_formula hint leaf)) (turned_covers (chance_told meta hint) b (told_covers meta hint (not b) fits
+    (λ r known. turned_back (chance_at meta hint) b (ap (chance_or (chance_at meta)) (sym (turned_formula hint leaf)) ∙ exact r known))))
+signed_covers meta hint false b leaf fits exact =
+    subst (λ o. Covers (chance_or (chance_told meta) o) b) (sym (leaf_formula hint leaf)) (told_covers meta hint b fits
+    (λ r known. ap (chance_or (chance_at meta)) (sym (leaf_formula hint leaf)) ∙ exact r known))
+
+covers : (found : Bool) (row : Row) (depth : ℕ) → fits_sums row.rec.meta ≡ true → (c : Condition)
+    → Covers (chance_or (chance_told row.rec.meta) (formula_of (condition_hints c))) (condition_holds found c (seen_row row depth))
+covers found row depth fits c =
+    signed_covers row.rec.meta (leaf_of c) (is_turned c && tells (leaf_of c)) (condition_holds found c (seen_row row depth)) (condition_leaf c) fits (condition_known found c row depth)
 
 -- ---- the whole SELECT
 
@@ -256,28 +267,30 @@ dir_letter _ = refl
 every_size : (n : ℕ) → nat_lt n (2 ^ 64) ≡ true → is_in 0 18446744073709551615 n ≡ true
 every_size n fits = grind (arith, nat_tests)
 
-in_may_hold : (table : Table) (condition : Option (Formula Condition)) (found : Bool) (row : Row) (depth : ℕ) → fits_types row.rec ≡ true
-    → is_in_table table row.rec.meta ≡ true → holds_with found condition (seen_row row depth) ≡ true → may_hold (hints_in table condition) row ≡ true
-unfolding may_hold formula_of
-in_may_hold Entries None found row depth fits at h = ap not (dir_letter row.rec.meta.kind) ∙ at
-in_may_hold Summary None found row depth fits at h = dir_letter row.rec.meta.kind ∙ at
-in_may_hold Rows None found row depth fits at h = every_size row.rec.meta.size (in_range row.rec fits).size
-in_may_hold Entries (Some f) found row depth fits at h =
-    ap (λ o. (chance_or (chance_at row.rec.meta) (only_one o)).holds) (postfix_read condition_hints conditions_whole f (hints.Kind kinds.Dir ∷ hints.Not ∷ hints.And ∷ []) [])
-    ∙ ap₂ (λ (a : Bool) (b : Bool). a && b)
-    ((postfix_covers condition_hints conditions_whole (chance_at row.rec.meta) (λ c. condition_holds found c (seen_row row depth)) (covers found row depth fits) f).holds h)
-    (ap not (dir_letter row.rec.meta.kind) ∙ at)
-in_may_hold Summary (Some f) found row depth fits at h =
-    ap (λ o. (chance_or (chance_at row.rec.meta) (only_one o)).holds) (postfix_read condition_hints conditions_whole f (hints.Kind kinds.Dir ∷ hints.And ∷ []) [])
-    ∙ ap₂ (λ (a : Bool) (b : Bool). a && b)
-    ((postfix_covers condition_hints conditions_whole (chance_at row.rec.meta) (λ c. condition_holds found c (seen_row row depth)) (covers found row depth fits) f).holds h)
-    (dir_letter row.rec.meta.kind ∙ at)
-in_may_hold Rows (Some f) found row depth fits at h =
-    postfix_may_hold condition_hints conditions_whole row (λ c. condition_holds found c (seen_row row depth)) (covers found row depth fits) f h
+condition_covers : (f : Formula Condition) (found : Bool) (row : Row) (depth : ℕ) → fits_sums row.rec.meta ≡ true → truth_of (λ c. condition_holds found c (seen_row row depth)) f ≡ true
+    → (chance (chance_told row.rec.meta) (joined (λ c. (conditions_whole c).0) f)).holds ≡ true
+condition_covers f found row depth fits h =
+    (postfix_covers condition_hints conditions_whole (chance_told row.rec.meta) (λ c. condition_holds found c (seen_row row depth)) (covers found row depth fits) f).holds h
+
+in_told : (table : Table) (condition : Option (Formula Condition)) (found : Bool) (row : Row) (depth : ℕ) → fits_sums row.rec.meta ≡ true
+    → is_in_table table row.rec.meta ≡ true → holds_with found condition (seen_row row depth) ≡ true → (chance_or (chance_told row.rec.meta) (formula_of (hints_in table condition))).holds ≡ true
+unfolding formula_of
+in_told Entries None found row depth fits at h = ap not (dir_letter row.rec.meta.kind) ∙ at
+in_told Summary None found row depth fits at h = dir_letter row.rec.meta.kind ∙ at
+in_told Rows None found row depth fits at h =
+    (told_covers row.rec.meta (hints.SizeIn 0 18446744073709551615) true fits (λ r known. ap certain (every_size row.rec.meta.size (r.size refl)))).holds refl
+in_told Entries (Some f) found row depth fits at h =
+    ap (λ o. (chance_or (chance_told row.rec.meta) (only_one o)).holds) (postfix_read condition_hints conditions_whole f (hints.Kind kinds.Dir ∷ hints.Not ∷ hints.And ∷ []) [])
+    ∙ ap₂ (λ (a : Bool) (b : Bool). a && b) (condition_covers f found row depth fits h) (ap not (dir_letter row.rec.meta.kind) ∙ at)
+in_told Summary (Some f) found row depth fits at h =
+    ap (λ o. (chance_or (chance_told row.rec.meta) (only_one o)).holds) (postfix_read condition_hints conditions_whole f (hints.Kind kinds.Dir ∷ hints.And ∷ []) [])
+    ∙ ap₂ (λ (a : Bool) (b : Bool). a && b) (condition_covers f found row depth fits h) (dir_letter row.rec.meta.kind ∙ at)
+in_told Rows (Some f) found row depth fits at h =
+    ap (λ o. (chance_or (chance_told row.rec.meta) o).holds) (postfix_formula condition_hints conditions_whole f) ∙ condition_covers f found row depth fits h
 
 -- the hints of a SELECT may hold of each row of which it is true
-pub select_may_hold : (select : Select) (row : Row) (depth : ℕ) → fits_types row.rec ≡ true → select_holds select row depth ≡ true → may_hold (select_hints select) row ≡ true
-select_may_hold select row depth fits holds =
+pub select_may_hold : (select : Select) (row : Row) (depth : ℕ) → select_holds select row depth ≡ true → may_hold (select_hints select) row ≡ true
+select_may_hold select row depth holds =
     let found = regexp_holds select.regexp (seen_row row depth) in
     let parts = and_parts (is_in_table select.table row.rec.meta) (holds_with found select.condition (seen_row row depth)) holds in
-    in_may_hold select.table select.condition found row depth fits parts.0 parts.1
+    may_hold_within (select_hints select) row (λ fits. in_told select.table select.condition found row depth fits parts.0 parts.1)

@@ -1,7 +1,6 @@
 //! What sums can bound of a SELECT.
 ghost use Rattle.std.specs.Prelude.{◌≡◌, ◌++◌, ◌∷◌, [], ℕ, pos, IfOk, OnOk, true, None, Some};
 ghost use Rattle.gufi_base.specs.declared.record.Row.{Row};
-ghost use Rattle.gufi_base.specs.Rows.{fits_types};
 ghost use Rattle.gufi_formula.specs.Hints.{postfix, AreWhole, may_hold};
 ghost use Rattle.gufi_select.specs.Columns.{select_holds};
 ghost use Rattle.gufi_select.specs.ConditionHints.{ends, number_leaf, text_leaf, leaf_of, is_turned, condition_hints, hints_in, select_hints};
@@ -211,7 +210,7 @@ impl Select {
     pub fn hints(&self, alloc: Global) -> Result<Vec<Hint>, Memory>
         ensures exact { IfOk result (λ hints. hints.items ≡ select_hints self.now) }
         ensures whole { IfOk result (λ hints. AreWhole hints.items) }
-        ensures sound { IfOk result (λ hints. (row : Row) (depth : ℕ) → fits_types row.rec ≡ true → select_holds self.now row depth ≡ true → may_hold hints.items row ≡ true) }
+        ensures sound { IfOk result (λ hints. (row : Row) (depth : ℕ) → select_holds self.now row depth ≡ true → may_hold hints.items row ≡ true) }
     {
         let hints = self.hint_list(alloc)?;
         Ok(hints)
