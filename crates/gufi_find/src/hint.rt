@@ -104,9 +104,9 @@ impl Hinted for Test {
 }
 
 impl FindExpr {
-    #[tactic(auto, using(crate::proofs::HintLemmas::find_may_hold))]
     /// What sums can tell of it, in postfix order: of its tests of types, sizes, times of the last change, users and groups.
     /// The bounds of depth are left out.
+    #[tactic(auto, using(crate::proofs::HintLemmas::find_may_hold))]
     pub fn hints(&self, alloc: Global) -> Result<Vec<Hint>, Memory>
         ensures exact { IfOk result (λ hints. hints.items ≡ find_hints self.now) }
         ensures whole { IfOk result (λ hints. AreWhole hints.items) }

@@ -15,7 +15,6 @@ use Rattle.gufi_select.specs.declared.column.Table.{Table}
 use Rattle.gufi_select.specs.declared.column.Table.TheVariants.{Entries, Summary, Rows}
 use Rattle.gufi_select.specs.declared.operator.Operator.{Operator}
 use Rattle.gufi_select.specs.declared.operator.Operator.TheVariants.{Equal, Unequal, Below, AtMost, Above, AtLeast}
-use Rattle.gufi_select.specs.declared.condition.Value.{Value}
 use Rattle.gufi_select.specs.declared.condition.Value.TheVariants.{Text, Number}
 use Rattle.gufi_select.specs.declared.condition.Condition.{Condition}
 use Rattle.gufi_select.specs.declared.condition.Condition.TheVariants.{Compares, Finds}

@@ -1,5 +1,5 @@
 -- The hints of a condition read to one formula.
-use Rattle.std.specs.Prelude.{◌≡◌, Bool, true, false, ◌&&◌, ℤ, pos, List, [], ◌∷◌, Option, Some, None, refl, if◌then◌else◌}
+use Rattle.std.specs.Prelude.{◌≡◌, Bool, true, false, ◌&&◌, pos, [], ◌∷◌, Option, Some, None, refl, if◌then◌else◌}
 use Rattle.gufi_base.specs.Kinds.{read_kind}
 use Rattle.gufi_base.specs.declared.record.Kind.{Kind as KindOf}
 use Rattle.gufi_base.specs.declared.hint.Hint.{Hint}

@@ -20,8 +20,8 @@ pub struct Range {
     pub last: i128,
 }
 
-#[tactic(auto, unfolding(crate::specs::ConditionHints::ends))]
 /// The numbers from the least to the greatest that compare so with a number. Of `<>` they are those that `=` excludes.
+#[tactic(auto, unfolding(crate::specs::ConditionHints::ends))]
 fn ends(least: i128, most: i128, operator: Operator, number: i128) -> Range
     ensures { result ≡ ends least most operator number }
 {
