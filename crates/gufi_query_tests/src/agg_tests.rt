@@ -32,7 +32,10 @@ fn the_select_between_chooses_rows_and_prints_the_key(rt: HostRuntime) -> Result
         b"select Level , count ( * ) , sum(size),MIN(mtime) from ROWS where size = 7 or size = 8\tGroup\nBy LEVEL",
     )?;
     assert_eq!(rt; agg.key(), AggKey::Level);
-    assert_eq!(rt; agg.items(), [Item::Count, Item::SumSize, Item::MinMtime].as_slice());
+    assert_eq!(rt;
+        agg.items(),
+        [Item::Count, Item::SumSize, Item::MinMtime].as_slice()
+    );
     let mut chosen = Vec::new(alloc);
     let mut lines = Vec::new(alloc);
     for size in 6..10 {

@@ -23,7 +23,13 @@ fn meta(kind: Kind, size: u64) -> Meta {
     }
 }
 
-pub(crate) fn row(alloc: Global, path: &[u8], kind: Kind, size: u64, link: &[u8]) -> Result<Row, Fail> {
+pub(crate) fn row(
+    alloc: Global,
+    path: &[u8],
+    kind: Kind,
+    size: u64,
+    link: &[u8],
+) -> Result<Row, Fail> {
     Ok(Row {
         path: Path::read(alloc, path)?,
         rec: Rec {
@@ -55,7 +61,12 @@ fn parts_of<'a>(path: &'a Path, rec: &'a Rec) -> RowRef<'a>
     }
 }
 
-pub(crate) fn is_chosen(alloc: Global, select: &Select, row: &Row, depth: u32) -> Result<bool, Fail> {
+pub(crate) fn is_chosen(
+    alloc: Global,
+    select: &Select,
+    row: &Row,
+    depth: u32,
+) -> Result<bool, Fail> {
     asked(
         alloc,
         &select.question(),

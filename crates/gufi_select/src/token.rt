@@ -208,12 +208,7 @@ fn text_at(alloc: Global, rest: &[u8]) -> Result<Front, AllocError>
 /// The token that a byte begins, which is the first of these bytes; the others follow it.
 ///
 /// Memory for a text alone. Time in proportion to the token's bytes.
-pub fn front_token(
-    alloc: Global,
-    first: u8,
-    rest: &[u8],
-    bytes: &[u8],
-) -> Result<Front, AllocError>
+pub fn front_token(alloc: Global, first: u8, rest: &[u8], bytes: &[u8]) -> Result<Front, AllocError>
     ensures { IfOk result (λ front. front ≡ front_token first rest.now bytes.now) }
 {
     if is_word_start(first) {
