@@ -284,7 +284,7 @@ fn groups_by<K: RowNumber + Send + Sync, R: Threads + Wait + Sync, G: Gate + Syn
 {
     // The tree's count tells that the rows of an answer are few.
     let _tree = snap.tree();
-    let question = select.question();
+    let chosen = select.question();
     let skip = select_pruner(alloc, select)?;
     let groups = answer::<R, SelectQuestion<'_>, Groups<K>, Pruner, G>(
         walkers.rt,
@@ -292,7 +292,7 @@ fn groups_by<K: RowNumber + Send + Sync, R: Threads + Wait + Sync, G: Gate + Syn
         snap,
         who,
         start,
-        &question,
+        &chosen,
         &skip,
         walkers.count,
         walkers.gate,
