@@ -1,5 +1,5 @@
 -- A condition's hint is true of a row exactly where the condition is, and a SELECT's may hold where it does.
-use Rattle.std.proofs.Common.{◌≡◌, ℕ, ◌≤◌, ◌^◌, Bool, true, false, cond, List, [], ◌∷◌, ◌++◌, refl, sym, ap, ap₂, ◌∙◌, subst, arith}
+use Rattle.std.proofs.Common.{◌≡◌, ℕ, ◌^◌, Bool, true, false, cond, List, [], ◌∷◌, refl, sym, ap, ap₂, ◌∙◌, subst, arith}
 use Rattle.std.specs.Prelude.{ℤ, pos, ◌+ℤ◌, ◌-ℤ◌, int_le, int_lt, ◌&&◌, ◌||◌, ◌==◌, not, nat_lt, Option, Some, None, if◌then◌else◌}
 use Rattle.std.specs.declared.cmp.Ordering.{Ordering}
 use Rattle.std.specs.declared.cmp.Ordering.TheVariants as orders
@@ -15,11 +15,11 @@ use Rattle.gufi_base.specs.declared.record.Row.{Row}
 use Rattle.gufi_base.specs.declared.hint.Hint.{Hint}
 use Rattle.gufi_base.specs.declared.hint.Hint.TheVariants as hints
 use Rattle.gufi_base.specs.Kinds.{kind_letter, kind_of_letter, read_kind, is_dir}
-use Rattle.gufi_base.specs.Rows.{fits_types, fits_i64}
+use Rattle.gufi_base.specs.Rows.{fits_types}
 use Rattle.gufi_formula.specs.Formulas.{Formula, test, negation, both, holds as truth_of}
-use Rattle.gufi_formula.specs.Hints.{is_in, postfix, formula_of, only_one, hints_behind, AreWhole, Chance, certain, turned, chance, chance_at, chance_or, chance_told, fits_sums, may_hold}
-use Rattle.gufi_formula.specs.Leaves.{is_leaf, tells, leaf_formula, turned_formula, leaf_whole, turned_whole}
-use Rattle.gufi_formula.specs.Ranges.{sizes_in, uids_in, gids_in, times_in, least_time, greatest_time}
+use Rattle.gufi_formula.specs.Hints.{is_in, formula_of, only_one, AreWhole, Chance, certain, turned, chance, chance_at, chance_or, chance_told, fits_sums, may_hold}
+use Rattle.gufi_formula.specs.Leaves.{is_leaf, tells, leaf_formula, turned_formula}
+use Rattle.gufi_formula.specs.Ranges.{least_time, greatest_time}
 use Rattle.gufi_formula.proofs.HintLemmas.{Covers, told_covers, covers_turned, may_hold_within, joined, postfix_read, postfix_formula, postfix_whole, postfix_covers}
 use Rattle.gufi_formula.proofs.RangeLemmas.{InRange, in_range, not_above, sizes_exact, sizes_speak, uids_exact, gids_exact, times_exact}
 use Rattle.gufi_select.specs.declared.column.Column.TheVariants.{Kind, Uid, Gid, Size, Mtime}
@@ -31,8 +31,8 @@ use Rattle.gufi_select.specs.declared.condition.Value.TheVariants.{Text, Number}
 use Rattle.gufi_select.specs.declared.condition.Condition.{Condition}
 use Rattle.gufi_select.specs.declared.condition.Condition.TheVariants.{Compares, Finds}
 use Rattle.gufi_select.specs.declared.hint.Range.{Range}
-use Rattle.gufi_select.specs.Columns.{Seen, Select, seen_row, admits, condition_holds, is_in_table, holds_with, regexp_holds, select_holds}
-use Rattle.gufi_select.specs.ConditionHints.{ends, kind_leaf, number_leaf, leaf_of, is_unequal, is_turned, condition_hints, hints_in, select_hints}
+use Rattle.gufi_select.specs.Columns.{Select, seen_row, admits, condition_holds, is_in_table, holds_with, regexp_holds, select_holds}
+use Rattle.gufi_select.specs.ConditionHints.{ends, kind_leaf, leaf_of, is_turned, condition_hints, hints_in, select_hints}
 use Rattle.gufi_select.specs.WholeHints.{condition_leaf, conditions_whole}
 
 -- ---- numbers
