@@ -24,6 +24,7 @@ import sys
 LARGE = ["-name", "*.h5", "-size", "+2048"]
 LARGER = "SELECT path, size FROM entries WHERE size > 1000000"
 NAMED = "SELECT path FROM entries WHERE name REGEXP '\\.h5$'"
+BY_OWNER = "SELECT uid, COUNT(*), SUM(size) FROM rows GROUP BY uid"
 
 # What glibc's malloc is told. The script `gufi` keeps a value that is set, also an empty one.
 PAGES = {"small": "", "large": "glibc.malloc.hugetlb=1:glibc.malloc.top_pad=67108864"}
@@ -73,6 +74,8 @@ def questions(program, index, user):
         "all as root": [program, "find", index, "0", "/"],
         "SELECT by size": [program, "query", index, user, "/", LARGER],
         "SELECT by REGEXP": [program, "query", index, user, "/", NAMED],
+        "groups as user": [program, "agg", index, user, "/", BY_OWNER],
+        "groups as root": [program, "agg", index, "0", "/", BY_OWNER],
     }
 
 
@@ -92,12 +95,14 @@ def asked_of(given):
 
 
 def match(command, given):
-    """The same question for a program that has `find`, `trace2index` and SELECT without REGEXP: a sum as a find of few rows."""
+    """The same question for a program that has `find`, `trace2index` and SELECT without REGEXP: a sum, or groups, as a find of few rows."""
     verb, index, rest = command[1], command[2], command[3:]
     if verb == "walk":
         verb, rest = "find", ["%s:%s" % (rest[0], rest[1].strip("-")), "/"]
     if verb == "stat":
         verb, rest = "find", rest + LARGE
+    if verb == "agg":
+        verb, rest = "find", rest[:2] + LARGE
     words = given.words.split() if index == given.image else []
     return [given.beside, verb] + words + [index] + [LARGER if word == NAMED else word for word in rest]
 
