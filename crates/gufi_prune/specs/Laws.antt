@@ -206,7 +206,7 @@ below-parts most (Some a) None e = (e, refl)
 below-parts most (Some a) (Some b) e = let k = ltb-true (max a.1 b.1) most e in (lt-ltb a.1 most (omega (arith, k)), lt-ltb b.1 most (omega (arith, k)))
 
 int_before : (a b : ℤ) → (int_lt a b ≡ false → ⊥) → int_lt a b ≡ true
-int_before a b h = elim (cases_Bool (int_lt a b)) [ | inl so ↦ so | inr off ↦ absurd (h off) ]
+int_before a b h = elim (cases_Bool (int_lt a b)) [ inl so ↦ so | inr off ↦ absurd (h off) ]
 
 times-parts : (a b : Option (ℤ × ℤ)) → are_times (span int_min int_max a b) ≡ true → (are_times a ≡ true) × (are_times b ≡ true)
 times-parts None b e = (refl, e)
@@ -214,9 +214,10 @@ times-parts (Some a) None e = (e, refl)
 times-parts (Some a) (Some b) e =
     let p = and_parts (int_le (neg_ℤ (pos (2 ^ 63))) (int_min a.0 b.0)) (int_lt (int_max a.1 b.1) (pos (2 ^ 63))) e in
     let low = int_low_back (neg_ℤ (pos (2 ^ 63))) a.0 b.0 p.0 in
-    let high = p.1 in
-    (both_true low.0 (int_before a.1 (pos (2 ^ 63)) (λ off. omega (arith, ints, clamps, high, off))),
-    both_true low.1 (int_before b.1 (pos (2 ^ 63)) (λ off. omega (arith, ints, clamps, high, off))))
+    let high = p.1 in (
+      both_true low.0 (int_before a.1 (pos (2 ^ 63)) (λ off. omega (arith, ints, clamps, high, off))),
+      both_true low.1 (int_before b.1 (pos (2 ^ 63)) (λ off. omega (arith, ints, clamps, high, off))),
+    )
 
 fits-parts : (a b : Summary) → fits (join a b) ≡ true → (fits a ≡ true) × (fits b ≡ true)
 fits-parts a b e =
@@ -231,9 +232,10 @@ fits-parts a b e =
 
 -- what is ruled out of two lists joined is ruled out of each
 pub no_match-parts : (list : List Hint) (a b : Summary) → no_match list (join a b) ≡ true → (no_match list a ≡ true) × (no_match list b ≡ true)
-no_match-parts list a b e =
-    (any_class-grows list a (join a b) (may_meet-left list a b) (λ f. (fits-parts a b f).0) e,
-    any_class-grows list b (join a b) (may_meet-right list a b) (λ f. (fits-parts a b f).1) e)
+no_match-parts list a b e = (
+  any_class-grows list a (join a b) (may_meet-left list a b) (λ f. (fits-parts a b f).0) e,
+  any_class-grows list b (join a b) (may_meet-right list a b) (λ f. (fits-parts a b f).1) e,
+)
 
 -- ---- the rows of a sum
 
@@ -403,22 +405,22 @@ ruled_out : (list : List Hint) (sum : Summary) (class : Class) → no_match list
 unfolding no_match
 ruled_out list sum class e =
     by class (may_meet list sum Dirs) (may_meet list sum Files) (may_meet list sum Links) (may_meet list sum Others) refl refl refl refl (and_parts (fits sum) _ e).1 where
-  by : (class : Class) (d f l o : Bool) → may_meet list sum Dirs ≡ d → may_meet list sum Files ≡ f → may_meet list sum Links ≡ l → may_meet list sum Others ≡ o
-      → not (d || f || l || o) ≡ true → may_meet list sum class ≡ false
-  by Dirs false f l o di fi li oi e = di
-  by Dirs true f l o di fi li oi e = absurd (false≢true e)
-  by Files d false l o di fi li oi e = fi
-  by Files true true l o di fi li oi e = absurd (false≢true e)
-  by Files false true l o di fi li oi e = absurd (false≢true e)
-  by Links d f false o di fi li oi e = li
-  by Links true f true o di fi li oi e = absurd (false≢true e)
-  by Links false true true o di fi li oi e = absurd (false≢true e)
-  by Links false false true o di fi li oi e = absurd (false≢true e)
-  by Others d f l false di fi li oi e = oi
-  by Others true f l true di fi li oi e = absurd (false≢true e)
-  by Others false true l true di fi li oi e = absurd (false≢true e)
-  by Others false false true true di fi li oi e = absurd (false≢true e)
-  by Others false false false true di fi li oi e = absurd (false≢true e)
+      by : (class : Class) (d f l o : Bool) → may_meet list sum Dirs ≡ d → may_meet list sum Files ≡ f → may_meet list sum Links ≡ l → may_meet list sum Others ≡ o
+          → not (d || f || l || o) ≡ true → may_meet list sum class ≡ false
+      by Dirs false f l o di fi li oi e = di
+      by Dirs true f l o di fi li oi e = absurd (false≢true e)
+      by Files d false l o di fi li oi e = fi
+      by Files true true l o di fi li oi e = absurd (false≢true e)
+      by Files false true l o di fi li oi e = absurd (false≢true e)
+      by Links d f false o di fi li oi e = li
+      by Links true f true o di fi li oi e = absurd (false≢true e)
+      by Links false true true o di fi li oi e = absurd (false≢true e)
+      by Links false false true o di fi li oi e = absurd (false≢true e)
+      by Others d f l false di fi li oi e = oi
+      by Others true f l true di fi li oi e = absurd (false≢true e)
+      by Others false true l true di fi li oi e = absurd (false≢true e)
+      by Others false false true true di fi li oi e = absurd (false≢true e)
+      by Others false false false true di fi li oi e = absurd (false≢true e)
 
 in_range_fits : (list : List Hint) (sum : Summary) → no_match list sum ≡ true → fits sum ≡ true
 unfolding no_match

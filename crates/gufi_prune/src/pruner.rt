@@ -104,10 +104,11 @@ impl Pruner {
     fn rules_out(&self, sum: &Summary) -> bool
         ensures { result ≡ no_match self.now.hints sum.now }
     {
-        fits(sum) && !(self.may_meet(sum, Class::Dirs)
-            || self.may_meet(sum, Class::Files)
-            || self.may_meet(sum, Class::Links)
-            || self.may_meet(sum, Class::Others))
+        fits(sum)
+            && !(self.may_meet(sum, Class::Dirs)
+                || self.may_meet(sum, Class::Files)
+                || self.may_meet(sum, Class::Links)
+                || self.may_meet(sum, Class::Others))
     }
 }
 

@@ -101,8 +101,16 @@ fn each_piece_is_one_task(rt: HostRuntime) -> Result<(), Fail> {
 #[test]
 fn what_sums_rule_out_is_not_looked_at(rt: HostRuntime) -> Result<(), Fail> {
     for (test, text, stores) in [
-        (["-type", "f", "-size", "+2"].as_slice(), b"".as_slice(), 0u64),
-        (["-type", "f", "-size", "+1"].as_slice(), b"/d\n".as_slice(), 1),
+        (
+            ["-type", "f", "-size", "+2"].as_slice(),
+            b"".as_slice(),
+            0u64,
+        ),
+        (
+            ["-type", "f", "-size", "+1"].as_slice(),
+            b"/d\n".as_slice(),
+            1,
+        ),
         (["-size", "+2"].as_slice(), b"/\n".as_slice(), 1),
     ] {
         let gate = Counting::new();

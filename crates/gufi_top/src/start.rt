@@ -36,10 +36,7 @@ fn text_of(alloc: Global, out: Vec<u8>) -> Output
 
 /// What a reply over a snapshot writes: its text, or the note of its start's refusal.
 #[tactic(auto, using(crate::proofs::AskLemmas::writing))]
-pub(crate) fn written(
-    alloc: Global,
-    reply: Result<Vec<u8>, Refusal>,
-) -> Result<Output, Halt>
+pub(crate) fn written(alloc: Global, reply: Result<Vec<u8>, Refusal>) -> Result<Output, Halt>
     ensures text { (given : Result (List ℕ) SeenRefusal) → Replies reply given → Gives text_view result (replied given) }
     ensures of_bytes { IfErr result IsOfBytes }
     ensures past_words { IfErr result IsPastWords }
