@@ -1,9 +1,10 @@
 //! What a command asks of one tree, and what it writes of the answer.
-ghost use Rattle.std.specs.Prelude.{◌≡◌, ◌≢◌, true, Some, None, IfOk, IfErr, OnOk};
+ghost use Rattle.std.specs.Prelude.{◌≡◌, ◌≢◌, ◌<◌, true, length, All, Some, None, IfOk, IfErr, OnOk};
 ghost use Rattle.gufi_tree.specs.Resolve.{resolve};
 ghost use Rattle.gufi_stats.specs.Grouped.{grouped};
 ghost use Rattle.gufi_select.specs.Columns.{select_holds};
 ghost use Rattle.gufi_agg.specs.Grouped.{grouped_rows, key_number};
+ghost use Rattle.gufi_agg.specs.Texts.{agg_text};
 ghost use Rattle.gufi_walk.specs.Answer.{answer, refusal_of};
 ghost use Rattle.gufi_top.specs.Asks.{walk_ask, find_ask, ls_ask, stat_ask, stats_ask, total_ask, query_ask, agg_ask, total_line, ask_reply};
 ghost use Rattle.gufi_top.specs.Calls.{Replies};
@@ -24,45 +25,26 @@ use gufi_stats::{
 use gufi_sums::{NoDeeper, NoSkip, Summary};
 use gufi_users::Users;
 use gufi_walk::{
-    Refusal, Walkers, answer, answer_list, answer_paths, answer_rows, answer_total, found_start,
+    Refusal, Walkers, answer, answer_lines, answer_list, answer_rows, answer_total, found_start,
     total_from,
 };
 use std::alloc::Global;
-use std::mem::forget;
 use std::sync::Wait;
 use std::thread::Threads;
-
-/// How many rows are many to print: their text takes megabytes.
-const MANY: usize = 65536;
-
-/// Gives a snapshot back where many rows are to be printed, so that their text takes its place in memory.
-///
-/// Else it isn't given back, since the run ends soon: part by part that would take a part of its time.
-fn make_room(snap: Snapshot, rows: usize) {
-    if rows < MANY {
-        forget(snap);
-    }
-}
 
 /// The paths of all rows that the principal lists from the start.
 pub(crate) fn walk_text<R: Threads + Wait + Sync, G: Gate + Sync>(
     walkers: &Walkers<'_, R, G>,
     alloc: Global,
-    snap: Snapshot,
+    snap: &Snapshot,
     who: &Principal,
     start: &Path,
 ) -> Result<Vec<u8>, Refusal>
-    ensures { Replies result (ask_reply snap.tree who.now start.now walk_ask) }
+    ensures { Replies result (ask_reply snap.now.tree who.now start.now walk_ask) }
 {
-    match answer_paths(walkers, alloc, &snap, who, start, &Always, &NoSkip) {
-        Ok(paths) => {
-            make_room(snap, paths.len());
-            Ok(paths.lines(alloc)?)
-        }
-        Err(refusal) => {
-            forget(snap);
-            Err(refusal)
-        }
+    match answer_lines(walkers, alloc, snap, who, start, &Always, &NoSkip) {
+        Ok(lines) => Ok(lines.text),
+        Err(refusal) => Err(refusal),
     }
 }
 
@@ -70,24 +52,18 @@ pub(crate) fn walk_text<R: Threads + Wait + Sync, G: Gate + Sync>(
 pub(crate) fn find_text<R: Threads + Wait + Sync, G: Gate + Sync>(
     walkers: &Walkers<'_, R, G>,
     alloc: Global,
-    snap: Snapshot,
+    snap: &Snapshot,
     who: &Principal,
     start: &Path,
     expression: &FindExpr,
 ) -> Result<Vec<u8>, Refusal>
-    ensures { Replies result (ask_reply snap.tree who.now start.now (find_ask expression.now)) }
+    ensures { Replies result (ask_reply snap.now.tree who.now start.now (find_ask expression.now)) }
 {
     let question = expression.question();
     let skip = find_pruner(alloc, expression)?;
-    match answer_paths(walkers, alloc, &snap, who, start, &question, &skip) {
-        Ok(paths) => {
-            make_room(snap, paths.len());
-            Ok(paths.lines(alloc)?)
-        }
-        Err(refusal) => {
-            forget(snap);
-            Err(refusal)
-        }
+    match answer_lines(walkers, alloc, snap, who, start, &question, &skip) {
+        Ok(lines) => Ok(lines.text),
+        Err(refusal) => Err(refusal),
     }
 }
 
@@ -242,12 +218,12 @@ pub(crate) fn record_text(
 pub(crate) fn query_text<R: Threads + Wait + Sync, G: Gate + Sync>(
     walkers: &Walkers<'_, R, G>,
     alloc: Global,
-    snap: Snapshot,
+    snap: &Snapshot,
     who: &Principal,
     start: &Path,
     select: &Select,
 ) -> Result<Vec<u8>, Refusal>
-    ensures { Replies result (ask_reply snap.tree who.now start.now (query_ask select.now)) }
+    ensures { Replies result (ask_reply snap.now.tree who.now start.now (query_ask select.now)) }
 {
     let line = SelectLine {
         select,
@@ -255,17 +231,13 @@ pub(crate) fn query_text<R: Threads + Wait + Sync, G: Gate + Sync>(
     };
     let question = select.question();
     let skip = select_pruner(alloc, select)?;
-    match answer_list(walkers, alloc, &snap, who, start, &question, &skip) {
+    match answer_list(walkers, alloc, snap, who, start, &question, &skip) {
         Ok(rows) => {
-            make_room(snap, rows.len());
             let mut text = Vec::new(alloc);
             rows.put_lines(alloc, &line, &mut text)?;
             Ok(text)
         }
-        Err(refusal) => {
-            forget(snap);
-            Err(refusal)
-        }
+        Err(refusal) => Err(refusal),
     }
 }
 
@@ -286,7 +258,7 @@ fn groups_by<K: RowNumber + Send + Sync, R: Threads + Wait + Sync, G: Gate + Syn
     let _tree = snap.tree();
     let chosen = select.question();
     let skip = select_pruner(alloc, select)?;
-    let groups = answer::<R, SelectQuestion<'_>, Groups<K>, Pruner, G>(
+    match answer::<R, SelectQuestion<'_>, Groups<K>, Pruner, G>(
         walkers.rt,
         alloc,
         snap,
@@ -296,8 +268,7 @@ fn groups_by<K: RowNumber + Send + Sync, R: Threads + Wait + Sync, G: Gate + Syn
         &skip,
         walkers.count,
         walkers.gate,
-    );
-    match groups {
+    ) {
         Ok(groups) => Ok(groups.sorted(alloc)?),
         Err(refusal) => Err(refusal),
     }
@@ -325,6 +296,22 @@ fn groups_of<R: Threads + Wait + Sync, G: Gate + Sync>(
     }
 }
 
+/// The lines of groups of rows below a start. A start as deep as no number of 32 bits tells is answered as want of memory.
+fn lines_of_groups(
+    alloc: Global,
+    groups: &[Group],
+    agg: &Agg,
+    start: &Path,
+) -> Result<Vec<u8>, Memory>
+    requires letters { agg.now.key ≡ AggKey.Letter → All (λ group. group.key < 256) groups.now }
+    ensures { IfOk result (λ text. text.items ≡ agg_text agg.now (length start.now) groups.now) }
+{
+    match u32::try_from(start.depth()) {
+        Ok(above) => agg_text(alloc, groups, agg, above),
+        Err(_) => Err(Memory),
+    }
+}
+
 /// A line for each group of the rows that the principal lists from the start and that an agg chooses.
 pub(crate) fn groups_text<R: Threads + Wait + Sync, G: Gate + Sync>(
     walkers: &Walkers<'_, R, G>,
@@ -337,7 +324,7 @@ pub(crate) fn groups_text<R: Threads + Wait + Sync, G: Gate + Sync>(
     ensures { Replies result (ask_reply snap.now.tree who.now start.now (agg_ask agg.now)) }
 {
     match groups_of(walkers, alloc, snap, who, start, agg) {
-        Ok(groups) => Ok(agg_text(alloc, &groups, agg, start.depth() as u32)?),
+        Ok(groups) => Ok(lines_of_groups(alloc, &groups, agg, start)?),
         Err(refusal) => Err(refusal),
     }
 }

@@ -21,7 +21,6 @@ use gufi_snap::Snapshot;
 use gufi_tree::Tree;
 use gufi_walk::Refusal;
 use std::alloc::Global;
-use std::mem::forget;
 
 /// Under which limit a generated tree is rolled up.
 const LIMIT: u64 = 1000;
@@ -103,8 +102,7 @@ fn summary_of(alloc: Global, tree: Tree) -> Result<Output, Halt>
     let report = report_line(alloc, &tree)?;
     let snap = snapshot_of(alloc, tree, LIMIT)?;
     let reply = totals_behind(alloc, &snap, report);
-    forget(snap);
-    written(alloc, reply)
+    written(alloc, snap, reply)
 }
 
 /// The tree of a generated trace, read as any other.

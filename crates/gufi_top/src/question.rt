@@ -29,7 +29,6 @@ use gufi_users::Users;
 use gufi_walk::Walkers;
 use gufi_words::{Common, ReportWord};
 use std::alloc::{AllocError, Global};
-use std::mem::forget;
 use std::sync::Wait;
 use std::thread::Threads;
 
@@ -234,37 +233,23 @@ impl<'a> Question<'a> {
     {
         let reply = match self {
             Question::Find(find) => match find.expression(alloc, users) {
-                Ok(expression) => find_text(walkers, alloc, snap, who, start, &expression),
+                Ok(expression) => find_text(walkers, alloc, &snap, who, start, &expression),
                 Err(halt) => return Err(halt),
             },
             Question::Query(query) => match query.select(alloc) {
-                Ok(select) => query_text(walkers, alloc, snap, who, start, &select),
+                Ok(select) => query_text(walkers, alloc, &snap, who, start, &select),
                 Err(halt) => return Err(halt),
             },
             Question::Agg(aggregate) => match aggregate.agg(alloc) {
-                Ok(agg) => {
-                    let reply = groups_text(walkers, alloc, &snap, who, start, &agg);
-                    forget(snap);
-                    reply
-                }
+                Ok(agg) => groups_text(walkers, alloc, &snap, who, start, &agg),
                 Err(halt) => return Err(halt),
             },
-            Question::Stat => {
-                let reply = record_text(alloc, &snap, who, start);
-                forget(snap);
-                reply
-            }
+            Question::Stat => record_text(alloc, &snap, who, start),
             Question::Ls { long, all } => {
-                let reply = listing_text(walkers, alloc, &snap, who, start, users, *long, *all);
-                forget(snap);
-                reply
+                listing_text(walkers, alloc, &snap, who, start, users, *long, *all)
             }
-            Question::Stats(report) => {
-                let reply = report_text(walkers, alloc, &snap, who, start, *report);
-                forget(snap);
-                reply
-            }
+            Question::Stats(report) => report_text(walkers, alloc, &snap, who, start, *report),
         };
-        written(alloc, reply)
+        written(alloc, snap, reply)
     }
 }

@@ -8,8 +8,10 @@ ghost use Rattle.gufi_top.specs.Calls.{Gives, IsOfBytes, IsPastWords, Replies};
 
 use crate::halt::{Halt, Output, refused};
 use crate::note;
+use gufi_snap::Snapshot;
 use gufi_walk::Refusal;
 use std::alloc::Global;
+use std::mem::forget;
 
 /// The refusal of a start.
 fn refuse_start<T>(alloc: Global, refusal: Refusal) -> Result<T, Halt>
@@ -35,12 +37,19 @@ fn text_of(alloc: Global, out: Vec<u8>) -> Output
 }
 
 /// What a reply over a snapshot writes: its text, or the note of its start's refusal.
+///
+/// The snapshot isn't given back, since the run ends soon: part by part that would take a tenth of its time.
 #[tactic(auto, using(crate::proofs::AskLemmas::writing))]
-pub(crate) fn written(alloc: Global, reply: Result<Vec<u8>, Refusal>) -> Result<Output, Halt>
+pub(crate) fn written(
+    alloc: Global,
+    snap: Snapshot,
+    reply: Result<Vec<u8>, Refusal>,
+) -> Result<Output, Halt>
     ensures text { (given : Result (List ℕ) SeenRefusal) → Replies reply given → Gives text_view result (replied given) }
     ensures of_bytes { IfErr result IsOfBytes }
     ensures past_words { IfErr result IsPastWords }
 {
+    forget(snap);
     match reply {
         Ok(out) => Ok(text_of(alloc, out)),
         Err(refusal) => refuse_start(alloc, refusal),

@@ -23,14 +23,14 @@ answer_list-requires-send-P-Tester g c κs within = search (select_tester_send, 
 pub answer_list-requires-clause-query : goal.answer_list-requires-clause-query
 answer_list-requires-clause-query g c κs within = λ row depth met. c.in_ok-skip.ensures row depth (rw c.question-question.ensures at met)
 
-pub returns-in_ok-put_lines-in-Ok : goal.returns-in_ok-put_lines-in-Ok
-returns-in_ok-put_lines-in-Ok g c =
+pub returns-in-Ok : goal.returns-in-Ok
+returns-in-Ok g c =
     let select = c.args.select.now in
-    let rows = answer c.args.snap.tree c.args.who.now c.args.start.now (select_holds select) in
-    replies_found c.args.snap.tree c.args.who.now c.args.start.now (query_ask select) c.put_lines.new.text c.in-Ok.ensures.found
+    let rows = answer c.args.snap.now.tree c.args.who.now c.args.start.now (select_holds select) in
+    replies_found c.args.snap.now.tree c.args.who.now c.args.start.now (query_ask select) c.put_lines.new.text c.in-Ok.ensures.found
     (c.in_ok-put_lines-in-Ok.ensures rows (rw c.question-question.ensures at c.in-Ok.ensures.rows) (rw c.question-question.ensures at c.answer_list.ensures.ascends)
     ∙ ap (λ (n : ℕ). c.new-text.result.items ++ flat_map (λ (row : Row). projected select row (depth_below n row)) rows) c.depth.ensures
     ∙ ap (λ t. t ++ select_lines select c.args.start.now rows) c.new-text.ensures.items)
 
-pub returns-in-Err : goal.returns-in-Err
-returns-in-Err g c = replies_refused c.args.snap.tree c.args.who.now c.args.start.now (query_ask c.args.select.now) c.in-Err.refusal c.in-Err.ensures.refusal
+pub returns : goal.returns
+returns g c = replies_refused c.args.snap.now.tree c.args.who.now c.args.start.now (query_ask c.args.select.now) c.in-Err.refusal c.in-Err.ensures.refusal
