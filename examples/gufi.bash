@@ -12,7 +12,7 @@ _gufi() {
     *:stats) names='--passwd --group --delim --limit --workers --help' ;;
     *:trace2index) names='--delim --help' ;;
     *:rollup) names='--limit --delim --help' ;;
-    *:session) names='--passwd --group --delim --workers --now --help' ;;
+    *:session) names='--passwd --group --delim --workers --now --cache --help' ;;
     *:gen) names='--summary --delim --workers --help' ;;
     *) names= ;;
     esac

@@ -77,7 +77,8 @@ macro_rules! table {
             "session" "[OPTION].. SCRIPT"
                 "the replies to the asks of a script, whose commands publish indexes meanwhile"
                 [("SCRIPT" "a line for each command and ask; docs/guide.md has them")]
-                [$passwd $group $delim $workers $now]
+                [$passwd $group $delim $workers $now
+                    ("--cache" "=C" "how many of its last replies each lane keeps, 1 to 256; left out: none")]
             "gen" "[OPTION].. N"
                 "a generated trace"
                 [("N" "the number of directories, 1 to 200,000")]

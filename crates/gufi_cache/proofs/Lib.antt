@@ -1,3 +1,4 @@
 pub mod Putting
 pub mod Paths
 pub mod Present
+pub mod Telling

@@ -1,6 +1,11 @@
 pub mod Rows
 pub mod Publishing
+pub mod Right
+pub mod Hits
 pub mod Interleaving
 pub mod Gathered
+pub mod Finishing
+pub mod Ascending
+pub mod Keepings
 pub mod Sessions
 pub mod Loads

@@ -12,12 +12,17 @@ use Rattle.gufi_phases.specs.declared.act.Act.{Act}
 use Rattle.gufi_phases.specs.declared.load.Stop.{Stop}
 use Rattle.gufi_phases.specs.declared.load.LoadFault.{LoadFault}
 use Rattle.gufi_phases.specs.declared.load.LoadFault.TheVariants as load
+use Rattle.gufi_cache.specs.declared.key.CacheKey.{CacheKey}
 use Rattle.gufi_phases.specs.declared.phase.Phase.{Phase}
+use Rattle.gufi_phases.specs.declared.keeping.Lane.{Lane}
 use Rattle.gufi_phases.specs.Phases.{EachMeans, item_at, made, last_of_acts, command_lines, command_count, ask_count, acts_text, lanes, NumbersFit}
-use Rattle.gufi_phases.specs.Sessions.{all_made, IsSession, Answered}
-use Rattle.gufi_phases.specs.Lanes.{HasMeant}
+use Rattle.gufi_phases.specs.Sessions.{all_made, IsSession, Answered, acts_of, questions_of, hits_over}
+use Rattle.gufi_phases.specs.Replies.{AreAlike}
+use Rattle.gufi_phases.specs.Keeping.{Keeping, keeping_none, keeping_behind, hits_in}
+use Rattle.gufi_phases.specs.Lanes.{AreReady, HasMeant, KeepAs}
 use Rattle.gufi_phases.specs.Loads.{phases_over, stop_over, total_size, with_loaded, stop_behind, LoadsAs, EndsWith, TakesText, end_of}
-use Rattle.gufi_phases.proofs.Sessions.{IsReached, none_done, answered, phase_more, this_phase, this_list, each_of_all}
+use Rattle.gufi_phases.proofs.Keepings.{keeping_so_far, AreKept, kept_more, long_more, ready_next}
+use Rattle.gufi_phases.proofs.Sessions.{IsReached, none_done, answered, phase_more, this_phase, this_whole, this_list, each_of_all}
 
 take_front : {A : Type 0} (xs ys : List A) → take (length xs) (xs ++ ys) ≡ xs
 take_front [] ys = refl
@@ -131,29 +136,38 @@ module _ {T C Q : Type 0} (outcome : C → Option T → Result T (List ℕ)) (li
   unfolding IsSession
   answered_none phases numbers none = answered_front phases [] phases numbers [] refl (none, refl)
 
-module _ {P T C Q : Type 0} (outcome : C → Option T → Result T (List ℕ)) (line : C → ℕ → Result ℕ (List ℕ) → List ℕ) (reply : Q → ℕ → ℕ → Option T → List ℕ) (means : ℕ → T → Type 0) (loaded : P → Files → Result (List (Act C Q)) Stop) (files : Files) (plan : List P) where
+module _
+    {P T C Q : Type 0} (outcome : C → Option T → Result T (List ℕ)) (line : C → ℕ → Result ℕ (List ℕ) → List ℕ) (reply : Q → ℕ → ℕ → Option T → List ℕ) (key : Q → ℕ → CacheKey) (body : Q → T → List ℕ) (capacity : ℕ)
+    (means : ℕ → T → Type 0) (loaded : P → Files → Result (List (Act C Q)) Stop) (files : Files) (plan : List P) where
   -- With so many publications the phases before a place of the plan are done, over the files.
-  pub record IsOver (at count : ℕ) (last : Option T) (k i : ℕ) (numbers text : List ℕ) : Type 0 where
+  pub record IsOver (at count : ℕ) (last : Option T) (k i : ℕ) (numbers text : List ℕ) (hits : ℕ) (kept_by : List Lane) : Type 0 where
     pub pubs : List T
     pub done : List (List (Act C Q))
     pub counted : count ≡ length pubs
     pub parts : phases_over loaded files plan ≡ done ++ phases_over loaded files (drop at plan)
     pub stop : stop_over loaded files plan ≡ stop_over loaded files (drop at plan)
     pub reached : IsReached outcome line reply means (phases_over loaded files plan) done (phases_over loaded files (drop at plan)) pubs last k i numbers text
+    pub long : length numbers ≡ ask_count (acts_of done)
+    pub kept : ((n : ℕ) → HasMeant means (all_made outcome None (phases_over loaded files plan)) n) → AreKept key body capacity (all_made outcome None (phases_over loaded files plan)) (acts_of done) numbers hits kept_by
 
-  pub over_start : (count : ℕ) (numbers : List ℕ) → count ≡ 0 → numbers ≡ [] → EachMeans means 0 (all_made outcome None (phases_over loaded files plan)) → IsOver 0 count None 1 1 numbers []
-  over_start count numbers c none are = record {
+  pub over_start : (count : ℕ) (numbers : List ℕ) (kept_by : List Lane) → count ≡ 0 → numbers ≡ [] → EachMeans means 0 (all_made outcome None (phases_over loaded files plan)) → KeepAs (λ lane. keeping_none capacity) kept_by
+      → IsOver 0 count None 1 1 numbers [] 0 kept_by
+  unfolding ask_count keeping_behind hits_in
+  over_start count numbers kept_by c none are keep = record {
     pubs = [];
     done = [];
     counted = c;
     parts = refl;
     stop = refl;
     reached = none_done outcome line reply means (phases_over loaded files plan) numbers [] none refl are;
+    long = ap length none;
+    kept = λ has. record { hits_are = refl; lanes_keep = keep };
   }
 
 module _
-    {P T C Q : Type 0} {outcome : C → Option T → Result T (List ℕ)} {line : C → ℕ → Result ℕ (List ℕ) → List ℕ} {reply : Q → ℕ → ℕ → Option T → List ℕ} {means : ℕ → T → Type 0} {loaded : P → Files → Result (List (Act C Q)) Stop}
-    {files : Files} {plan : List P} {at count : ℕ} {last : Option T} {k i : ℕ} {numbers text : List ℕ} (is : IsOver outcome line reply means loaded files plan at count last k i numbers text) where
+    {P T C Q : Type 0} {outcome : C → Option T → Result T (List ℕ)} {line : C → ℕ → Result ℕ (List ℕ) → List ℕ} {reply : Q → ℕ → ℕ → Option T → List ℕ} {key : Q → ℕ → CacheKey} {body : Q → T → List ℕ} {capacity : ℕ}
+    {means : ℕ → T → Type 0} {loaded : P → Files → Result (List (Act C Q)) Stop} {files : Files} {plan : List P} {at count : ℕ} {last : Option T} {k i : ℕ} {numbers text : List ℕ} {hits : ℕ} {kept_by : List Lane}
+    (is : IsOver outcome line reply key body capacity means loaded files plan at count last k i numbers text hits kept_by) where
   over_session : ((n : ℕ) → HasMeant means (all_made outcome None (phases_over loaded files plan)) n) → IsSession outcome line reply [] None 1 1 is.done numbers text
   over_session has = answered outcome line reply means (phases_over loaded files plan) is.done (phases_over loaded files (drop at plan)) is.pubs last k i numbers text is.reached has
 
@@ -163,11 +177,17 @@ module _
   over_whole : ((n : ℕ) → HasMeant means (all_made outcome None (phases_over loaded files plan)) n) → phases_over loaded files (drop at plan) ≡ [] → Answered outcome line reply (phases_over loaded files plan) true numbers text
   over_whole has none = answered_whole outcome line reply (phases_over loaded files plan) is.done numbers text (is.parts ∙ ap (λ l. is.done ++ l) none) (over_session has)
 
+  none_left : length plan ≤ at → phases_over loaded files (drop at plan) ≡ []
+  none_left past = ap (λ l. phases_over loaded files l) (drop_of_length-le plan past) ∙ phases_none loaded files
+
   -- behind the last phase
   pub done_ends : ((n : ℕ) → HasMeant means (all_made outcome None (phases_over loaded files plan)) n) → length plan ≤ at → (stop_over loaded files plan ≡ None) × Answered outcome line reply (phases_over loaded files plan) true numbers text
-  done_ends has past =
-      let none : drop at plan ≡ [] = drop_of_length-le plan past in
-      (is.stop ∙ (ap (λ l. stop_over loaded files l) none ∙ stop_none loaded files), over_whole has (ap (λ l. phases_over loaded files l) none ∙ phases_none loaded files))
+  done_ends has past = (is.stop ∙ (ap (λ l. stop_over loaded files l) (drop_of_length-le plan past) ∙ stop_none loaded files), over_whole has (none_left past))
+
+  pub done_hits : ((n : ℕ) → HasMeant means (all_made outcome None (phases_over loaded files plan)) n) → length plan ≤ at → hits ≡ hits_over outcome key body capacity (phases_over loaded files plan) numbers
+  done_hits has past =
+      let all : is.done ≡ phases_over loaded files plan = sym (append-nil is.done) ∙ sym (is.parts ∙ ap (λ l. is.done ++ l) (none_left past)) in
+      (is.kept has).hits_are ∙ ap (λ l. hits_in key body (all_made outcome None (phases_over loaded files plan)) (λ lane. keeping_none capacity) numbers (acts_of l)) all
 
   module _ (p : P) (inside : at < length plan) (here : p ≡ get_or plan at p) where
     -- where the next phase isn't loaded
@@ -185,6 +205,9 @@ module _
       acts_here : phases_over loaded files (drop at plan) ≡ acts ∷ phases_over loaded files (drop (at + 1) plan)
       acts_here = phases_here loaded files plan at p inside here ∙ ap (λ r. with_loaded r (phases_over loaded files (drop (at + 1) plan))) loads
 
+      parts_here : phases_over loaded files plan ≡ is.done ++ acts ∷ phases_over loaded files (drop (at + 1) plan)
+      parts_here = is.parts ∙ ap (λ l. is.done ++ l) acts_here
+
       reached_here : IsReached outcome line reply means (phases_over loaded files plan) is.done (acts ∷ phases_over loaded files (drop (at + 1) plan)) is.pubs last k i numbers text
       reached_here = subst (λ l. IsReached outcome line reply means (phases_over loaded files plan) is.done l is.pubs last k i numbers text) acts_here is.reached
 
@@ -193,11 +216,27 @@ module _
           subst (λ n. EachMeans means n (made outcome last acts)) (sym is.counted)
           (this_phase outcome line reply means (phases_over loaded files plan) is.done acts (phases_over loaded files (drop (at + 1) plan)) is.pubs last k i numbers text reached_here)
 
+      -- what each lane keeps before the phase
+      abbrev keeping_here : ℕ → Keeping
+      keeping_here = keeping_so_far key body capacity (all_made outcome None (phases_over loaded files plan)) numbers (acts_of is.done)
+
+      ready_here : ((question : Q) (number : ℕ) → (key question number).number ≡ number) → AreAlike key body (questions_of (acts_of (phases_over loaded files plan)))
+          → AreReady key body (is.pubs ++ made outcome last acts) (questions_of (acts_of (phases_over loaded files plan))) keeping_here acts
+      ready_here key_numbers alike =
+          let now = is.pubs ++ made outcome last acts in let rest = phases_over loaded files (drop (at + 1) plan) in
+          let behind = all_made outcome (last_of_acts outcome last acts) rest in
+          let whole = this_whole outcome line reply means (phases_over loaded files plan) is.done acts rest is.pubs last k i numbers text reached_here in
+          subst (λ l. AreReady key body now (questions_of (acts_of l)) keeping_here acts) (sym parts_here)
+          (subst (λ l. AreReady key body now (questions_of (acts_of (is.done ++ acts ∷ rest))) (keeping_so_far key body capacity l numbers (acts_of is.done)) acts) (sym whole)
+          (ready_next key body capacity key_numbers now behind is.done rest acts numbers (subst (λ l. AreAlike key body (questions_of (acts_of l))) parts_here alike)))
+
       -- one phase further
-      over_more : (high : ℕ) (own begin : List ℕ) → high ≡ count + length (made outcome last acts) → NumbersFit count high (lanes acts) own
-          → ((every : List T) → ((n : ℕ) → n ≤ high → HasMeant means every n) → begin ≡ acts_text reply every i own (command_lines outcome line k count last acts) acts)
-          → IsOver outcome line reply means loaded files plan (at + 1) high (last_of_acts outcome last acts) (k + command_count acts) (i + ask_count acts) (numbers ++ own) (text ++ begin)
-      over_more high own begin highs fit told =
+      over_more : (high : ℕ) (own begin : List ℕ) (more : ℕ) (new : List Lane) → high ≡ count + length (made outcome last acts) → NumbersFit count high (lanes acts) own
+          → (((n : ℕ) → HasMeant means (all_made outcome None (phases_over loaded files plan)) n) → begin ≡ acts_text reply (is.pubs ++ made outcome last acts) i own (command_lines outcome line k count last acts) acts)
+          → (((n : ℕ) → HasMeant means (all_made outcome None (phases_over loaded files plan)) n)
+          → (more ≡ hits_in key body (all_made outcome None (phases_over loaded files plan)) keeping_here own acts) × KeepAs (keeping_behind key body (all_made outcome None (phases_over loaded files plan)) keeping_here own acts) new)
+          → IsOver outcome line reply key body capacity means loaded files plan (at + 1) high (last_of_acts outcome last acts) (k + command_count acts) (i + ask_count acts) (numbers ++ own) (text ++ begin) (hits + more) new
+      over_more high own begin more new highs fit told keeps =
           let all = phases_over loaded files plan in let rest = phases_over loaded files (drop (at + 1) plan) in
           let now = is.pubs ++ made outcome last acts in let counted = is.counted in
           let long : high ≡ length now = (let e = length-append is.pubs (made outcome last acts) in omega arith) in
@@ -206,33 +245,48 @@ module _
             pubs = now;
             done = is.done ++ acts ∷ [];
             counted = long;
-            parts = is.parts ∙ (ap (λ l. is.done ++ l) acts_here ∙ sym (append_assoc is.done (acts ∷ []) rest));
+            parts = parts_here ∙ sym (append_assoc is.done (acts ∷ []) rest);
             stop = is.stop ∙ (stop_here loaded files plan at p inside here ∙ ap (λ r. stop_behind r (stop_over loaded files (drop (at + 1) plan))) loads);
             reached = phase_more outcome line reply means all is.done acts rest is.pubs last k i numbers text own begin reached_here fits
-                (λ has. told now (λ n below. this_list outcome line reply means all is.done acts rest is.pubs last k i numbers text reached_here has n (subst (λ m. n ≤ m) long below))
-                ∙ ap (λ n. acts_text reply now i own (command_lines outcome line k n last acts) acts) counted);
+                (λ has. told has ∙ ap (λ n. acts_text reply now i own (command_lines outcome line k n last acts) acts) counted);
+            long = long_more key body capacity is.done acts numbers own count high is.long fit;
+            kept = λ has. kept_more key body capacity (all_made outcome None all) is.done acts numbers own hits more kept_by new is.long (is.kept has) (keeps has).0 (keeps has).1;
           }
 
       -- the same by what carrying out the phase came to
-      pub over_ran : {E : Type 0} (r : Result (Phase T) E) (phase : Phase T) (high : ℕ) → r ≡ Ok phase
+      pub over_ran : ((question : Q) (number : ℕ) → (key question number).number ≡ number) → AreAlike key body (questions_of (acts_of (phases_over loaded files plan))) → {E : Type 0} (r : Result (Phase T) E) (phase : Phase T) (high : ℕ) → r ≡ Ok phase
           → OnOk r (high ≡ count + length (made outcome last acts)) → IfOk r (λ p. option_map arc_value p.last ≡ last_of_acts outcome last acts) → IfOk r (λ p. NumbersFit count high (lanes acts) p.numbers.items)
-          → IfOk r (λ p. (every : List T) → ((n : ℕ) → n ≤ high → HasMeant means every n) → p.text.items ≡ acts_text reply every i p.numbers.items (command_lines outcome line k count last acts) acts)
+          → ((before : ℕ → Keeping) → KeepAs before kept_by → IfOk r (λ p. (every : List T) → ((n : ℕ) → n ≤ high → HasMeant means every n) → (asked : List Q) → AreReady key body every asked before acts
+          → p.text.items ≡ acts_text reply every i p.numbers.items (command_lines outcome line k count last acts) acts))
+          → ((before : ℕ → Keeping) → KeepAs before kept_by → IfOk r (λ p. (every : List T) → ((n : ℕ) → n ≤ high → HasMeant means every n)
+          → (p.hits ≡ hits_in key body every before p.numbers.items acts) × KeepAs (keeping_behind key body every before p.numbers.items acts) p.lanes.items))
           → (k' i' : ℕ) (numbers' : List ℕ) → k' ≡ k + command_count acts → i' ≡ i + ask_count acts → numbers' ≡ numbers ++ phase.numbers.items
-          → IsOver outcome line reply means loaded files plan (at + 1) high (option_map arc_value phase.last) k' i' numbers' (text ++ phase.text.items)
-      over_ran r phase high ok highs lasts fit told k' i' numbers' ks ies ns =
-          let more = over_more high phase.numbers.items phase.text.items
-          (subst (λ r. OnOk r (high ≡ count + length (made outcome last acts))) ok highs)
+          → IsOver outcome line reply key body capacity means loaded files plan (at + 1) high (option_map arc_value phase.last) k' i' numbers' (text ++ phase.text.items) (hits + phase.hits) phase.lanes.items
+      over_ran key_numbers alike r phase high ok highs lasts fit told keeps k' i' numbers' ks ies ns =
+          let all = phases_over loaded files plan in let rest = phases_over loaded files (drop (at + 1) plan) in let now = is.pubs ++ made outcome last acts in
+          let counted : high ≡ count + length (made outcome last acts) = subst (λ r. OnOk r (high ≡ count + length (made outcome last acts))) ok highs in
+          let long : high ≡ length now = (let same = is.counted in let e = length-append is.pubs (made outcome last acts) in omega arith) in
+          let text_at = λ (has : (n : ℕ) → HasMeant means (all_made outcome None all) n).
+          subst (λ r. IfOk r (λ p. (every : List T) → ((n : ℕ) → n ≤ high → HasMeant means every n) → (asked : List Q) → AreReady key body every asked keeping_here acts
+          → p.text.items ≡ acts_text reply every i p.numbers.items (command_lines outcome line k count last acts) acts)) ok (told keeping_here (is.kept has).lanes_keep) in
+          let kept_at = λ (has : (n : ℕ) → HasMeant means (all_made outcome None all) n).
+          subst (λ r. IfOk r (λ p. (every : List T) → ((n : ℕ) → n ≤ high → HasMeant means every n)
+          → (p.hits ≡ hits_in key body every keeping_here p.numbers.items acts) × KeepAs (keeping_behind key body every keeping_here p.numbers.items acts) p.lanes.items)) ok (keeps keeping_here (is.kept has).lanes_keep) in
+          let more = over_more high phase.numbers.items phase.text.items phase.hits phase.lanes.items counted
           (subst (λ r. IfOk r (λ p. NumbersFit count high (lanes acts) p.numbers.items)) ok fit)
-          (subst (λ r. IfOk r (λ p. (every : List T) → ((n : ℕ) → n ≤ high → HasMeant means every n) → p.text.items ≡ acts_text reply every i p.numbers.items (command_lines outcome line k count last acts) acts)) ok told) in
+          (λ has. text_at has now (λ n below. this_list outcome line reply means all is.done acts rest is.pubs last k i numbers text reached_here has n (subst (λ m. n ≤ m) long below)) (questions_of (acts_of all)) (ready_here key_numbers alike))
+          (λ has. kept_at has (all_made outcome None all) (λ n below. has n)) in
           let next : option_map arc_value phase.last ≡ last_of_acts outcome last acts = subst (λ r. IfOk r (λ p. option_map arc_value p.last ≡ last_of_acts outcome last acts)) ok lasts in
-          subst (λ x. IsOver outcome line reply means loaded files plan (at + 1) high x k' i' numbers' (text ++ phase.text.items)) (sym next)
-          (subst (λ x. IsOver outcome line reply means loaded files plan (at + 1) high (last_of_acts outcome last acts) x i' numbers' (text ++ phase.text.items)) (sym ks)
-          (subst (λ x. IsOver outcome line reply means loaded files plan (at + 1) high (last_of_acts outcome last acts) (k + command_count acts) x numbers' (text ++ phase.text.items)) (sym ies)
-          (subst (λ x. IsOver outcome line reply means loaded files plan (at + 1) high (last_of_acts outcome last acts) (k + command_count acts) (i + ask_count acts) x (text ++ phase.text.items)) (sym ns) more)))
+          let Over = λ (l : Option T) (k i : ℕ) (numbers : List ℕ). IsOver outcome line reply key body capacity means loaded files plan (at + 1) high l k i numbers (text ++ phase.text.items) (hits + phase.hits) phase.lanes.items in
+          subst (λ x. Over x k' i' numbers') (sym next)
+          (subst (λ x. Over (last_of_acts outcome last acts) x i' numbers') (sym ks)
+          (subst (λ x. Over (last_of_acts outcome last acts) (k + command_count acts) x numbers') (sym ies)
+          (subst (λ x. Over (last_of_acts outcome last acts) (k + command_count acts) (i + ask_count acts) x) (sym ns) more)))
 
 -- each publication of the next phase is meant by its number, whether the shelf tells its files or not
-pub next_means : {P T C Q : Type 0} (outcome : C → Option T → Result T (List ℕ)) (line : C → ℕ → Result ℕ (List ℕ) → List ℕ) (reply : Q → ℕ → ℕ → Option T → List ℕ) (means : ℕ → T → Type 0) (loaded : P → Files → Result (List (Act C Q)) Stop)
-    → (told : Option Files) → (told ≡ None → (n : ℕ) (x : T) → ∥ means n x ∥₁) → (plan : List P) (at : ℕ) (p : P) → at < length plan → p ≡ get_or plan at p → (acts : List (Act C Q)) (count : ℕ) (last : Option T) (k i : ℕ) (numbers text : List ℕ)
-    → ((files : Files) → told ≡ Some files → loaded p files ≡ Ok acts) → ((files : Files) → told ≡ Some files → IsOver outcome line reply means loaded files plan at count last k i numbers text) → EachMeans means count (made outcome last acts)
-next_means outcome line reply means loaded None blind plan at p inside here acts count last k i numbers text loads is = each_blind means (blind refl) count (made outcome last acts)
-next_means outcome line reply means loaded (Some files) blind plan at p inside here acts count last k i numbers text loads is = over_means (is files refl) p inside here acts (loads files refl)
+pub next_means : {P T C Q : Type 0} (outcome : C → Option T → Result T (List ℕ)) (line : C → ℕ → Result ℕ (List ℕ) → List ℕ) (reply : Q → ℕ → ℕ → Option T → List ℕ) (key : Q → ℕ → CacheKey) (body : Q → T → List ℕ) (capacity : ℕ)
+    → (means : ℕ → T → Type 0) (loaded : P → Files → Result (List (Act C Q)) Stop) (told : Option Files) → (told ≡ None → (n : ℕ) (x : T) → ∥ means n x ∥₁)
+    → (plan : List P) (at : ℕ) (p : P) → at < length plan → p ≡ get_or plan at p → (acts : List (Act C Q)) (count : ℕ) (last : Option T) (k i : ℕ) (numbers text : List ℕ) (hits : ℕ) (kept_by : List Lane)
+    → ((files : Files) → told ≡ Some files → loaded p files ≡ Ok acts) → ((files : Files) → told ≡ Some files → IsOver outcome line reply key body capacity means loaded files plan at count last k i numbers text hits kept_by) → EachMeans means count (made outcome last acts)
+next_means outcome line reply key body capacity means loaded None blind plan at p inside here acts count last k i numbers text hits kept_by loads is = each_blind means (blind refl) count (made outcome last acts)
+next_means outcome line reply key body capacity means loaded (Some files) blind plan at p inside here acts count last k i numbers text hits kept_by loads is = over_means (is files refl) p inside here acts (loads files refl)

@@ -1,17 +1,19 @@
 //! Phases: the publishing thread beside the lanes, joined, and what is then written.
-ghost use Rattle.std.specs.Prelude.{◌≡◌, ℕ, ◌+◌, ◌<◌, ◌≤◌, ◌^◌, List, map, length, All, IfOk, OnOk, option_map};
+ghost use Rattle.std.specs.Prelude.{◌≡◌, ℕ, ◌+◌, ◌<◌, ◌≤◌, ◌-◌, ◌^◌, List, ◌++◌, map, length, All, IfOk, OnOk, IsTrue, option_map};
 ghost use Rattle.std.specs.Arc.{arc_value};
 ghost use Rattle.gufi_hub.specs.Hub.{IsReady, published};
-ghost use Rattle.gufi_phases.specs.Phases.{EachMeans, NumbersFit, acts_text, command_lines, lanes, last_of_acts, made};
-ghost use Rattle.gufi_phases.specs.Lanes.{HasMeant, IsServed};
-ghost use Rattle.gufi_phases.specs.Replies.{RepliesBy};
+ghost use Rattle.gufi_phases.specs.Phases.{EachMeans, NumbersFit, acts_text, command_lines, lanes as lanes_asked, last_of_acts, made};
+ghost use Rattle.gufi_phases.specs.Keeping.{Keeping, hits_in, keeping_behind};
+ghost use Rattle.gufi_phases.specs.Lanes.{AreReady, HasMeant, IsServed, KeepAs};
+ghost use Rattle.gufi_phases.specs.Replies.{BodiesBy};
 
 use crate::act::{Act, Command, Wanted};
-use crate::answer::Served;
+use crate::answer::{Row, Served};
+use crate::keeping::Lane;
 use crate::lane::serve;
 use crate::publish::{Done, publish_all};
-use crate::replies::{interleave, rows_within};
-use crate::visitors::visitors_for;
+use crate::replies::{gather, in_order, interleave};
+use crate::visitors::{Jobs, jobs_for, visitors_for};
 use gufi_base::Memory;
 use gufi_hub::{Meaning, Publisher, Visitor};
 use gufi_io::Gate;
@@ -19,12 +21,15 @@ use std::alloc::{AllocError, Global};
 use std::sync::{Arc, Wait};
 use std::thread::{Threads, join, map_vec};
 
-/// What a phase came to: the number that each ask's reply bears, the text, and the last publication.
+/// What a phase came to: the number that each ask's reply bears, how many asks are hits, the text, the last publication, and the
+/// lanes.
 #[derive(Drop)]
-pub struct Phase<T: Drop> {
-    pub numbers: Vec<u64>,
-    pub text: Vec<u8>,
-    pub last: Option<Arc<T>>,
+pub(crate) struct Phase<T: Drop> {
+    pub(crate) numbers: Vec<u64>,
+    pub(crate) hits: u64,
+    pub(crate) text: Vec<u8>,
+    pub(crate) last: Option<Arc<T>>,
+    pub(crate) lanes: Vec<Lane>,
 }
 
 /// The greatest lane, of which there are 16.
@@ -40,13 +45,27 @@ fn lane_count<C: Drop, Q: Drop>(acts: &[Act<C, Q>]) -> u32
     count
 }
 
+/// Whether the numbers of the lanes ascend, so that what each keeps can be told by its number.
+fn are_ascending(lanes: &[Lane]) -> bool
+    ensures { IsTrue result → (before : ℕ → Keeping) × KeepAs before lanes.now }
+{
+    let mut last = 0;
+    for lane in lanes {
+        if lane.number <= last {
+            return false;
+        }
+        last = lane.number;
+    }
+    true
+}
+
 /// Serves the lanes, each visitor in a thread of its own where one can be had.
 fn serve_all<
     T: Send + Sync + Drop,
     M: Meaning<T> + Sync,
     C: Sync + Drop,
     Q: Wanted<T> + Drop,
-    A: Fn(&Q, u32, u64, &T) -> Result<Vec<u8>, Memory> + Sync,
+    A: Fn(&Q, Vec<u8>, &T) -> Result<Vec<u8>, Memory> + Sync,
     G: Gate + Sync,
     R: Threads + Sync,
 >(
@@ -54,47 +73,39 @@ fn serve_all<
     alloc: Global,
     gate: &G,
     reply: &A,
-    visitors: Vec<(Visitor<T, M>, u32)>,
+    jobs: Vec<(Visitor<T, M>, Vec<Lane>)>,
     acts: &[Act<C, Q>],
     first: u32,
-    lanes: u32,
 ) -> Result<Vec<Result<Served, Memory>>, AllocError>
-    requires replies { RepliesBy A.Fn Q.reply reply.now }
+    requires replies { BodiesBy A.Fn Q.body reply.now }
     requires room { first + length acts.now < 2 ^ 32 }
-    requires lanes { lanes ≤ 16 }
-    ensures { (low : ℕ) → All (λ v. v.0.number ≡ low) visitors.items → IfOk result (λ all. All (λ r. IfOk r (IsServed M.means Q.reply first low acts.now)) all.items) }
+    ensures { (low : ℕ) (before : ℕ → Keeping) → All (λ job. (job.0.number ≡ low) × KeepAs before job.1.items) jobs.items
+        → IfOk result (λ all. All (λ r. IfOk r (IsServed M.means Q.reply Q.head Q.key Q.body before first low acts.now)) all.items) }
 {
-    let more = visitors.len().min(16) as u32 + 1;
     map_vec(
         rt,
-        visitors,
-        &|job: (Visitor<T, M>, u32)| -> Result<Served, Memory>
-            requires { RepliesBy A.Fn Q.reply reply.now × (first + length acts.now < 2 ^ 32) × (lanes ≤ 16) }
-            ensures { IfOk result (IsServed M.means Q.reply first job.0.number acts.entry.now) }
+        jobs,
+        &|job: (Visitor<T, M>, Vec<Lane>)| -> Result<Served, Memory>
+            requires { BodiesBy A.Fn Q.body reply.now × (first + length acts.now < 2 ^ 32) }
+            ensures { (before : ℕ → Keeping) → KeepAs before job.1.items → IfOk result (IsServed M.means Q.reply Q.head Q.key Q.body before first job.0.number acts.entry.now) }
         {
-            let (visitor, lane) = job;
-            let behind = if lane == 1 { more } else { lanes + 1 };
-            serve(
-                alloc, gate, reply, visitor, acts, first, lane, behind, lanes,
-            )
+            let (visitor, lanes) = job;
+            serve(alloc, gate, reply, visitor, acts, first, lanes)
         },
     )
 }
 
-/// What all visitors' lanes answered, where each had memory.
-fn all_served<T: Drop, M: Meaning<T>, C: Drop, Q: Wanted<T> + Drop>(
-    alloc: Global,
-    all: Vec<Result<Served, Memory>>,
-) -> Result<Vec<Served>, Memory>
-    ensures { (i low : ℕ) (acts : List (Act C Q)) → All (λ r. IfOk r (IsServed M.means Q.reply i low acts)) all.items
-        → IfOk result (λ v. All (IsServed M.means Q.reply i low acts) v.items) }
+/// The lanes of rows, and behind them those that were idle.
+fn lanes_behind(alloc: Global, rows: Vec<Row>, idle: Vec<Lane>) -> Result<Vec<Lane>, Memory>
+    ensures { IfOk result (λ lanes. lanes.items ≡ map (λ row. row.lane) rows.items ++ idle.items) }
 {
-    let mut served = Vec::new(alloc);
-    for one in all {
-        let one = one?;
-        served.push(one)?;
+    let mut idle = idle;
+    let mut lanes = Vec::with_capacity(alloc, rows.len())?;
+    for row in rows {
+        lanes.push(row.lane)?;
     }
-    Ok(served)
+    lanes.append(&mut idle)?;
+    Ok(lanes)
 }
 
 /// What is written after the joins, where no visitor saw more than the publisher's number.
@@ -102,23 +113,33 @@ fn finish<T: Drop, M: Meaning<T>, C: Drop, Q: Wanted<T> + Drop>(
     alloc: Global,
     acts: &[Act<C, Q>],
     number: u64,
+    count: u32,
     all: Vec<Result<Served, Memory>>,
+    idle: Vec<Lane>,
     done: Done<T>,
 ) -> Result<Phase<T>, Memory>
-    ensures numbers { (i low : ℕ) → low ≤ number → All (λ r. IfOk r (IsServed M.means Q.reply i low acts.now)) all.items
-        → IfOk result (λ p. NumbersFit low number (lanes acts.now) p.numbers.items) }
-    ensures text { (i low : ℕ) → low ≤ number → All (λ r. IfOk r (IsServed M.means Q.reply i low acts.now)) all.items
-        → IfOk result (λ p. (every : List T) → ((n : ℕ) → n ≤ number → HasMeant M.means every n)
+    requires idle { All (λ lane. count ≤ lane.number - 1) idle.items }
+    ensures numbers { (before : ℕ → Keeping) (i low : ℕ) → low ≤ number → All (λ r. IfOk r (IsServed M.means Q.reply Q.head Q.key Q.body before i low acts.now)) all.items
+        → IfOk result (λ p. NumbersFit low number (lanes_asked acts.now) p.numbers.items) }
+    ensures text { (before : ℕ → Keeping) (i low : ℕ) → low ≤ number → All (λ r. IfOk r (IsServed M.means Q.reply Q.head Q.key Q.body before i low acts.now)) all.items
+        → IfOk result (λ p. (every : List T) → ((n : ℕ) → n ≤ number → HasMeant M.means every n) → (asked : List Q) → AreReady Q.key Q.body every asked before acts.now
         → p.text.items ≡ acts_text Q.reply every i p.numbers.items (map (λ l. l.items) done.lines.items) acts.now) }
+    ensures kept { (before : ℕ → Keeping) (i low : ℕ) → low ≤ number → All (λ r. IfOk r (IsServed M.means Q.reply Q.head Q.key Q.body before i low acts.now)) all.items → KeepAs before idle.items
+        → IfOk result (λ p. (every : List T) → ((n : ℕ) → n ≤ number → HasMeant M.means every n)
+        → (p.hits ≡ hits_in Q.key Q.body every before p.numbers.items acts.now) × KeepAs (keeping_behind Q.key Q.body every before p.numbers.items acts.now) p.lanes.items) }
+    ensures few { IfOk result (λ p. p.hits ≤ length acts.now) }
     ensures last { IfOk result (λ p. p.last ≡ done.last) }
 {
-    let served = all_served::<T, M, C, Q>(alloc, all)?;
-    let rows = rows_within::<T, M, C, Q>(alloc, &served, number)?;
-    let (numbers, text) = interleave(alloc, &rows, &done.lines, acts)?;
+    let rows = gather::<T, M, C, Q>(alloc, all, number)?;
+    let rows = in_order::<T, M, C, Q>(alloc, rows, count)?;
+    let (numbers, hits, text) = interleave(alloc, &rows, &done.lines, acts)?;
+    let lanes = lanes_behind(alloc, rows, idle)?;
     Ok(Phase {
         numbers,
+        hits,
         text,
         last: done.last,
+        lanes,
     })
 }
 
@@ -128,7 +149,7 @@ fn side_by_side<
     M: Meaning<T> + Sync,
     C: Command<T> + Drop,
     Q: Wanted<T> + Drop,
-    A: Fn(&Q, u32, u64, &T) -> Result<Vec<u8>, Memory> + Sync,
+    A: Fn(&Q, Vec<u8>, &T) -> Result<Vec<u8>, Memory> + Sync,
     G: Gate + Sync,
     R: Threads + Wait + Sync,
     W: Wait + Drop,
@@ -138,23 +159,22 @@ fn side_by_side<
     gate: &G,
     reply: &A,
     publisher: Publisher<T, M, W>,
-    visitors: Vec<(Visitor<T, M>, u32)>,
+    jobs: Vec<(Visitor<T, M>, Vec<Lane>)>,
     last: Option<Arc<T>>,
     acts: &[Act<C, Q>],
     command: u32,
     ask: u32,
-    lanes: u32,
 ) -> (
     Result<Vec<Result<Served, Memory>>, AllocError>,
     (Publisher<T, M, W>, Result<Done<T>, Memory>),
 )
-    requires replies { RepliesBy A.Fn Q.reply reply.now }
+    requires replies { BodiesBy A.Fn Q.body reply.now }
     requires ready { IsReady publisher }
-    requires lanes { lanes ≤ 16 }
     requires asks { ask + length acts.now < 2 ^ 32 }
     requires commands { command + length acts.now < 2 ^ 32 }
     requires meant { EachMeans M.means (published publisher) (made C.outcome (option_map arc_value last) acts.now) }
-    ensures served { (low : ℕ) → All (λ v. v.0.number ≡ low) visitors.items → IfOk result.0 (λ all. All (λ r. IfOk r (IsServed M.means Q.reply ask low acts.now)) all.items) }
+    ensures served { (low : ℕ) (before : ℕ → Keeping) → All (λ job. (job.0.number ≡ low) × KeepAs before job.1.items) jobs.items
+        → IfOk result.0 (λ all. All (λ r. IfOk r (IsServed M.means Q.reply Q.head Q.key Q.body before ask low acts.now)) all.items) }
     ensures ready { IsReady result.1.0 }
     ensures grows { published publisher ≤ published result.1.0 }
     ensures count { OnOk result.1.1 (published result.1.0 ≡ published publisher + length (made C.outcome (option_map arc_value last) acts.now)) }
@@ -164,9 +184,10 @@ fn side_by_side<
     join(
         rt,
         move || -> Result<Vec<Result<Served, Memory>>, AllocError>
-            requires { RepliesBy A.Fn Q.reply reply.now × (ask + length acts.now < 2 ^ 32) × (lanes ≤ 16) }
-            ensures { (low : ℕ) → All (λ v. v.0.number ≡ low) visitors.items → IfOk result (λ all. All (λ r. IfOk r (IsServed M.means Q.reply ask low acts.entry.now)) all.items) }
-        { serve_all(rt, alloc, gate, reply, visitors, acts, ask, lanes) },
+            requires { BodiesBy A.Fn Q.body reply.now × (ask + length acts.now < 2 ^ 32) }
+            ensures { (low : ℕ) (before : ℕ → Keeping) → All (λ job. (job.0.number ≡ low) × KeepAs before job.1.items) jobs.items
+                → IfOk result (λ all. All (λ r. IfOk r (IsServed M.means Q.reply Q.head Q.key Q.body before ask low acts.entry.now)) all.items) }
+        { serve_all(rt, alloc, gate, reply, jobs, acts, ask) },
         move || -> (Publisher<T, M, W>, Result<Done<T>, Memory>)
             requires { IsReady publisher × (command + length acts.now < 2 ^ 32) × EachMeans M.means (published publisher) (made C.outcome (option_map arc_value last) acts.now) }
             ensures ready { IsReady result.0 }
@@ -178,17 +199,18 @@ fn side_by_side<
     )
 }
 
-/// Carries out the commands beside the lanes, joins them, and answers each ask from what its one pin gave.
+/// Carries out the commands beside the lanes, joins them, and answers each ask from what its one pin gave, or by what its lane kept
+/// of that.
 ///
-/// `reply` makes the reply to a question from its ask's number, and the number and item of the publication that was pinned.
-/// `command` and `ask` are the numbers of the first of them. A visitor that saw more than the publisher's number is answered as
-/// want of memory.
-pub fn run_phase<
+/// `reply` puts the body of the reply to a question, from the item that was pinned, behind the reply's head. `command` and `ask` are
+/// the numbers of the first of them. A visitor that saw more than the publisher's number is answered as want of memory, and so are
+/// lanes whose numbers don't ascend.
+pub(crate) fn run_phase<
     T: Send + Sync + Drop,
     M: Meaning<T> + Sync,
     C: Command<T> + Drop,
     Q: Wanted<T> + Drop,
-    A: Fn(&Q, u32, u64, &T) -> Result<Vec<u8>, Memory> + Sync,
+    A: Fn(&Q, Vec<u8>, &T) -> Result<Vec<u8>, Memory> + Sync,
     G: Gate + Sync,
     R: Threads + Wait + Sync,
     W: Wait + Drop,
@@ -199,29 +221,42 @@ pub fn run_phase<
     reply: &A,
     publisher: Publisher<T, M, W>,
     last: Option<Arc<T>>,
+    lanes: Vec<Lane>,
     acts: &[Act<C, Q>],
     command: u32,
     ask: u32,
 ) -> (Publisher<T, M, W>, Result<Phase<T>, Memory>)
-    requires replies { RepliesBy A.Fn Q.reply reply.now }
+    requires replies { BodiesBy A.Fn Q.body reply.now }
     requires ready { IsReady publisher }
     requires room { (command + length acts.now < 2 ^ 32) × (ask + length acts.now < 2 ^ 32) }
     requires meant { EachMeans M.means (published publisher) (made C.outcome (option_map arc_value last) acts.now) }
     ensures ready { IsReady result.0 }
     ensures count { OnOk result.1 (published result.0 ≡ published publisher + length (made C.outcome (option_map arc_value last) acts.now)) }
     ensures last { IfOk result.1 (λ p. option_map arc_value p.last ≡ last_of_acts C.outcome (option_map arc_value last) acts.now) }
-    ensures numbers { IfOk result.1 (λ p. NumbersFit (published publisher) (published result.0) (lanes acts.now) p.numbers.items) }
-    ensures text { IfOk result.1 (λ p. (every : List T) → ((n : ℕ) → n ≤ published result.0 → HasMeant M.means every n)
+    ensures numbers { IfOk result.1 (λ p. NumbersFit (published publisher) (published result.0) (lanes_asked acts.now) p.numbers.items) }
+    ensures text { (before : ℕ → Keeping) → KeepAs before lanes.items
+        → IfOk result.1 (λ p. (every : List T) → ((n : ℕ) → n ≤ published result.0 → HasMeant M.means every n) → (asked : List Q) → AreReady Q.key Q.body every asked before acts.now
         → p.text.items ≡ acts_text Q.reply every ask p.numbers.items (command_lines C.outcome C.line command (published publisher) (option_map arc_value last) acts.now) acts.now) }
+    ensures kept { (before : ℕ → Keeping) → KeepAs before lanes.items
+        → IfOk result.1 (λ p. (every : List T) → ((n : ℕ) → n ≤ published result.0 → HasMeant M.means every n)
+        → (p.hits ≡ hits_in Q.key Q.body every before p.numbers.items acts.now) × KeepAs (keeping_behind Q.key Q.body every before p.numbers.items acts.now) p.lanes.items) }
+    ensures few { IfOk result.1 (λ p. p.hits ≤ length acts.now) }
 {
     let mut publisher = publisher;
-    let lanes = lane_count(acts);
-    let visitors = match visitors_for(alloc, &mut publisher, lanes) {
+    if !are_ascending(&lanes) {
+        return (publisher, Err(Memory));
+    }
+    let count = lane_count(acts);
+    let visitors = match visitors_for(alloc, &mut publisher, count) {
         Ok(visitors) => visitors,
         Err(fault) => return (publisher, Err(fault)),
     };
+    let Jobs { jobs, idle } = match jobs_for(alloc, visitors, lanes, count) {
+        Ok(jobs) => jobs,
+        Err(fault) => return (publisher, Err(fault)),
+    };
     let (served, (publisher, done)) = side_by_side(
-        rt, alloc, gate, reply, publisher, visitors, last, acts, command, ask, lanes,
+        rt, alloc, gate, reply, publisher, jobs, last, acts, command, ask,
     );
     let Ok(served) = served else {
         return (publisher, Err(Memory));
@@ -229,6 +264,7 @@ pub fn run_phase<
     let Ok(done) = done else {
         return (publisher, Err(Memory));
     };
-    let phase = finish::<T, M, C, Q>(alloc, acts, publisher.number(), served, done);
+    let number = publisher.number();
+    let phase = finish::<T, M, C, Q>(alloc, acts, number, count, served, idle, done);
     (publisher, phase)
 }

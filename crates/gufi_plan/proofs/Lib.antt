@@ -1,3 +1,4 @@
 pub mod PlanLemmas
+pub mod AskLemmas
 pub mod Sharing
 mod Worked

@@ -76,9 +76,9 @@ few_first done current rest acts none empty all h = rw (none, empty, all) (omega
 
 -- ---- faults
 
-mapped_ok : {A : Type 0} (r : Result A ScriptKind) (x : A) → result_map_err Kind r ≡ Ok x → r ≡ Ok x
-mapped_ok (Ok y) x e = let same : y ≡ x = cc in ap Ok same
-mapped_ok (Err kind) x e = absurd cc
+pub mapped_ok : {A E F : Type 0} (f : E → F) (r : Result A E) (x : A) → result_map_err f r ≡ Ok x → r ≡ Ok x
+mapped_ok f (Ok y) x e = let same : y ≡ x = cc in ap Ok same
+mapped_ok f (Err fault) x e = absurd cc
 
 mapped_err : {A : Type 0} (r : Result A ScriptKind) (kind : ScriptKind) → result_map_err Kind r ≡ Err (Kind kind) → r ≡ Err kind
 mapped_err (Ok x) kind e = absurd cc
@@ -97,7 +97,7 @@ pub plan_more : (setting : Setting) (done done' : Plan) (current current' : List
     → plan_behind setting done current left ≡ plan_behind setting done' current' rest
 unfolding plan
 plan_more setting done done' current current' line act left rest planned more given added =
-    let one = mapped_ok (planned_act setting act) planned given in
+    let one = mapped_ok Kind (planned_act setting act) planned given in
     rw (more, one) (elim (plan setting rest) as (λ given. ((given >>= λ later. Ok (with_act planned later)) >>= λ later. Ok (behind done current later)) ≡ (given >>= λ later. Ok (behind done' current' later)))
     [ Ok later ↦ ap Ok (sym (added later)) | Err e ↦ refl ])
 

@@ -3,12 +3,19 @@ use denote.Param.Send.{IsSend, IsSync, sendable}
 use Rattle.std.proofs.Crossing.{crosses}
 use Rattle.gufi_find.proofs.expression.FindExpr.TheSendSync as find
 use Rattle.gufi_access.specs.contracts.class.Principal as principal
+use Rattle.gufi_base.specs.contracts.list.Bytes as bytes
 use Rattle.gufi_base.specs.contracts.path.Path as path
 use Rattle.gufi_select.proofs.Sending.{select_send}
 use Rattle.gufi_select.proofs.Sharing.{select_sync}
 use Rattle.gufi_plan.specs.contracts.search.Query as query
 use Rattle.gufi_plan.specs.contracts.search.Search as asked
 use Rattle.gufi_plan.specs.contracts.search.SharedSearch as shared
+
+bytes_send : IsSend bytes.the_row
+bytes_send = search (sendable, crosses) depth 30 fits 8000
+
+bytes_sync : IsSync bytes.the_row
+bytes_sync = search (sendable, crosses) depth 30 fits 8000
 
 path_send : IsSend path.the_row
 path_send = search (sendable, crosses) depth 30 fits 8000
@@ -29,10 +36,10 @@ query_sync : IsSync (query.the_field).row
 query_sync = search (find.the_sync, select_sync, sendable) depth 20
 
 search_send : IsSend (asked.the_field).row
-search_send = search (principal_send, path_send, query_send, sendable) depth 20
+search_send = search (principal_send, path_send, query_send, bytes_send, sendable) depth 20
 
 search_sync : IsSync (asked.the_field).row
-search_sync = search (principal_sync, path_sync, query_sync, sendable) depth 20
+search_sync = search (principal_sync, path_sync, query_sync, bytes_sync, sendable) depth 20
 
 pub search_row_send : IsSend asked.the_row
 search_row_send = search (search_send, sendable) depth 10

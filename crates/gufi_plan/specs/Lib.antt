@@ -1,4 +1,5 @@
 pub mod Plan
+pub mod Asks
 pub mod Faults
 pub mod Settings
 pub mod Phases

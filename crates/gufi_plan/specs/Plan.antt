@@ -19,6 +19,7 @@ use Rattle.gufi_script.specs.declared.act.Form.TheVariants as forms
 use Rattle.gufi_script.specs.declared.act.Act.{Act}
 use Rattle.gufi_script.specs.declared.act.Act.TheVariants as acts
 use Rattle.gufi_script.specs.ScriptText.{PlacedAct}
+use Rattle.gufi_cache.specs.Asks.{ask_bytes}
 use Rattle.gufi_plan.specs.declared.search.Query.{Query}
 use Rattle.gufi_plan.specs.declared.search.Query.TheVariants.{Finds, Totals, Selects}
 use Rattle.gufi_plan.specs.declared.search.Search.{Search}
@@ -51,6 +52,12 @@ query_holds (Selects select) row depth = select_holds select row depth
 abbrev pub query_text : List (List ℕ) → List ℕ
 query_text words = join_with_byte 32 words
 
+-- the first letter of a form
+abbrev pub letter_of : Form → ℕ
+letter_of forms.Find = 102
+letter_of forms.Total = 116
+letter_of forms.Query = 113
+
 unfoldable pub query_of : Setting → Form → List (List ℕ) → Result Query ScriptKind
 query_of setting forms.Find words = result_map_err (λ fault. kinds.Query) (read_find words setting.tables setting.now) >>= λ find. Ok (Finds find)
 query_of setting forms.Total words = result_map_err (λ fault. kinds.Query) (read_find words setting.tables setting.now) >>= λ find. Ok (Totals find)
@@ -61,7 +68,7 @@ unfoldable pub search_of : Setting → List ℕ → Components → Form → List
 search_of setting user path form words =
     ok_or (principal_of setting.tables user) kinds.User >>= λ who.
     query_of setting form words >>= λ query.
-    Ok (record { who = who; start = path; query = query })
+    Ok (record { who = who; start = path; query = query; ask = ask_bytes (letter_of form) words })
 
 -- the act of a phase, and none for a barrier
 unfoldable pub planned_act : Setting → Act → Result (Option PlannedAct) ScriptKind

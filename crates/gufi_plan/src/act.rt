@@ -2,6 +2,7 @@
 ghost use Rattle.std.specs.Prelude.{◌≡◌, ◌≤◌};
 ghost use Rattle.gufi_base.specs.Limits.{max_script_lines};
 ghost use Rattle.gufi_plan.specs.Plan.{act_count};
+ghost use Rattle.gufi_plan.specs.Asks.{AsksTell};
 
 use crate::search::SharedSearch;
 use gufi_base::{Items, Path, Text};
@@ -20,7 +21,8 @@ pub enum PlannedAct {
     Ask { lane: u32, search: SharedSearch },
 }
 
-/// The phases of a script. Together they have at most as many acts as a script may have lines.
+/// The phases of a script. Together they have at most as many acts as a script may have lines, and asks of the same form and words
+/// search for the same.
 #[derive(Drop)]
 pub struct SessionPlan {
     phases: Vec<Items<PlannedAct>>,
@@ -32,6 +34,7 @@ impl Model for SessionPlan {
     ghost use Rattle.std.specs.Coded.{codes};
     ghost use Rattle.gufi_formula.specs.FormulaCodes.{formula_coded};
     ghost use Rattle.gufi_plan.specs.Plan.{Plan, act_count};
+    ghost use Rattle.gufi_plan.specs.Asks.{AsksTell};
 
     ghost Value = { Plan };
 
@@ -39,12 +42,13 @@ impl Model for SessionPlan {
 
     ghost view = { λ p. p.phases.items };
 
-    ghost invariant = { λ p. act_count p.phases.items ≤ max_script_lines };
+    ghost invariant = { λ p. (act_count p.phases.items ≤ max_script_lines) × AsksTell p.phases.items };
 }
 
 impl SessionPlan {
     pub(crate) fn of(phases: Vec<Items<PlannedAct>>) -> SessionPlan
-        requires { act_count phases.items ≤ max_script_lines }
+        requires few { act_count phases.items ≤ max_script_lines }
+        requires told { AsksTell phases.items }
         ensures { result ≡ phases.items }
     {
         SessionPlan { phases }
@@ -54,6 +58,7 @@ impl SessionPlan {
     pub fn phases(&self) -> &[Items<PlannedAct>]
         ensures phases { result.now ≡ self.now }
         ensures few { act_count self.now ≤ max_script_lines }
+        ensures told { AsksTell self.now }
     {
         self.phases.as_slice()
     }

@@ -1,9 +1,11 @@
 //! Plans of sessions: the acts of a script, whose users and queries are read, phase by phase.
 //!
-//! Contracts see a plan as the list of its phases. It stands on scripts, users and the languages of queries; sessions stand on it.
+//! Contracts see a plan as the list of its phases. It stands on scripts, users, the languages of queries
+//! and the bytes of asks; sessions stand on it.
 #![tactic(auto)]
 
 mod act;
+mod ask;
 mod fault;
 mod planning;
 mod reading;

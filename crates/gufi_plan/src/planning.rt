@@ -6,6 +6,7 @@ ghost use Rattle.gufi_script.specs.ScriptText.{is_script};
 ghost use Rattle.gufi_plan.specs.Plan.{Plan, act_count, with_act, plan};
 ghost use Rattle.gufi_plan.specs.Settings.{setting_of};
 ghost use Rattle.gufi_plan.specs.Phases.{behind};
+ghost use Rattle.gufi_plan.specs.Asks.{AsksTell};
 
 use crate::act::{PlannedAct, SessionPlan};
 use crate::fault::error_at;
@@ -41,6 +42,7 @@ impl Phases {
     /// The plan, whose last phase is the one that goes on.
     fn ended(self) -> Result<SessionPlan, AllocError>
         requires few { act_count self.done.items + length self.current.items ≤ max_script_lines }
+        requires told { AsksTell (behind self.done.items self.current.items ([] ∷ [])) }
         ensures { IfOk result (λ phases. phases ≡ behind self.done.items self.current.items ([] ∷ [])) }
     {
         let mut phases = self.done;

@@ -4,8 +4,10 @@ ghost use Rattle.std.specs.List.{flat_map};
 ghost use Rattle.gufi_base.specs.Basics.{GivesUnless, result_map_err};
 ghost use Rattle.gufi_plan.specs.Plan.{query_text, query_of, search_of, planned_act};
 ghost use Rattle.gufi_plan.specs.Settings.{setting_of};
+ghost use Rattle.gufi_plan.specs.Asks.{AreShort, HasShortWords};
 
 use crate::act::PlannedAct;
+use crate::ask::ask_of;
 use crate::fault::ActFault;
 use crate::search::{Query, Search, SharedSearch};
 use gufi_base::{Bytes, Path};
@@ -74,7 +76,7 @@ fn query_of(
     }
 }
 
-// The user before the query.
+// The user before the query. Words too long for the bytes of an ask are want of memory.
 #[tactic(auto, unfolding(crate::specs::Plan::search_of))]
 fn search_of(
     alloc: Global,
@@ -84,14 +86,21 @@ fn search_of(
     form: Form,
     words: &[Bytes],
 ) -> Result<SharedSearch, ActFault>
-    ensures { GivesUnless ActFault.Memory result (result_map_err ActFault.Kind (search_of (setting_of setup.entry.now) user.now start form words.now)) }
+    ensures search { GivesUnless ActFault.Memory result (result_map_err ActFault.Kind (search_of (setting_of setup.entry.now) user.now start form words.now)) }
+    ensures short { OnOk result (AreShort words.now) }
 {
     let Some(who) = setup.users.principal(alloc, user)? else {
         return Err(ActFault::Kind(ScriptKind::User));
     };
     let query = query_of(alloc, setup, form, words)?;
-    let search = Arc::new(alloc, Search { who, start, query })?;
-    Ok(SharedSearch::of(search))
+    let ask = ask_of(alloc, form, words)?;
+    let search = Search {
+        who,
+        start,
+        query,
+        ask,
+    };
+    Ok(SharedSearch::of(Arc::new(alloc, search)?))
 }
 
 /// What is carried out for an act, and nothing for a barrier.
@@ -101,7 +110,8 @@ pub(crate) fn planned_act(
     setup: &Setup<'_>,
     act: Act,
 ) -> Result<Option<PlannedAct>, ActFault>
-    ensures { GivesUnless ActFault.Memory result (result_map_err ActFault.Kind (planned_act (setting_of setup.entry.now) act)) }
+    ensures planned { GivesUnless ActFault.Memory result (result_map_err ActFault.Kind (planned_act (setting_of setup.entry.now) act)) }
+    ensures short { OnOk result (HasShortWords act) }
 {
     match act {
         Act::Publish { limit, file } => Ok(Some(PlannedAct::Publish {

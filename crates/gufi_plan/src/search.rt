@@ -2,7 +2,7 @@
 ghost use Rattle.std.specs.Prelude.{◌≡◌, IfOk};
 
 use gufi_access::Principal;
-use gufi_base::{Memory, Path};
+use gufi_base::{Bytes, Memory, Path};
 use gufi_find::FindExpr;
 use gufi_select::Select;
 use std::marker::Model;
@@ -25,6 +25,8 @@ pub struct Search {
     pub who: Principal,
     pub start: Path,
     pub query: Query,
+    /// The bytes of the ask's form and words, by which a lane keeps the reply.
+    pub ask: Bytes,
 }
 
 /// A search that a plan and a running phase have in common.

@@ -62,11 +62,11 @@ struct Ran {
 fn run<R: AllocGlobal + Abort + Threads + Wait + Sync, G: Gate + Sync>(
     rt: &R,
     gate: &G,
-    workers: &str,
+    option: &str,
     script: &[u8],
 ) -> Result<Ran, Fail> {
     let alloc = rt.alloc();
-    let words = words_of(alloc, &["session", "--passwd=p", "--delim=|", workers, "s"])?;
+    let words = words_of(alloc, &["session", "--passwd=p", "--delim=|", option, "s"])?;
     let mut shelf = shelf_of(rt, script)?;
     let mut out = sink_of(alloc, &[])?;
     let mut notes = sink_of(alloc, &[])?;
@@ -238,6 +238,15 @@ reply 2 at 2 rows 2
         note: b"",
         numbers: &[2, 2],
     };
+    for case in [replaced, private] {
+        check(&rt, &case)?;
+    }
+    Ok(())
+}
+
+// A faulty trace is told first, then that nothing was published, then that nothing stands there to be replaced.
+#[test]
+fn a_refused_refresh_publishes_nothing(rt: HostRuntime) -> Result<(), Fail> {
     let refused = Case {
         script: b"refresh /a w
 refresh /a a
@@ -255,10 +264,7 @@ refresh 5 refused 17 BadNumber 8
         note: b"",
         numbers: &[],
     };
-    for case in [replaced, private, refused] {
-        check(&rt, &case)?;
-    }
-    Ok(())
+    check(&rt, &refused)
 }
 
 #[test]
@@ -362,12 +368,20 @@ fn put_reply(text: &mut Vec<u8>, ask: &[u8], number: u64) -> Result<(), AllocErr
     }
 }
 
-// Four asks of one directory each, of which the last comes behind a second publication.
+// Four asks of one directory each, of which the last comes behind a second publication. Each is a task.
 fn check_four_asks<R: AllocGlobal + Abort + Threads + Wait + Sync>(
     rt: &R,
     workers: &str,
 ) -> Result<(), Fail> {
-    let script = b"publish 100 a
+    let gate = Counting::new();
+    let ran = run(rt, &gate, workers, FOUR_ASKS)?;
+    check_four_replies(rt, &ran)?;
+    assert_eq!(rt; ran.notes.taken(), b"".as_slice());
+    assert_eq!(rt; gate.tasks(), 4);
+    Ok(())
+}
+
+const FOUR_ASKS: &[u8] = b"publish 100 a
 barrier
 ask 1 102 / find
 ask 1 102 / find
@@ -376,8 +390,8 @@ publish 100 x
 barrier
 ask 1 102 / find
 ";
-    let gate = Counting::new();
-    let ran = run(rt, &gate, workers, script)?;
+
+fn check_four_replies<R: AllocGlobal + Abort>(rt: &R, ran: &Ran) -> Result<(), Fail> {
     assert_eq!(rt; ran.outcome.status, 0);
     let numbers = ran.outcome.numbers.as_slice();
     assert_eq!(rt; numbers.len(), 4);
@@ -390,8 +404,73 @@ ask 1 102 / find
     text.extend_from_slice(b"publish 2 number 2\n")?;
     put_reply(&mut text, b"4", numbers[3])?;
     assert_eq!(rt; ran.out.taken(), text.as_slice());
-    assert_eq!(rt; ran.notes.taken(), b"".as_slice());
-    assert_eq!(rt; gate.tasks(), 4);
+    Ok(())
+}
+
+// The first ask at a number is a task, and each other one a hit.
+#[test]
+fn a_lane_answers_again_by_what_it_kept(rt: HostRuntime) -> Result<(), Fail> {
+    let gate = Counting::new();
+    let ran = run(&rt, &gate, "--cache=4", FOUR_ASKS)?;
+    check_four_replies(&rt, &ran)?;
+    let (tasks, note) = if ran.outcome.numbers[0] == 1 {
+        (2, b"cache hits 2 of 4\n".as_slice())
+    } else {
+        (1, b"cache hits 3 of 4\n".as_slice())
+    };
+    assert_eq!(rt; ran.notes.taken(), note);
+    assert_eq!(rt; gate.tasks(), tasks);
+    Ok(())
+}
+
+// Nobody walks for a hit, and no lane and no user has another's.
+#[test]
+fn hits_are_of_the_lane_and_the_user(rt: HostRuntime) -> Result<(), Fail> {
+    let script = b"publish 0 a
+barrier
+ask 1 102 / find
+ask 1 102 / find
+ask 1 103 / find
+ask 2 102 / find
+";
+    let gate = Counting::new();
+    let ran = run(&rt, &gate, "--cache=4", script)?;
+    let text = b"publish 1 number 1
+reply 1 at 1 rows 1
+/
+reply 2 at 1 rows 1
+/
+reply 3 at 1 rows 1
+/
+reply 4 at 1 rows 1
+/
+";
+    assert_eq!(rt; ran.out.taken(), text.as_slice());
+    assert_eq!(rt; ran.notes.taken(), b"cache hits 1 of 4\n".as_slice());
+    assert_eq!(rt; gate.tasks(), 3);
+    Ok(())
+}
+
+// The oldest reply is dropped where one more is kept than there may be.
+#[test]
+fn a_lane_keeps_so_many_replies(rt: HostRuntime) -> Result<(), Fail> {
+    let script = b"publish 0 a
+barrier
+ask 1 102 / find
+ask 1 103 / find
+ask 1 102 / find
+";
+    for (option, note) in [
+        ("--cache=1", b"cache hits 0 of 3\n".as_slice()),
+        ("--cache=2", b"cache hits 1 of 3\n"),
+    ] {
+        let ran = run(&rt, &NoGate, option, script)?;
+        assert_eq!(rt; ran.notes.taken(), note);
+        assert_eq!(rt; ran.outcome.status, 0);
+    }
+    let ran = run(&rt, &NoGate, "--cache=257", script)?;
+    assert_eq!(rt; ran.notes.taken(), b"gufi: word 4 refused\n".as_slice());
+    assert_eq!(rt; ran.outcome.status, 2);
     Ok(())
 }
 

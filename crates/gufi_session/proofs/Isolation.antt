@@ -10,4 +10,4 @@ use Rattle.gufi_session.specs.Session.{RepliesArePrivate, answer_or, reply_body,
 pub replies_alike : RepliesArePrivate
 unfolding reply_body
 replies_alike p other search alike i n =
-    ap (λ (rows : Result (List Row) Refusal). reply_head i n ++ answer_or search rows) (alike_replies p.tree other.tree search.who search.start alike (query_holds search.query))
+    ap (λ (rows : Result (List Row) Refusal). reply_head i n ++ answer_or search.query search.start rows) (alike_replies p.tree other.tree search.who search.start alike (query_holds search.query))

@@ -1,3 +1,4 @@
+pub mod Alike
 pub mod Isolation
 pub mod Joined
 pub mod Loads

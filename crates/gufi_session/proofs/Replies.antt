@@ -8,11 +8,11 @@ use Rattle.gufi_tree.specs.Tree.{Directory}
 use Rattle.gufi_tree.specs.Resolve.{resolve}
 use Rattle.gufi_walk.specs.declared.refusal.Refusal.{Refusal}
 use Rattle.gufi_walk.specs.Answer.{answer, refusal_of, reply_rows, rows_or}
-use Rattle.gufi_plan.specs.declared.search.Search.{Search}
+use Rattle.gufi_plan.specs.declared.search.Query.{Query}
 use Rattle.gufi_session.specs.Session.{answer_or, query_answer}
 
 -- what is written of the answer stands behind the reply's head
-pub found_put : (search : Search) (tree : List Directory) (who : Principal) (start : Components) (asks : Row → ℕ → Bool) (old next : List ℕ) → refusal_of (resolve tree who start) ≡ None
-    → next ≡ old ++ query_answer search.query search.start (answer tree who start asks) → next ≡ old ++ answer_or search (reply_rows tree who start asks)
-found_put search tree who start asks old next found is =
-    is ∙ sym (ap (λ (o : Option Refusal). old ++ answer_or search (rows_or o (answer tree who start asks))) found)
+pub found_put : (query : Query) (tree : List Directory) (who : Principal) (start : Components) (asks : Row → ℕ → Bool) (old next : List ℕ) → refusal_of (resolve tree who start) ≡ None
+    → next ≡ old ++ query_answer query start (answer tree who start asks) → next ≡ old ++ answer_or query start (reply_rows tree who start asks)
+found_put query tree who start asks old next found is =
+    is ∙ sym (ap (λ (o : Option Refusal). old ++ answer_or query start (rows_or o (answer tree who start asks))) found)

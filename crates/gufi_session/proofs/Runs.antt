@@ -28,7 +28,7 @@ phases_behind : (files : Files) (phase : List PlannedAct) (later : List (List Lo
 phases_behind files phase later rest (Ok n) is = ap (λ l. loaded_phase files phase ∷ l) is
 phases_behind files phase later rest (Err stop) is = refl
 
-phases_same : (files : Files) (plan : Plan) → phases_over load_phase files plan ≡ map (loaded_phase files) (run_of files plan).plan
+pub phases_same : (files : Files) (plan : Plan) → phases_over load_phase files plan ≡ map (loaded_phase files) (run_of files plan).plan
 unfolding phases_over load_phase run_of
 phases_same files [] = refl
 phases_same files (phase ∷ plan) = phases_behind files phase (phases_over load_phase files plan) (run_of files plan) (phase_bytes files 0 phase) (phases_same files plan)

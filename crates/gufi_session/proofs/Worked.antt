@@ -20,10 +20,16 @@ use Rattle.gufi_script.specs.declared.act.Act.TheVariants.{Publish, Rollup, Refr
 use Rattle.gufi_script.specs.declared.fault.ScriptError.{ScriptError}
 use Rattle.gufi_script.specs.ScriptText.{PlacedAct}
 use Rattle.gufi_plan.specs.Plan.{Setting, Plan, plan, planned_act, search_of, query_of}
+use Rattle.gufi_phases.specs.Keeping.{hits_in}
+use Rattle.gufi_phases.specs.Loads.{phases_over}
+use Rattle.gufi_phases.specs.Phases.{made, last_of_acts}
+use Rattle.gufi_phases.specs.Sessions.{all_made}
 use Rattle.gufi_phases.specs.declared.load.Stop.{Stop}
 use Rattle.gufi_phases.specs.declared.load.Stop.TheVariants.{NoFile}
 use Rattle.gufi_session.specs.Session.{session_text, phases_text, fits, reply_body}
 use Rattle.gufi_session.specs.Run.{run_of, phase_bytes}
+use Rattle.gufi_session.specs.Loaded.{load_phase}
+use Rattle.gufi_session.specs.Hits.{session_hits}
 
 -- ---- traces
 
@@ -140,3 +146,41 @@ numbers_go_on = refl
 stops_at_the_first : stop_or (plan setting (placed 1 (Publish 0 (codes "a") ∷ Barrier ∷ Publish 0 (codes "gone") ∷ Publish 0 (codes "lost") ∷ []))) ≡ Some (NoFile (codes "gone"))
 unfolding plan planned_act search_of query_of run_of phase_bytes fits reply_body session_text phases_text a1 x1 b1 trace_means trace_lines read_lines read_line read_line_path read_meta read_path tree_of resolve principal_of read_find read_find_words wants_primary primary_named total digits can_list is_granted class_for answer
 stops_at_the_first = refl
+
+-- ---- hits
+
+abbrev hits_or : Result Plan ScriptError → ℕ → List ℕ → Option ℕ
+hits_or (Ok p) capacity numbers = Some (session_hits files p capacity numbers)
+hits_or (Err fault) capacity numbers = None
+
+-- where each lane keeps so many replies
+abbrev hits_of : List Act → ℕ → List ℕ → Option ℕ
+hits_of acts capacity numbers = hits_or (plan setting (placed 1 acts)) capacity numbers
+
+abbrev find_as : ℕ → List ℕ → Act
+find_as lane user = Ask lane user [] forms.Find []
+
+-- one ask comes again in its lane; another user's and another lane's are their own
+hit_in_its_lane : hits_of (Publish 100 (codes "a") ∷ Barrier ∷ find_as 1 (codes "102") ∷ find_as 1 (codes "102") ∷ find_as 1 (codes "103") ∷ find_as 2 (codes "102") ∷ []) 4 (1 ∷ 1 ∷ 1 ∷ 1 ∷ []) ≡ Some 1
+unfolding plan planned_act search_of query_of phase_bytes reply_body a1 x1 trace_means trace_lines read_lines read_line read_line_path read_meta read_path tree_of resolve principal_of read_find read_find_words wants_primary primary_named total digits can_list is_granted class_for answer phases_over load_phase all_made made last_of_acts hits_in
+hit_in_its_lane = refl
+
+abbrev there_and_back : List Act
+there_and_back = Publish 100 (codes "a") ∷ Barrier ∷ find_as 1 (codes "102") ∷ find_as 1 (codes "103") ∷ find_as 1 (codes "102") ∷ []
+
+dropped_for_another : hits_of there_and_back 1 (1 ∷ 1 ∷ 1 ∷ []) ≡ Some 0
+unfolding plan planned_act search_of query_of phase_bytes reply_body a1 x1 trace_means trace_lines read_lines read_line read_line_path read_meta read_path tree_of resolve principal_of read_find read_find_words wants_primary primary_named total digits can_list is_granted class_for answer phases_over load_phase all_made made last_of_acts hits_in
+dropped_for_another = refl
+
+kept_beside_another : hits_of there_and_back 2 (1 ∷ 1 ∷ 1 ∷ []) ≡ Some 1
+unfolding plan planned_act search_of query_of phase_bytes reply_body a1 x1 trace_means trace_lines read_lines read_line read_line_path read_meta read_path tree_of resolve principal_of read_find read_find_words wants_primary primary_named total digits can_list is_granted class_for answer phases_over load_phase all_made made last_of_acts hits_in
+kept_beside_another = refl
+
+-- a reply from an earlier publication is none from a later one, and lanes keep theirs over a barrier
+hits_at_each_number : hits_of three_and_one 4 (1 ∷ 1 ∷ 2 ∷ 2 ∷ []) ≡ Some 2
+unfolding plan planned_act search_of query_of phase_bytes reply_body a1 x1 trace_means trace_lines read_lines read_line read_line_path read_meta read_path tree_of resolve principal_of read_find read_find_words wants_primary primary_named total digits can_list is_granted class_for answer phases_over load_phase all_made made last_of_acts hits_in
+hits_at_each_number = refl
+
+none_kept : hits_of three_and_one 0 (1 ∷ 1 ∷ 2 ∷ 2 ∷ []) ≡ Some 0
+unfolding plan planned_act search_of query_of phase_bytes reply_body a1 x1 trace_means trace_lines read_lines read_line read_line_path read_meta read_path tree_of resolve principal_of read_find read_find_words wants_primary primary_named total digits can_list is_granted class_for answer phases_over load_phase all_made made last_of_acts hits_in
+none_kept = refl

@@ -3,3 +3,4 @@ pub mod Loaded
 pub mod Loading
 pub mod Run
 pub mod Ends
+pub mod Hits

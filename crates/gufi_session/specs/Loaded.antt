@@ -3,6 +3,8 @@ use Rattle.std.specs.Prelude.{ℕ, List, ◌++◌, map, Option, Result, Ok, Err,
 use Rattle.gufi_io.specs.Files.{Files}
 use Rattle.gufi_base.specs.Basics.{line, ◌>>=◌}
 use Rattle.gufi_trace.specs.TraceText.{trace_means}
+use Rattle.gufi_cache.specs.declared.key.CacheKey.{CacheKey}
+use Rattle.gufi_cache.specs.Keys.{key_of}
 use Rattle.gufi_phases.specs.declared.act.Act.{Act}
 use Rattle.gufi_phases.specs.declared.act.Act.TheVariants as acts
 use Rattle.gufi_phases.specs.declared.load.Stop.{Stop}
@@ -11,7 +13,7 @@ use Rattle.gufi_plan.specs.declared.act.PlannedAct.TheVariants as planned
 use Rattle.gufi_session.specs.declared.publishing.Publishing.{Publishing}
 use Rattle.gufi_session.specs.declared.publishing.Publishing.TheVariants.{Publish, Rollup, Refresh}
 use Rattle.gufi_session.specs.declared.reply.Asking.{Asking}
-use Rattle.gufi_session.specs.Session.{Published, adds, refuses, does_nothing, Publication, published, rolled, grafted, bytes_of, reply_text}
+use Rattle.gufi_session.specs.Session.{Published, adds, refuses, does_nothing, Publication, published, rolled, grafted, bytes_of, reply_text, reply_body}
 use Rattle.gufi_session.specs.Run.{phase_bytes}
 
 abbrev pub LoadedAct : Type 0
@@ -52,3 +54,10 @@ command_line command k (Err text) = line (verb_of command ++ decimal k ++ codes 
 
 abbrev pub search_reply : Asking → ℕ → ℕ → Option Publication → List ℕ
 search_reply asking i n p = reply_text i n p asking.search
+
+-- what follows the head of a reply from a publication, and what a lane keeps it under
+abbrev pub search_body : Asking → Publication → List ℕ
+search_body asking p = reply_body asking.search p.tree
+
+abbrev pub search_key : Asking → ℕ → CacheKey
+search_key asking n = key_of n asking.search.who asking.search.start asking.search.ask

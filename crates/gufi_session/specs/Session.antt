@@ -90,13 +90,13 @@ query_answer (Finds find) start rows = line (codes " rows " ++ decimal (length r
 query_answer (Totals find) start rows = line (codes " total " ++ total_text (total rows))
 query_answer (Selects select) start rows = line (codes " rows " ++ decimal (length rows)) ++ select_lines select start rows
 
-abbrev pub answer_or : Search → Result (List Row) Refusal → List ℕ
-answer_or search (Ok rows) = query_answer search.query search.start rows
-answer_or search (Err refusal) = line (codes " " ++ refusal_text refusal)
+abbrev pub answer_or : Query → Components → Result (List Row) Refusal → List ℕ
+answer_or query start (Ok rows) = query_answer query start rows
+answer_or query start (Err refusal) = line (codes " " ++ refusal_text refusal)
 
 -- a reply without its head, over a tree
 unfoldable pub reply_body : Search → List Directory → List ℕ
-reply_body search tree = answer_or search (reply_rows tree search.who search.start (query_holds search.query))
+reply_body search tree = answer_or search.query search.start (reply_rows tree search.who search.start (query_holds search.query))
 
 abbrev pub reply_head : ℕ → ℕ → List ℕ
 reply_head i n = codes "reply " ++ decimal i ++ codes " at " ++ decimal n

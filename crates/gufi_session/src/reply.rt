@@ -12,11 +12,12 @@ ghost use Rattle.gufi_tree.specs.Resolve.{resolve};
 ghost use Rattle.gufi_walk.specs.Answer.{answer, refusal_of, reply_rows};
 ghost use Rattle.gufi_walk.specs.Refusals.{refusal_text};
 ghost use Rattle.gufi_plan.specs.declared.search.Query.TheVariants.{Finds, Totals, Selects};
-ghost use Rattle.gufi_session.specs.Loaded.{search_reply};
+ghost use Rattle.gufi_session.specs.Loaded.{search_reply, search_body};
 ghost use Rattle.gufi_session.specs.Session.{answer_or, reply_body, reply_head};
 
 use gufi_access::Principal;
 use gufi_base::{Memory, Path, put_u64};
+use gufi_cache::{CacheKey, cache_key};
 use gufi_find::FindExpr;
 use gufi_io::Gate;
 use gufi_list::total_text;
@@ -100,7 +101,7 @@ fn put_found<R: Threads + Wait + Sync, G: Gate + Sync>(
     start: &Path,
     find: &FindExpr,
 ) -> Result<(), Memory>
-    ensures { OnOk result (text.new.items ≡ text.old.items ++ answer_or (record { who = who.now; start = start.now; query = Finds find.now }) (reply_rows snap.now.tree who.now start.now (find_holds find.now))) }
+    ensures { OnOk result (text.new.items ≡ text.old.items ++ answer_or (Finds find.now) start.now (reply_rows snap.now.tree who.now start.now (find_holds find.now))) }
 {
     let question = find.question();
     let skip = find_pruner(alloc, find)?;
@@ -144,7 +145,7 @@ fn put_total<R: Threads + Wait + Sync, G: Gate + Sync>(
     start: &Path,
     find: &FindExpr,
 ) -> Result<(), Memory>
-    ensures { OnOk result (text.new.items ≡ text.old.items ++ answer_or (record { who = who.now; start = start.now; query = Totals find.now }) (reply_rows snap.now.tree who.now start.now (find_holds find.now))) }
+    ensures { OnOk result (text.new.items ≡ text.old.items ++ answer_or (Totals find.now) start.now (reply_rows snap.now.tree who.now start.now (find_holds find.now))) }
 {
     match sum_found(walkers, alloc, snap, who, start, find) {
         Ok(sum) => {
@@ -169,7 +170,7 @@ fn put_selected<R: Threads + Wait + Sync, G: Gate + Sync>(
     start: &Path,
     select: &Select,
 ) -> Result<(), Memory>
-    ensures { OnOk result (text.new.items ≡ text.old.items ++ answer_or (record { who = who.now; start = start.now; query = Selects select.now }) (reply_rows snap.now.tree who.now start.now (select_holds select.now))) }
+    ensures { OnOk result (text.new.items ≡ text.old.items ++ answer_or (Selects select.now) start.now (reply_rows snap.now.tree who.now start.now (select_holds select.now))) }
 {
     let question = select.question();
     let skip = select_pruner(alloc, select)?;
@@ -199,6 +200,21 @@ fn put_body<R: Threads + Wait + Sync, G: Gate + Sync>(
     }
 }
 
+/// Appends the body of the reply to an ask from the snapshot that was pinned, and from it alone.
+pub(crate) fn body_from<R: Threads + Wait + Sync, G: Gate + Sync>(
+    walkers: &Walkers<'_, R, G>,
+    alloc: Global,
+    asking: &Asking,
+    text: Vec<u8>,
+    snap: &Snapshot,
+) -> Result<Vec<u8>, Memory>
+    ensures { IfOk result (λ whole. whole.items ≡ text.items ++ search_body asking.now snap.now) }
+{
+    let mut text = text;
+    put_body(walkers, alloc, &mut text, snap, asking.search.get())?;
+    Ok(text)
+}
+
 /// The head of the reply to an ask at the number of a publication.
 fn reply_head(alloc: Global, ask: u32, number: u64) -> Result<Vec<u8>, Memory>
     ensures { IfOk result (λ text. text.items ≡ reply_head ask number) }
@@ -211,24 +227,37 @@ fn reply_head(alloc: Global, ask: u32, number: u64) -> Result<Vec<u8>, Memory>
     Ok(text)
 }
 
-/// The reply to an ask from the snapshot that was pinned, and from it alone.
-pub(crate) fn reply_from<R: Threads + Wait + Sync, G: Gate + Sync>(
-    walkers: &Walkers<'_, R, G>,
-    alloc: Global,
-    asking: &Asking,
-    ask: u32,
-    number: u64,
-    snap: &Snapshot,
-) -> Result<Vec<u8>, Memory>
-    ensures { IfOk result (λ text. text.items ≡ search_reply asking.now ask number (Some snap.now)) }
-{
-    let mut text = reply_head(alloc, ask, number)?;
-    put_body(walkers, alloc, &mut text, snap, asking.search.get())?;
-    Ok(text)
-}
-
 impl Wanted<Snapshot> for Asking {
+    ghost use Rattle.std.specs.Prelude.{refl};
+    ghost use Rattle.gufi_session.specs.Session.{reply_head};
+    ghost use Rattle.gufi_session.specs.Loaded.{search_body, search_key};
+
     ghost reply = { search_reply };
+
+    ghost head = { reply_head };
+
+    ghost body = { search_body };
+
+    ghost key = { search_key };
+
+    ghost parts = { λ question ask number item. refl };
+
+    ghost numbers = { λ question number. refl };
+
+    fn put_head(&self, alloc: Global, ask: u32, number: u64) -> Result<Vec<u8>, Memory> {
+        reply_head(alloc, ask, number)
+    }
+
+    fn kept_under(&self, alloc: Global, number: u64) -> Result<CacheKey, Memory> {
+        let search = self.search.get();
+        cache_key(
+            alloc,
+            number,
+            &search.who,
+            &search.start,
+            search.ask.as_slice(),
+        )
+    }
 
     fn reply_to_none(&self, alloc: Global, ask: u32) -> Result<Vec<u8>, Memory> {
         let mut text = reply_head(alloc, ask, 0)?;

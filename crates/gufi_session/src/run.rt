@@ -1,13 +1,15 @@
 //! The run of a plan.
-ghost use Rattle.std.specs.Prelude.{◌≡◌};
+ghost use Rattle.std.specs.Prelude.{◌≡◌, ◌≤◌, Some};
+ghost use Rattle.gufi_io.specs.Files.{Files};
 ghost use Rattle.gufi_phases.specs.Loads.{EndHasCause};
 ghost use Rattle.gufi_session.specs.Ends.{SessionEnded};
+ghost use Rattle.gufi_session.specs.Hits.{session_hits};
 
 use crate::publishing::Publishing;
-use crate::reply::{Asking, reply_from};
+use crate::reply::{Asking, body_from};
 use gufi_base::{Items, Memory};
 use gufi_io::{Gate, Shelf, Sink};
-use gufi_phases::Ended;
+use gufi_phases::{End, Ended};
 use gufi_plan::{PlannedAct, SessionPlan};
 use gufi_snap::Snapshot;
 use gufi_walk::Walkers;
@@ -21,17 +23,21 @@ use std::thread::Threads;
 /// one thread carries out the publishing commands, and each lane its searches, in order; a lane that can't be started beside the
 /// others runs in its turn. Each search pins one publication and is answered from that alone, by so many workers of its own, but
 /// at least one and at most 32. A damaged trace is a line of the text. A publication is let go as soon as no search holds it and
-/// it isn't the last.
+/// it isn't the last. Each lane keeps so many of its last replies, and none where `cache` is 0; a search that comes again at the
+/// same publication, with the same user, start and words, is answered by what its lane kept, and nobody walks.
 pub fn run_session<R: Threads + Wait + Sync, F: Shelf, K: Sink, G: Gate + Sync>(
     rt: &R,
     alloc: Global,
     plan: &SessionPlan,
     workers: u32,
+    cache: u32,
     shelf: &mut F,
     out: &mut K,
     gate: &G,
 ) -> Ended
+    requires { cache ≤ 256 }
     ensures ended { SessionEnded (F.files shelf.old) plan.now result.end result.numbers.items (K.taken out.old) (K.taken out.new) }
+    ensures hits { (files : Files) → F.files shelf.old ≡ Some files → result.end ≡ End.Done → result.hits ≡ session_hits files plan.now cache result.numbers.items }
     ensures cause { EndHasCause F.Shelf shelf.old shelf.new K.Sink out.old out.new result.end }
     ensures same { F.files shelf.new ≡ F.files shelf.old }
 {
@@ -42,9 +48,10 @@ pub fn run_session<R: Threads + Wait + Sync, F: Shelf, K: Sink, G: Gate + Sync>(
         rt,
         alloc,
         gate,
-        &|asking: &Asking, ask: u32, number: u64, snap: &Snapshot| -> Result<Vec<u8>, Memory> {
-            reply_from(&walkers, alloc, asking, ask, number, snap)
+        &|asking: &Asking, text: Vec<u8>, snap: &Snapshot| -> Result<Vec<u8>, Memory> {
+            body_from(&walkers, alloc, asking, text, snap)
         },
+        cache,
         plan.phases(),
         shelf,
         out,

@@ -46,7 +46,7 @@ fn run<R: Threads + Wait + Abort + Sync>(
     assert!(rt; names_differ(&files));
     let mut shelf = MemShelf::new(files, 64, Vec::new(alloc), Vec::new(alloc));
     let mut out = MemSink::new(vec![in alloc; 0; 1024]?, 100, Vec::new(alloc));
-    let ended = run_session(rt, alloc, &plan, 1, &mut shelf, &mut out, &NoGate);
+    let ended = run_session(rt, alloc, &plan, 1, 0, &mut shelf, &mut out, &NoGate);
     Ok((ended, out.taken().to_vec(alloc)?))
 }
 

@@ -1,11 +1,12 @@
 -- Lemmas on how a run ends.
-use Rattle.std.proofs.Common.{◌≡◌, ◌≢◌, ◌⊎◌, ⊎_elim, ℕ, List, [], length, refl, sym, ◌∙◌, inl, arith}
+use Rattle.std.proofs.Common.{◌≡◌, ◌≢◌, ◌⊎◌, ⊎_elim, ℕ, List, [], length, refl, sym, ◌∙◌, inl, inr, arith}
 use Rattle.std.specs.Prelude.{Option, Some, None, option_map, Result, Ok, Err, Vec}
 use Rattle.std.specs.declared.alloc.Global.{Global}
 use Rattle.std.specs.Io.KnownBytes.{Appends}
 use Rattle.std.proofs.KnownBytes.{Appends-nil}
+use Rattle.std.proofs.lemmas.List.{append-nil}
 use Rattle.gufi_io.specs.Causes.{Rose}
-use Rattle.gufi_io.specs.Files.{Files}
+use Rattle.gufi_io.specs.Files.{Files, TakesFront}
 use Rattle.gufi_io.specs.Kept.{Keeps}
 use Rattle.gufi_io.specs.declared.shelf.Shelf.{Ghosts as ShelfOf}
 use Rattle.gufi_io.specs.declared.sink.Sink.{Ghosts as SinkOf}
@@ -18,12 +19,14 @@ use Rattle.gufi_plan.specs.Plan.{Plan}
 use Rattle.gufi_session.specs.Session.{fits, session_text, phases_text}
 use Rattle.gufi_session.specs.Run.{Run, run_of}
 use Rattle.gufi_session.specs.Ends.{Answered, AnsweredInPart, SessionEnded, MayEndSession}
+use Rattle.gufi_session.specs.Hits.{session_hits}
 use Rattle.gufi_top.specs.Reasons.{Reason, stop_reason}
 use Rattle.gufi_top.specs.Verdict.{Verdict, writes, runs, run_over}
 use Rattle.gufi_top.specs.Calls.{GivesOver, OfWordsOnlyIf, IsPastWords, HaltHasCause}
 use Rattle.gufi_top.specs.Views.{text_view}
-use Rattle.gufi_top.specs.Ends.{IsVerdictStatus, BreaksOff, MayBreakOff, MayBeCut, TakesNote, EndedBy, BrokenOffBy, TextEnds, WriteFaultedBy, read_fault_note, memory_note}
-use Rattle.gufi_top.specs.Endings.{HasRun, HaltTells, EndTells}
+use Rattle.gufi_top.specs.Ends.{IsVerdictStatus, BreaksOff, MayBreakOff, MayBeCut, TakesNote, EndedBy, BrokenOffBy, TextEnds, WriteFaultedBy, hits_note, read_fault_note, memory_note}
+use Rattle.gufi_top.specs.Endings.{HasRun, HaltTells, DoneTells, EndTells}
+use Rattle.gufi_top.proofs.HitLemmas.{kept_told}
 use Rattle.gufi_top.specs.declared.halt.Output.{Output}
 use Rattle.gufi_top.specs.declared.halt.Halt.{Halt}
 use Rattle.gufi_top.specs.declared.halt.Halt.TheVariants as halts
@@ -89,7 +92,7 @@ nothing_answered files run = (0, record { within = omega arith; fit = refl; writ
 breaks_off : (v : Result Verdict Reason) → BreaksOff v [] []
 breaks_off (Err why) = (refl, refl)
 breaks_off (Ok (writes whole)) = (refl, refl)
-breaks_off (Ok (runs files run)) = nothing_answered files run
+breaks_off (Ok (runs files run cache)) = nothing_answered files run
 
 nothing_written : (given : Option (Result Verdict Reason)) → MayBreakOff given [] []
 nothing_written None = tt
@@ -143,17 +146,29 @@ module _ {F K : Type 0} (shelf : ShelfOf F) (sink : SinkOf K) (step : Files → 
 part : (files : Files) (run : Run) (numbers text : List ℕ) → Answered files run (length run.plan) numbers text → AnsweredInPart files run numbers text
 part files run numbers text whole = (length run.plan, whole)
 
-some_answered : (told : Option Files) (plan : Plan) (end : End) (numbers text : List ℕ) → MayEndSession told plan end numbers text → MayBreakOff (option_map (run_over plan) told) numbers text
-some_answered None plan end numbers text is = tt
-some_answered (Some files) plan ends.Done numbers text is = part files (run_of files plan) numbers text is.1
-some_answered (Some files) plan (ends.Stopped stop) numbers text is = part files (run_of files plan) numbers text is.1
-some_answered (Some files) plan ends.ReadFault numbers text is = is
-some_answered (Some files) plan ends.WriteFault numbers text is = is
-some_answered (Some files) plan ends.Memory numbers text is = is
+some_answered : (told : Option Files) (plan : Plan) (cache : ℕ) (end : End) (numbers text : List ℕ) → MayEndSession told plan end numbers text → MayBreakOff (option_map (run_over cache plan) told) numbers text
+some_answered None plan cache end numbers text is = tt
+some_answered (Some files) plan cache ends.Done numbers text is = part files (run_of files plan) numbers text is.1
+some_answered (Some files) plan cache (ends.Stopped stop) numbers text is = part files (run_of files plan) numbers text is.1
+some_answered (Some files) plan cache ends.ReadFault numbers text is = is
+some_answered (Some files) plan cache ends.WriteFault numbers text is = is
+some_answered (Some files) plan cache ends.Memory numbers text is = is
 
-session_cut : (told : Option Files) (plan : Plan) (numbers text : List ℕ) → MayEndSession told plan ends.WriteFault numbers text → MayBeCut (option_map (run_over plan) told) numbers text []
-session_cut None plan numbers text is = tt
-session_cut (Some files) plan numbers text is = (is, refl)
+session_cut : (told : Option Files) (plan : Plan) (cache : ℕ) (numbers text : List ℕ) → MayEndSession told plan ends.WriteFault numbers text → MayBeCut (option_map (run_over cache plan) told) numbers text []
+session_cut None plan cache numbers text is = tt
+session_cut (Some files) plan cache numbers text is = inl (is, refl)
+
+-- where all phases are written, so many asks are hits, if the shelf tells its bytes
+abbrev AreHits : Option Files → Plan → ℕ → End → ℕ → List ℕ → Type 0
+AreHits told plan cache end hits numbers = (files : Files) → told ≡ Some files → end ≡ ends.Done → hits ≡ session_hits files plan cache numbers
+
+note_cut : (told : Option Files) (plan : Plan) (cache hits : ℕ) (numbers text : List ℕ) → MayEndSession told plan ends.Done numbers text → AreHits told plan cache ends.Done hits numbers
+    → MayBeCut (option_map (run_over cache plan) told) numbers text (hits_note cache hits (length numbers))
+note_cut None plan cache hits numbers text is are = tt
+note_cut (Some files) plan cache hits numbers text is are = inr (is.1, is.0, kept_told files plan cache hits numbers text is.0 is.1 (are files refl refl))
+
+took_all : (old new : Option (List ℕ)) (text : List ℕ) → Appends old new text → TakesFront old new text
+took_all old new text is = ([], record { front = text; parts = sym (append-nil text); taken = is })
 
 -- the status of a stop, and where it comes from
 stop_good : (stop : Stop) → IsVerdictStatus (stop_reason stop).status
@@ -165,43 +180,57 @@ stop_absent shelf before after (stops.NoFile file) cause e = cause
 stop_absent shelf before after (stops.TooLong file) cause e = absurd (omega arith)
 
 module _ {F K : Type 0} (shelf : ShelfOf F) (sink : SinkOf K) where
-  done : (told : Option Files) (plan : Plan) (numbers : List ℕ) (out out' notes notes' : K)
-      → SessionEnded told plan ends.Done numbers (sink.taken out) (sink.taken out') → Appends (sink.taken notes) (sink.taken notes') []
-      → EndedBy sink (option_map (run_over plan) told) 0 numbers out out' notes notes'
-  done None plan numbers out out' notes notes' e noted = record { text = e.text; note = []; answer = tt; taken = e.taken; noted = inl noted }
-  done (Some files) plan numbers out out' notes notes' e noted =
-      record { text = e.text; note = []; answer = (e.answer.1, rw e.answer.0 (refl, refl)); taken = e.taken; noted = inl noted }
+  done : (told : Option Files) (plan : Plan) (cache hits : ℕ) (numbers : List ℕ) (out out' notes notes' : K)
+      → SessionEnded told plan ends.Done numbers (sink.taken out) (sink.taken out') → AreHits told plan cache ends.Done hits numbers
+      → Appends (sink.taken notes) (sink.taken notes') (hits_note cache hits (length numbers)) → EndedBy sink (option_map (run_over cache plan) told) 0 numbers out out' notes notes'
+  done None plan cache hits numbers out out' notes notes' e are noted = record { text = e.text; note = hits_note cache hits (length numbers); answer = tt; taken = e.taken; noted = inl noted }
+  done (Some files) plan cache hits numbers out out' notes notes' e are noted =
+      let same = kept_told files plan cache hits numbers e.text e.answer.0 e.answer.1 (are files refl refl) in
+      record { text = e.text; note = hits_note cache hits (length numbers); answer = (e.answer.1, rw e.answer.0 (refl, same)); taken = e.taken; noted = rw e.answer.0 noted }
 
-  stopped : (told : Option Files) (plan : Plan) (stop : Stop) (numbers : List ℕ) (out out' notes notes' : K)
+  stopped : (told : Option Files) (plan : Plan) (cache : ℕ) (stop : Stop) (numbers : List ℕ) (out out' notes notes' : K)
       → SessionEnded told plan (ends.Stopped stop) numbers (sink.taken out) (sink.taken out') → TakesNote sink notes notes' (stop_reason stop).note
-      → EndedBy sink (option_map (run_over plan) told) (stop_reason stop).status numbers out out' notes notes'
-  stopped None plan stop numbers out out' notes notes' e noted = record { text = e.text; note = (stop_reason stop).note; answer = tt; taken = e.taken; noted = noted }
-  stopped (Some files) plan stop numbers out out' notes notes' e noted =
-      record { text = e.text; note = (stop_reason stop).note; answer = (e.answer.1, rw e.answer.0 (refl, refl)); taken = e.taken; noted = noted }
+      → EndedBy sink (option_map (run_over cache plan) told) (stop_reason stop).status numbers out out' notes notes'
+  stopped None plan cache stop numbers out out' notes notes' e noted = record { text = e.text; note = (stop_reason stop).note; answer = tt; taken = e.taken; noted = noted }
+  stopped (Some files) plan cache stop numbers out out' notes notes' e noted =
+      record { text = e.text; note = (stop_reason stop).note; answer = (e.answer.1, rw e.answer.0 (refl, refl)); taken = e.taken; noted = rw e.answer.0 noted }
 
-  session_broken : (told : Option Files) (plan : Plan) (end : End) (numbers : List ℕ) (out out' notes notes' : K) (note : List ℕ)
+  session_broken : (told : Option Files) (plan : Plan) (cache : ℕ) (end : End) (numbers : List ℕ) (out out' notes notes' : K) (note : List ℕ)
       → (e : SessionEnded told plan end numbers (sink.taken out) (sink.taken out')) → Appends (sink.taken out) (sink.taken out') e.text → TakesNote sink notes notes' note
-      → BrokenOffBy sink (option_map (run_over plan) told) numbers out out' notes notes' note
-  session_broken told plan end numbers out out' notes notes' note e taken noted =
-      record { text = e.text; answer = some_answered told plan end numbers e.text e.answer; taken = taken; noted = noted }
+      → BrokenOffBy sink (option_map (run_over cache plan) told) numbers out out' notes notes' note
+  session_broken told plan cache end numbers out out' notes notes' note e taken noted =
+      record { text = e.text; answer = some_answered told plan cache end numbers e.text e.answer; taken = taken; noted = noted }
 
-  pub session_run : (told : Option Files) (plan : Plan) (end : End) {status : ℕ} {numbers : List ℕ} {before after : F} {out out' notes notes' : K}
-      → SessionEnded told plan end numbers (sink.taken out) (sink.taken out') → EndHasCause shelf before after sink out out' end → EndTells sink end status notes notes'
-      → HasRun shelf sink (option_map (run_over plan) told) status numbers before after out out' notes notes'
-  session_run told plan ends.Done e cause tells =
-      rw tells.0 (as_ended (λ e. omega arith, λ e. omega arith, λ e. omega arith) (λ e. absurd (omega arith)) (done told plan _ _ _ _ _ e tells.1))
-  session_run told plan (ends.Stopped stop) e cause tells = ⊎_elim
-      (λ is. rw is.0 (as_ended (stop_good stop) (stop_absent shelf _ _ stop cause) (stopped told plan stop _ _ _ _ _ e is.1)))
-      (λ is. as_memory is.0 (session_broken told plan (ends.Stopped stop) _ _ _ _ _ memory_note e e.taken is.1))
+  -- all phases are written, and then the note
+  session_done : (told : Option Files) (plan : Plan) (cache hits : ℕ) {status : ℕ} {numbers : List ℕ} {before after : F} {out out' notes notes' : K}
+      → SessionEnded told plan ends.Done numbers (sink.taken out) (sink.taken out') → AreHits told plan cache ends.Done hits numbers → DoneTells sink (hits_note cache hits (length numbers)) status notes notes'
+      → HasRun shelf sink (option_map (run_over cache plan) told) status numbers before after out out' notes notes'
+  session_done told plan cache hits e are (inl is) =
+      rw is.0 (as_ended (λ e. omega arith, λ e. omega arith, λ e. omega arith) (λ e. absurd (omega arith)) (done told plan cache hits _ _ _ _ _ e are is.1))
+  session_done told plan cache hits e are (inr (inl is)) = as_write_fault is.0 (record {
+    text = e.text;
+    report = hits_note cache hits (length _);
+    answer = note_cut told plan cache hits _ e.text e.answer are;
+    ends = record { cause = inr is.1; taken = took_all _ _ e.text e.taken; noted = inr (is.1, is.2) };
+  })
+  session_done told plan cache hits e are (inr (inr is)) = as_memory is.0 (session_broken told plan cache ends.Done _ _ _ _ _ memory_note e e.taken is.1)
+
+  pub session_run : (told : Option Files) (plan : Plan) (cache hits : ℕ) (end : End) {status : ℕ} {numbers : List ℕ} {before after : F} {out out' notes notes' : K}
+      → SessionEnded told plan end numbers (sink.taken out) (sink.taken out') → AreHits told plan cache end hits numbers → EndHasCause shelf before after sink out out' end
+      → EndTells sink (hits_note cache hits (length numbers)) end status notes notes' → HasRun shelf sink (option_map (run_over cache plan) told) status numbers before after out out' notes notes'
+  session_run told plan cache hits ends.Done e are cause tells = session_done told plan cache hits e are tells
+  session_run told plan cache hits (ends.Stopped stop) e are cause tells = ⊎_elim
+      (λ is. rw is.0 (as_ended (stop_good stop) (stop_absent shelf _ _ stop cause) (stopped told plan cache stop _ _ _ _ _ e is.1)))
+      (λ is. as_memory is.0 (session_broken told plan cache (ends.Stopped stop) _ _ _ _ _ memory_note e e.taken is.1))
       tells
-  session_run told plan ends.ReadFault e cause tells = as_read_fault tells.0 cause (session_broken told plan ends.ReadFault _ _ _ _ _ read_fault_note e e.taken tells.1)
-  session_run told plan ends.WriteFault e cause tells = as_write_fault tells.0 (record {
+  session_run told plan cache hits ends.ReadFault e are cause tells = as_read_fault tells.0 cause (session_broken told plan cache ends.ReadFault _ _ _ _ _ read_fault_note e e.taken tells.1)
+  session_run told plan cache hits ends.WriteFault e are cause tells = as_write_fault tells.0 (record {
     text = e.text;
     report = [];
-    answer = session_cut told plan _ e.text e.answer;
+    answer = session_cut told plan cache _ e.text e.answer;
     ends = record { cause = inl cause; taken = e.taken; noted = inl tells.1 };
   })
-  session_run told plan ends.Memory e cause tells = as_memory tells.0 (session_broken told plan ends.Memory _ _ _ _ _ memory_note e e.taken tells.1)
+  session_run told plan cache hits ends.Memory e are cause tells = as_memory tells.0 (session_broken told plan cache ends.Memory _ _ _ _ _ memory_note e e.taken tells.1)
 
 -- ---- the words
 
@@ -220,10 +249,15 @@ stop_past_words : (stop : Stop) → (stop_reason stop).status ≢ 2
 stop_past_words (stops.NoFile file) = λ e. omega arith
 stop_past_words (stops.TooLong file) = λ e. omega arith
 
-pub end_past_words : {K : Type 0} (sink : SinkOf K) (end : End) (status : ℕ) (notes notes' : K) → EndTells sink end status notes notes' → status ≢ 2
-end_past_words sink ends.Done status notes notes' tells = λ is. let e = tells.0 in omega arith
-end_past_words sink (ends.Stopped stop) status notes notes' tells =
+done_past_words : {K : Type 0} (sink : SinkOf K) (note : List ℕ) (status : ℕ) (notes notes' : K) → DoneTells sink note status notes notes' → status ≢ 2
+done_past_words sink note status notes notes' (inl t) = λ is. let e = t.0 in omega arith
+done_past_words sink note status notes notes' (inr (inl t)) = λ is. let e = t.0 in omega arith
+done_past_words sink note status notes notes' (inr (inr t)) = λ is. let e = t.0 in omega arith
+
+pub end_past_words : {K : Type 0} (sink : SinkOf K) (note : List ℕ) (end : End) (status : ℕ) (notes notes' : K) → EndTells sink note end status notes notes' → status ≢ 2
+end_past_words sink note ends.Done status notes notes' tells = done_past_words sink note status notes notes' tells
+end_past_words sink note (ends.Stopped stop) status notes notes' tells =
     λ is. ⊎_elim (λ t. stop_past_words stop (sym t.0 ∙ is)) (λ t. let e = t.0 in omega arith) tells
-end_past_words sink ends.ReadFault status notes notes' tells = λ is. let e = tells.0 in omega arith
-end_past_words sink ends.WriteFault status notes notes' tells = λ is. let e = tells.0 in omega arith
-end_past_words sink ends.Memory status notes notes' tells = λ is. let e = tells.0 in omega arith
+end_past_words sink note ends.ReadFault status notes notes' tells = λ is. let e = tells.0 in omega arith
+end_past_words sink note ends.WriteFault status notes notes' tells = λ is. let e = tells.0 in omega arith
+end_past_words sink note ends.Memory status notes notes' tells = λ is. let e = tells.0 in omega arith

@@ -10,3 +10,4 @@ pub mod SummaryLemmas
 pub mod GenLemmas
 pub mod TraceImages
 pub mod ListedTexts
+pub mod HitLemmas

@@ -46,15 +46,15 @@ module _ (told : Option Files) (passwd group : Option (List ℕ)) (delim : ℕ) 
   plan_err e read = over_err told (λ t. t) (λ (p : Plan). p) e (tables_in passwd group) (λ t files. script_plan (record { tables = t; now = now; delim = delim }) script files) read
 
   -- a session that has no plan
-  pub session_err : (e : Halt) → GivesOver {A = Plan} told (λ p. p) (Err e) (session_plan passwd group delim now script) → GivesOver told text_view (Err e) (session_over passwd group delim now script)
+  pub session_err : (cache : ℕ) (e : Halt) → GivesOver {A = Plan} told (λ p. p) (Err e) (session_plan passwd group delim now script) → GivesOver told text_view (Err e) (session_over passwd group delim now cache script)
   unfolding session_over
-  session_err e read = over_err told (λ (p : Plan). p) text_view e (session_plan passwd group delim now script) run_over read
+  session_err cache e read = over_err told (λ (p : Plan). p) text_view e (session_plan passwd group delim now script) (run_over cache) read
 
 pub ruleset scripts = (acts_ok, acts_err, script_ok, script_err, plan_ok, plan_err)
 
 -- a session is the run of its plan
-pub session_of : (told : Option Files) (passwd group : Option (List ℕ)) (delim : ℕ) (now : Option ℤ) (script : List ℕ) (planned : Plan)
-    → GivesOver {A = Plan} told (λ p. p) (Ok planned) (session_plan passwd group delim now script) → option_map (session_over passwd group delim now script) told ≡ option_map (run_over planned) told
+pub session_of : (told : Option Files) (passwd group : Option (List ℕ)) (delim : ℕ) (now : Option ℤ) (cache : ℕ) (script : List ℕ) (planned : Plan)
+    → GivesOver {A = Plan} told (λ p. p) (Ok planned) (session_plan passwd group delim now script) → option_map (session_over passwd group delim now cache script) told ≡ option_map (run_over cache planned) told
 unfolding session_over
-session_of None passwd group delim now script planned read = refl
-session_of (Some files) passwd group delim now script planned read = rw read refl
+session_of None passwd group delim now cache script planned read = refl
+session_of (Some files) passwd group delim now cache script planned read = rw read refl

@@ -1,7 +1,8 @@
 -- How a run ended, by its status, and what was told of it.
-use Rattle.std.specs.Prelude.{◌≡◌, ◌⊎◌, ℕ, List, [], Option, Result}
+use Rattle.std.specs.Prelude.{◌≡◌, ◌⊎◌, ℕ, List, Option, Result}
 use Rattle.std.specs.Io.KnownBytes.{Appends}
 use Rattle.gufi_io.specs.Causes.{Rose}
+use Rattle.gufi_io.specs.Files.{TakesFront}
 use Rattle.gufi_io.specs.declared.shelf.Shelf.{Ghosts as ShelfOf}
 use Rattle.gufi_io.specs.declared.sink.Sink.{Ghosts as SinkOf}
 use Rattle.gufi_phases.specs.declared.load.Stop.{Stop}
@@ -34,9 +35,17 @@ module _ {K : Type 0} (sink : SinkOf K) where
   StopTells stop status old new =
       ((status ≡ (stop_reason stop).status) × TakesNote sink old new (stop_reason stop).note) ⊎ ((status ≡ 7) × TakesNote sink old new memory_note)
 
-  abbrev pub EndTells : End → ℕ → K → K → Type 0
-  EndTells ends.Done status old new = (status ≡ 0) × Appends (sink.taken old) (sink.taken new) []
-  EndTells (ends.Stopped stop) status old new = StopTells stop status old new
-  EndTells ends.ReadFault status old new = (status ≡ 3) × TakesNote sink old new read_fault_note
-  EndTells ends.WriteFault status old new = (status ≡ 4) × TakesNote sink old new write_fault_note
-  EndTells ends.Memory status old new = (status ≡ 7) × TakesNote sink old new memory_note
+  -- where all phases of a session are written: this note was taken whole, or its write failed, or it took more memory than there is
+  abbrev pub DoneTells : List ℕ → ℕ → K → K → Type 0
+  DoneTells note status old new =
+      ((status ≡ 0) × Appends (sink.taken old) (sink.taken new) note)
+      ⊎ ((status ≡ 4) × Rose (sink.faults old) (sink.faults new) × TakesFront (sink.taken old) (sink.taken new) note)
+      ⊎ ((status ≡ 7) × TakesNote sink old new memory_note)
+
+  -- the note is that of an end at which all phases are written
+  abbrev pub EndTells : List ℕ → End → ℕ → K → K → Type 0
+  EndTells note ends.Done status old new = DoneTells note status old new
+  EndTells note (ends.Stopped stop) status old new = StopTells stop status old new
+  EndTells note ends.ReadFault status old new = (status ≡ 3) × TakesNote sink old new read_fault_note
+  EndTells note ends.WriteFault status old new = (status ≡ 4) × TakesNote sink old new write_fault_note
+  EndTells note ends.Memory status old new = (status ≡ 7) × TakesNote sink old new memory_note

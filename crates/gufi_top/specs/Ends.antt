@@ -1,12 +1,15 @@
 -- How a run may end: its status and numbers, what the output took, and the note.
-use Rattle.std.specs.Prelude.{◌≡◌, ◌≢◌, ◌⊎◌, ℕ, List, [], codes, ⊤, Option, Some, None, option_map, Result, Ok, Err}
+use Rattle.std.specs.Prelude.{◌≡◌, ◌≢◌, ◌⊎◌, ℕ, ◌==◌, List, [], ◌++◌, length, codes, decimal, ⊤, Option, Some, None, option_map, Result, Ok, Err, if◌then◌else◌}
 use Rattle.std.specs.Io.KnownBytes.{Appends}
 use Rattle.gufi_io.specs.Causes.{Rose}
 use Rattle.gufi_io.specs.Files.{Files, TakesFront}
 use Rattle.gufi_io.specs.declared.sink.Sink.{Ghosts as SinkOf}
 use Rattle.gufi_base.specs.Basics.{line}
 use Rattle.gufi_phases.specs.declared.load.Stop.{Stop}
+use Rattle.gufi_plan.specs.Asks.{searches_of}
+use Rattle.gufi_session.specs.Run.{Run}
 use Rattle.gufi_session.specs.Ends.{AnsweredWhole, AnsweredInPart}
+use Rattle.gufi_session.specs.Hits.{session_hits}
 use Rattle.gufi_top.specs.Reasons.{Reason, stop_reason}
 use Rattle.gufi_top.specs.Verdict.{Verdict, writes, runs, verdict}
 use Rattle.gufi_top.specs.declared.ending.Outcome.{Outcome}
@@ -20,34 +23,44 @@ write_fault_note = line (codes "gufi: write fault")
 abbrev pub memory_note : List ℕ
 memory_note = line (codes "gufi: no memory")
 
+-- how many of so many asks were answered by what their lanes kept; no note where lanes keep nothing
+abbrev pub hits_note : ℕ → ℕ → ℕ → List ℕ
+hits_note cache hits asks = if cache == 0 then [] else line (codes "cache hits " ++ decimal hits ++ codes " of " ++ decimal asks)
+
+-- the same of all asks of a run whose lanes keep so many of their last replies, where the replies bear these numbers
+abbrev pub cache_note : Files → Run → ℕ → List ℕ → List ℕ
+cache_note files run cache numbers = hits_note cache (session_hits files run.plan cache numbers) (length (searches_of run.plan))
+
 -- a status that tells of no fault and of no want of memory
 abbrev pub IsVerdictStatus : ℕ → Type 0
 IsVerdictStatus status = (status ≢ 3) × (status ≢ 4) × (status ≢ 7)
 
 -- ---- by the verdict: the status, the numbers, the text and the note
 
--- a session ends with status 0, or for the file of a phase at which it ends
-abbrev pub RunEnds : Option Stop → ℕ → List ℕ → Type 0
-RunEnds None status note = (status ≡ 0) × (note ≡ [])
-RunEnds (Some stop) status note = (status ≡ (stop_reason stop).status) × (note ≡ (stop_reason stop).note)
+-- a session ends with status 0 and the note of what its lanes kept, or for the file of a phase at which it ends
+abbrev pub RunEnds : Option Stop → List ℕ → ℕ → List ℕ → Type 0
+RunEnds None kept status note = (status ≡ 0) × (note ≡ kept)
+RunEnds (Some stop) kept status note = (status ≡ (stop_reason stop).status) × (note ≡ (stop_reason stop).note)
 
 -- where nothing failed; of a session all phases are answered, up to that at whose files it ends
 abbrev pub EndsWith : Result Verdict Reason → ℕ → List ℕ → List ℕ → List ℕ → Type 0
 EndsWith (Err why) status numbers text note = (status ≡ why.status) × (numbers ≡ []) × (text ≡ []) × (note ≡ why.note)
 EndsWith (Ok (writes whole)) status numbers text note = (status ≡ 0) × (numbers ≡ []) × (text ≡ whole.out) × (note ≡ whole.notes)
-EndsWith (Ok (runs files run)) status numbers text note = AnsweredWhole files run numbers text × RunEnds run.stop status note
+EndsWith (Ok (runs files run cache)) status numbers text note = AnsweredWhole files run numbers text × RunEnds run.stop (cache_note files run cache numbers) status note
 
 -- where reading failed or memory ran out: nothing was written, or the first phases of a session
 abbrev pub BreaksOff : Result Verdict Reason → List ℕ → List ℕ → Type 0
 BreaksOff (Err why) numbers text = (numbers ≡ []) × (text ≡ [])
 BreaksOff (Ok (writes whole)) numbers text = (numbers ≡ []) × (text ≡ [])
-BreaksOff (Ok (runs files run)) numbers text = AnsweredInPart files run numbers text
+BreaksOff (Ok (runs files run cache)) numbers text = AnsweredInPart files run numbers text
 
 -- where writing failed: of which text a front was taken, and which note was to come with status 0
 abbrev pub IsCut : Result Verdict Reason → List ℕ → List ℕ → List ℕ → Type 0
 IsCut (Err why) numbers text note = ⊥
 IsCut (Ok (writes whole)) numbers text note = (numbers ≡ []) × (text ≡ whole.out) × (note ≡ whole.notes)
-IsCut (Ok (runs files run)) numbers text note = AnsweredInPart files run numbers text × (note ≡ [])
+IsCut (Ok (runs files run cache)) numbers text note =
+    (AnsweredInPart files run numbers text × (note ≡ []))
+    ⊎ (AnsweredWhole files run numbers text × (run.stop ≡ None) × (note ≡ cache_note files run cache numbers))
 
 -- ---- the same of a verdict that is given where the shelf tells its files
 
@@ -73,11 +86,16 @@ module _ {K : Type 0} (sink : SinkOf K) where
   abbrev pub TakesNote : K → K → List ℕ → Type 0
   TakesNote old new note = Appends (sink.taken old) (sink.taken new) note ⊎ (Rose (sink.faults old) (sink.faults new) × TakesFront (sink.taken old) (sink.taken new) note)
 
-  -- by the verdict: the note of a text was taken whole, and any other as a note is
+  -- the note of a session, by what ended it
+  abbrev pub IsRunNoted : Option Stop → K → K → List ℕ → Type 0
+  IsRunNoted None old new note = Appends (sink.taken old) (sink.taken new) note
+  IsRunNoted (Some stop) old new note = TakesNote old new note
+
+  -- by the verdict: the note of status 0 was taken whole, and any other as a note is
   abbrev pub IsNoted : Result Verdict Reason → K → K → List ℕ → Type 0
   IsNoted (Err why) old new note = TakesNote old new note
   IsNoted (Ok (writes whole)) old new note = Appends (sink.taken old) (sink.taken new) note
-  IsNoted (Ok (runs files run)) old new note = TakesNote old new note
+  IsNoted (Ok (runs files run cache)) old new note = IsRunNoted run.stop old new note
 
   abbrev pub MayBeNoted : Option (Result Verdict Reason) → K → K → List ℕ → Type 0
   MayBeNoted None old new note = TakesNote old new note

@@ -1,5 +1,5 @@
 -- What the words and the files come to: a reason with its status and note, a text, or the run of a session.
-use Rattle.std.specs.Prelude.{ℕ, ℤ, Bool, true, false, List, [], ◌∷◌, ◌++◌, Option, ok_or, Result, Ok, Err, if◌then◌else◌, codes}
+use Rattle.std.specs.Prelude.{ℕ, ℤ, min, Bool, true, false, List, [], ◌∷◌, ◌++◌, Option, ok_or, Result, Ok, Err, if◌then◌else◌, codes}
 use Rattle.gufi_io.specs.Files.{Files}
 use Rattle.gufi_base.specs.Basics.{◌>>=◌, result_map_err}
 use Rattle.gufi_base.specs.Paths.{Components}
@@ -38,10 +38,10 @@ pub record Written : Type 0 where
   pub out : List ℕ
   pub notes : List ℕ
 
--- a text, or the run of a session over the files
+-- a text, or the run of a session over the files, and how many of its last replies each lane keeps
 pub data Verdict : Type 0 where
   writes : Written → Verdict
-  runs : Files → Run → Verdict
+  runs : Files → Run → ℕ → Verdict
 
 abbrev pub writes_only : List ℕ → Result Verdict Reason
 writes_only text = Ok (writes (record { out = text; notes = [] }))
@@ -144,11 +144,15 @@ unfoldable pub session_plan : Option (List ℕ) → Option (List ℕ) → ℕ �
 session_plan passwd group delim now script files =
     tables_in passwd group files >>= λ tables. script_plan (record { tables = tables; now = now; delim = delim }) script files
 
-abbrev pub run_over : Plan → Files → Result Verdict Reason
-run_over planned files = Ok (runs files (run_of files planned))
+-- how many replies a lane keeps at most; the words name no more
+abbrev pub max_cache : ℕ
+max_cache = 256
 
-unfoldable pub session_over : Option (List ℕ) → Option (List ℕ) → ℕ → Option ℤ → List ℕ → Files → Result Verdict Reason
-session_over passwd group delim now script files = session_plan passwd group delim now script files >>= λ planned. run_over planned files
+abbrev pub run_over : ℕ → Plan → Files → Result Verdict Reason
+run_over cache planned files = Ok (runs files (run_of files planned) cache)
+
+unfoldable pub session_over : Option (List ℕ) → Option (List ℕ) → ℕ → Option ℤ → ℕ → List ℕ → Files → Result Verdict Reason
+session_over passwd group delim now cache script files = session_plan passwd group delim now script files >>= λ planned. run_over cache planned files
 
 -- ---- gen: the trace of n directories, or what a run over it comes to
 
@@ -190,7 +194,7 @@ command_over (commands.Find common now words) = ask_over common (find_asking com
 command_over (commands.Ls common long all) = ask_over common (ls_asking long all)
 command_over (commands.Stat common) = ask_over common stat_asking
 command_over (commands.Stats common report) = ask_over common (stats_asking (report_of report))
-command_over (commands.Session passwd group delim workers now script) = session_over passwd group delim now script
+command_over (commands.Session passwd group delim workers now cache script) = session_over passwd group delim now (min cache max_cache) script
 command_over (commands.Gen n delim workers summary) = gen_over n delim summary
 
 -- a command whose whole text is made before it is written
@@ -204,7 +208,7 @@ is_one_shot (commands.Find common now words) = true
 is_one_shot (commands.Ls common long all) = true
 is_one_shot (commands.Stat common) = true
 is_one_shot (commands.Stats common report) = true
-is_one_shot (commands.Session passwd group delim workers now script) = false
+is_one_shot (commands.Session passwd group delim workers now cache script) = false
 is_one_shot (commands.Gen n delim workers summary) = true
 
 -- ---- the verdict
@@ -227,7 +231,7 @@ may_refuse (commands.Find common now words) = true
 may_refuse (commands.Ls common long all) = true
 may_refuse (commands.Stat common) = true
 may_refuse (commands.Stats common report) = true
-may_refuse (commands.Session passwd group delim workers now script) = false
+may_refuse (commands.Session passwd group delim workers now cache script) = false
 may_refuse (commands.Gen n delim workers summary) = false
 
 abbrev pub may_refuse_read : Result Command Reason → Bool

@@ -1,8 +1,14 @@
 //! What a command asks of one tree, and what it writes of the answer.
-ghost use Rattle.std.specs.Prelude.{◌≡◌, ◌≢◌, ◌<◌, true, length, All, Some, None, IfOk, IfErr, OnOk};
+ghost use Rattle.std.specs.Prelude.{◌≡◌, ◌≢◌, ◌<◌, true, List, length, All, Some, None, IsTrue, IfOk, IfErr, OnOk};
+ghost use Rattle.std.specs.List.Sorted.{IsPermutation};
+ghost use Rattle.gufi_base.specs.declared.record.Row.{Row};
+ghost use Rattle.gufi_base.specs.Basics.{ascends};
+ghost use Rattle.gufi_base.specs.Rows.{row_cmp};
+ghost use Rattle.gufi_rows.specs.PathLines.{path_lines, ArePathsOf};
 ghost use Rattle.gufi_tree.specs.Resolve.{resolve};
 ghost use Rattle.gufi_stats.specs.Grouped.{grouped};
-ghost use Rattle.gufi_select.specs.Columns.{select_holds};
+ghost use Rattle.gufi_find.specs.Expressions.{find_holds};
+ghost use Rattle.gufi_select.specs.Columns.{select_holds, select_lines};
 ghost use Rattle.gufi_agg.specs.Grouped.{grouped_rows, key_number};
 ghost use Rattle.gufi_agg.specs.Texts.{agg_text};
 ghost use Rattle.gufi_walk.specs.Answer.{answer, refusal_of};
@@ -16,6 +22,7 @@ use gufi_find::FindExpr;
 use gufi_io::Gate;
 use gufi_list::{LsLine, OneBelow, stat_text, total_text};
 use gufi_prune::{Pruner, find_pruner, select_pruner};
+use gufi_rows::{PathList, RowList};
 use gufi_select::{Select, SelectLine, SelectQuestion};
 use gufi_snap::Snapshot;
 use gufi_stats::{
@@ -25,45 +32,88 @@ use gufi_stats::{
 use gufi_sums::{NoDeeper, NoSkip, Summary};
 use gufi_users::Users;
 use gufi_walk::{
-    Refusal, Walkers, answer, answer_lines, answer_list, answer_rows, answer_total, found_start,
+    Refusal, Walkers, answer, answer_list, answer_paths, answer_rows, answer_total, found_start,
     total_from,
 };
 use std::alloc::Global;
+use std::mem::forget;
 use std::sync::Wait;
 use std::thread::Threads;
+
+/// From how many rows on a text is so long that the snapshot is given back before it is made.
+const MANY: usize = 65_536;
+
+/// Gives a snapshot back where many rows are to be printed, which no longer need it. Else it is left as it is, since the run
+/// ends soon: part by part that would take a tenth of its time.
+fn make_room(snap: Snapshot, rows: usize) {
+    if rows < MANY {
+        forget(snap);
+    }
+}
+
+/// The lines of paths that were found in a snapshot.
+fn text_of_paths(alloc: Global, snap: Snapshot, paths: PathList) -> Result<Vec<u8>, Memory>
+    ensures { IfOk result (λ text. (rows : List Row) → ArePathsOf paths rows → IsTrue (ascends row_cmp rows) → text.items ≡ path_lines rows) }
+{
+    make_room(snap, paths.len());
+    paths.lines(alloc)
+}
 
 /// The paths of all rows that the principal lists from the start.
 pub(crate) fn walk_text<R: Threads + Wait + Sync, G: Gate + Sync>(
     walkers: &Walkers<'_, R, G>,
     alloc: Global,
-    snap: &Snapshot,
+    snap: Snapshot,
     who: &Principal,
     start: &Path,
 ) -> Result<Vec<u8>, Refusal>
-    ensures { Replies result (ask_reply snap.now.tree who.now start.now walk_ask) }
+    ensures { Replies result (ask_reply snap.tree who.now start.now walk_ask) }
 {
-    match answer_lines(walkers, alloc, snap, who, start, &Always, &NoSkip) {
-        Ok(lines) => Ok(lines.text),
-        Err(refusal) => Err(refusal),
+    match answer_paths(walkers, alloc, &snap, who, start, &Always, &NoSkip) {
+        Ok(paths) => Ok(text_of_paths(alloc, snap, paths)?),
+        Err(refusal) => {
+            forget(snap);
+            Err(refusal)
+        }
     }
 }
 
-/// The paths of the rows that the principal lists from the start and for which an expression is true.
-pub(crate) fn find_text<R: Threads + Wait + Sync, G: Gate + Sync>(
+/// The paths of the rows that the principal lists from the start and for which an expression is true, in one list.
+fn found_paths<R: Threads + Wait + Sync, G: Gate + Sync>(
     walkers: &Walkers<'_, R, G>,
     alloc: Global,
     snap: &Snapshot,
     who: &Principal,
     start: &Path,
     expression: &FindExpr,
-) -> Result<Vec<u8>, Refusal>
-    ensures { Replies result (ask_reply snap.now.tree who.now start.now (find_ask expression.now)) }
+) -> Result<PathList, Refusal>
+    ensures paths { IfOk result (λ paths. ArePathsOf paths (answer snap.now.tree who.now start.now (find_holds expression.now))) }
+    ensures ascends { OnOk result (IsTrue (ascends row_cmp (answer snap.now.tree who.now start.now (find_holds expression.now)))) }
+    ensures found { OnOk result (refusal_of (resolve snap.now.tree who.now start.now) ≡ None) }
+    ensures refusal { IfErr result (λ refusal. refusal ≢ Refusal.Memory → refusal_of (resolve snap.now.tree who.now start.now) ≡ Some refusal) }
 {
     let question = expression.question();
     let skip = find_pruner(alloc, expression)?;
-    match answer_lines(walkers, alloc, snap, who, start, &question, &skip) {
-        Ok(lines) => Ok(lines.text),
-        Err(refusal) => Err(refusal),
+    answer_paths(walkers, alloc, snap, who, start, &question, &skip)
+}
+
+/// The paths of the rows that the principal lists from the start and for which an expression is true.
+pub(crate) fn find_text<R: Threads + Wait + Sync, G: Gate + Sync>(
+    walkers: &Walkers<'_, R, G>,
+    alloc: Global,
+    snap: Snapshot,
+    who: &Principal,
+    start: &Path,
+    expression: &FindExpr,
+) -> Result<Vec<u8>, Refusal>
+    ensures { Replies result (ask_reply snap.tree who.now start.now (find_ask expression.now)) }
+{
+    match found_paths(walkers, alloc, &snap, who, start, expression) {
+        Ok(paths) => Ok(text_of_paths(alloc, snap, paths)?),
+        Err(refusal) => {
+            forget(snap);
+            Err(refusal)
+        }
     }
 }
 
@@ -214,30 +264,62 @@ pub(crate) fn record_text(
     }
 }
 
-/// What a SELECT prints of the rows that the principal lists from the start and for which it is true.
-pub(crate) fn query_text<R: Threads + Wait + Sync, G: Gate + Sync>(
+/// The rows that the principal lists from the start and for which a SELECT is true, in one list.
+fn selected_rows<R: Threads + Wait + Sync, G: Gate + Sync>(
     walkers: &Walkers<'_, R, G>,
     alloc: Global,
     snap: &Snapshot,
     who: &Principal,
     start: &Path,
     select: &Select,
-) -> Result<Vec<u8>, Refusal>
-    ensures { Replies result (ask_reply snap.now.tree who.now start.now (query_ask select.now)) }
+) -> Result<RowList, Refusal>
+    ensures rows { IfOk result (λ rows. IsPermutation rows (answer snap.now.tree who.now start.now (select_holds select.now))) }
+    ensures ascends { OnOk result (IsTrue (ascends row_cmp (answer snap.now.tree who.now start.now (select_holds select.now)))) }
+    ensures found { OnOk result (refusal_of (resolve snap.now.tree who.now start.now) ≡ None) }
+    ensures refusal { IfErr result (λ refusal. refusal ≢ Refusal.Memory → refusal_of (resolve snap.now.tree who.now start.now) ≡ Some refusal) }
 {
+    let question = select.question();
+    let skip = select_pruner(alloc, select)?;
+    answer_list(walkers, alloc, snap, who, start, &question, &skip)
+}
+
+/// What a SELECT prints of rows that were found in a snapshot below a start.
+fn text_of_rows(
+    alloc: Global,
+    snap: Snapshot,
+    rows: RowList,
+    select: &Select,
+    start: &Path,
+) -> Result<Vec<u8>, Memory>
+    ensures { IfOk result (λ text. (of : List Row) → IsPermutation rows of → IsTrue (ascends row_cmp of) → text.items ≡ select_lines select.now start.now of) }
+{
+    make_room(snap, rows.len());
     let line = SelectLine {
         select,
         above: start.depth(),
     };
-    let question = select.question();
-    let skip = select_pruner(alloc, select)?;
-    match answer_list(walkers, alloc, snap, who, start, &question, &skip) {
-        Ok(rows) => {
-            let mut text = Vec::new(alloc);
-            rows.put_lines(alloc, &line, &mut text)?;
-            Ok(text)
+    let mut text = Vec::new(alloc);
+    rows.put_lines(alloc, &line, &mut text)?;
+    Ok(text)
+}
+
+/// What a SELECT prints of the rows that the principal lists from the start and for which it is true.
+pub(crate) fn query_text<R: Threads + Wait + Sync, G: Gate + Sync>(
+    walkers: &Walkers<'_, R, G>,
+    alloc: Global,
+    snap: Snapshot,
+    who: &Principal,
+    start: &Path,
+    select: &Select,
+) -> Result<Vec<u8>, Refusal>
+    ensures { Replies result (ask_reply snap.tree who.now start.now (query_ask select.now)) }
+{
+    match selected_rows(walkers, alloc, &snap, who, start, select) {
+        Ok(rows) => Ok(text_of_rows(alloc, snap, rows, select, start)?),
+        Err(refusal) => {
+            forget(snap);
+            Err(refusal)
         }
-        Err(refusal) => Err(refusal),
     }
 }
 

@@ -12,7 +12,7 @@ use crate::halt::{Halt, Output};
 use crate::note;
 use crate::reading::read_trace_bytes;
 use crate::rollup::report_of;
-use crate::start::written;
+use crate::start::written_over;
 use crate::walk::snapshot_of;
 use gufi_access::{GroupList, Principal};
 use gufi_base::{Memory, Path, put};
@@ -102,7 +102,7 @@ fn summary_of(alloc: Global, tree: Tree) -> Result<Output, Halt>
     let report = report_line(alloc, &tree)?;
     let snap = snapshot_of(alloc, tree, LIMIT)?;
     let reply = totals_behind(alloc, &snap, report);
-    written(alloc, snap, reply)
+    written_over(alloc, snap, reply)
 }
 
 /// The tree of a generated trace, read as any other.

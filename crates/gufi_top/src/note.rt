@@ -69,6 +69,13 @@ pub(crate) fn report(alloc: Global, report: RollReport) -> Result<Vec<u8>, Alloc
     Ok(format!(in alloc; "rolled {rolled} of {dirs} tops {tops} rows {rows}\n")?.into_bytes())
 }
 
+/// Of how many asks of a session how many were answered by what their lanes kept.
+pub(crate) fn cache_hits(alloc: Global, hits: u64, asks: u64) -> Result<Vec<u8>, AllocError>
+    ensures { IfOk result (λ note. note.items ≡ line (codes "cache hits " ++ decimal hits ++ codes " of " ++ decimal asks)) }
+{
+    Ok(format!(in alloc; "cache hits {hits} of {asks}\n")?.into_bytes())
+}
+
 /// A word of an expression that is at fault.
 pub(crate) fn find_word(alloc: Global, word: u32, kind: FindKind) -> Result<Vec<u8>, AllocError>
     ensures { IfOk result (λ note. note.items ≡ (word_fault word (find_kind_text kind)).note) }

@@ -16,7 +16,7 @@ ghost use Rattle.gufi_top.specs.Calls.{Gives, IsOfBytes};
 use crate::ask::{find_text, groups_text, listing_text, query_text, record_text, report_text};
 use crate::halt::{Halt, Output, refused};
 use crate::note;
-use crate::start::written;
+use crate::start::{written, written_over};
 use gufi_access::Principal;
 use gufi_agg::{Agg, AggError, AggKind, read_agg};
 use gufi_base::{Bytes, Items, Path, Text};
@@ -231,25 +231,40 @@ impl<'a> Question<'a> {
         ensures text { Gives text_view result (asked_if snap.tree who.now start.now (asks self.now users.now)) }
         ensures of_bytes { IfErr result IsOfBytes }
     {
-        let reply = match self {
+        match self {
             Question::Find(find) => match find.expression(alloc, users) {
-                Ok(expression) => find_text(walkers, alloc, &snap, who, start, &expression),
-                Err(halt) => return Err(halt),
+                Ok(expression) => {
+                    let reply = find_text(walkers, alloc, snap, who, start, &expression);
+                    written(alloc, reply)
+                }
+                Err(halt) => Err(halt),
             },
             Question::Query(query) => match query.select(alloc) {
-                Ok(select) => query_text(walkers, alloc, &snap, who, start, &select),
-                Err(halt) => return Err(halt),
+                Ok(select) => {
+                    let reply = query_text(walkers, alloc, snap, who, start, &select);
+                    written(alloc, reply)
+                }
+                Err(halt) => Err(halt),
             },
             Question::Agg(aggregate) => match aggregate.agg(alloc) {
-                Ok(agg) => groups_text(walkers, alloc, &snap, who, start, &agg),
-                Err(halt) => return Err(halt),
+                Ok(agg) => {
+                    let reply = groups_text(walkers, alloc, &snap, who, start, &agg);
+                    written_over(alloc, snap, reply)
+                }
+                Err(halt) => Err(halt),
             },
-            Question::Stat => record_text(alloc, &snap, who, start),
-            Question::Ls { long, all } => {
-                listing_text(walkers, alloc, &snap, who, start, users, *long, *all)
+            Question::Stat => {
+                let reply = record_text(alloc, &snap, who, start);
+                written_over(alloc, snap, reply)
             }
-            Question::Stats(report) => report_text(walkers, alloc, &snap, who, start, *report),
-        };
-        written(alloc, snap, reply)
+            Question::Ls { long, all } => {
+                let reply = listing_text(walkers, alloc, &snap, who, start, users, *long, *all);
+                written_over(alloc, snap, reply)
+            }
+            Question::Stats(report) => {
+                let reply = report_text(walkers, alloc, &snap, who, start, *report);
+                written_over(alloc, snap, reply)
+            }
+        }
     }
 }

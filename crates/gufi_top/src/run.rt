@@ -20,6 +20,9 @@ use std::alloc::Global;
 use std::sync::Wait;
 use std::thread::Threads;
 
+/// How many replies a lane keeps at most; the words name no more.
+const MAX_CACHE: u32 = 256;
+
 // Writes the text, and then its note.
 fn write_output<K: Sink>(output: &Output, out: &mut K, notes: &mut K) -> u8
     ensures status { (result ≡ 0) ⊎ (result ≡ 4) }
@@ -83,6 +86,7 @@ fn run_command<R: Threads + Wait + Sync, F: Shelf, K: Sink, G: Gate + Sync>(
             delim,
             workers,
             now,
+            cache,
             script,
         } => {
             let session = Session {
@@ -91,6 +95,7 @@ fn run_command<R: Threads + Wait + Sync, F: Shelf, K: Sink, G: Gate + Sync>(
                 delim: *delim,
                 workers: *workers,
                 moment: *now,
+                cache: (*cache).min(MAX_CACHE),
                 script,
             };
             session::run(rt, alloc, &session, shelf, out, notes, gate)
@@ -104,7 +109,8 @@ fn run_command<R: Threads + Wait + Sync, F: Shelf, K: Sink, G: Gate + Sync>(
 /// The words are those after the program's name. The text goes to `out`; a refusal's note, ended by a
 /// newline, to `notes`. A search is answered by workers in threads of `rt`, and a session runs its lanes and its publishing
 /// commands in further threads; `gate` is told of each of these, of each task of a worker and of each store that it scans, before
-/// it begins. A session writes phase by phase; each other command writes once its whole text is made. The exit status is 0
+/// it begins. A session writes phase by phase; each other command writes once its whole text is made. Where the lanes of a
+/// session keep replies, its note of status 0 tells how many of its asks were answered by these. The exit status is 0
 /// where the whole text was written, 1 where the start can't be listed, 2 for words that are no command, 3 for a fault of
 /// reading, 4 for one of writing, 5 for a damaged file, 6 for a limit that is passed, 7 for want of memory and 8 for a file
 /// that isn't there.

@@ -1,12 +1,13 @@
 //! `session`: the phases of a script, over files that are read as they come.
-ghost use Rattle.std.specs.Prelude.{◌≡◌, ◌≢◌, List, Err, IfErr, IfOk, IsTrue, option_map};
+ghost use Rattle.std.specs.Prelude.{◌≡◌, ◌≢◌, ◌≤◌, List, Err, IfErr, IfOk, IsTrue, option_map};
 ghost use Rattle.gufi_io.specs.Kept.{Keeps};
 ghost use Rattle.gufi_script.specs.ScriptText.{PlacedAct, is_script};
 ghost use Rattle.gufi_plan.specs.Plan.{Plan};
 ghost use Rattle.gufi_top.specs.Reasons.{script_reason, stop_reason, acts_within, acts_in};
 ghost use Rattle.gufi_top.specs.Verdict.{plan_with, script_plan, session_plan, run_over, session_over};
 ghost use Rattle.gufi_top.specs.Calls.{Gives, GivesOver, IsOfBytes, IsPastWords, HaltHasCause};
-ghost use Rattle.gufi_top.specs.Endings.{HasRun, StopTells, EndTells};
+ghost use Rattle.gufi_top.specs.Ends.{hits_note};
+ghost use Rattle.gufi_top.specs.Endings.{HasRun, StopTells, DoneTells, EndTells};
 
 use crate::ending::{Outcome, halted, tell};
 use crate::halt::{Halt, refused};
@@ -14,7 +15,7 @@ use crate::note;
 use crate::reading::{MAX_TRACE, read_file};
 use crate::users::read_users;
 use gufi_base::Text;
-use gufi_io::{Gate, Shelf, Sink};
+use gufi_io::{Gate, Shelf, Sink, write_whole};
 use gufi_phases::{End, Ended, Stop};
 use gufi_plan::{SessionPlan, Setup, plan_session};
 use gufi_script::{Script, ScriptError, ScriptKind, read_script};
@@ -37,7 +38,19 @@ pub(crate) struct Session<'a> {
     pub(crate) workers: u32,
     /// From which times count back, in seconds.
     pub(crate) moment: Option<i64>,
+    /// How many of its last replies each lane keeps, at most 256; 0 for none.
+    pub(crate) cache: u32,
     pub(crate) script: &'a Text,
+}
+
+/// What is told of a session whose phases are all written.
+#[derive(Clone, Copy)]
+struct Tally {
+    /// How many of its last replies each lane kept; 0 for none.
+    cache: u32,
+    /// How many asks were answered by what their lanes kept.
+    hits: u64,
+    asks: u64,
 }
 
 // A script isn't taken: a line is faulty, or a limit is passed.
@@ -180,12 +193,31 @@ fn tell_stop<K: Sink>(alloc: Global, stop: &Stop, notes: &mut K) -> u8
     }
 }
 
+// Writes the note of a session whose phases are all written, if there is one, and gives the status.
+fn tell_done<K: Sink>(alloc: Global, tally: Tally, notes: &mut K) -> u8
+    ensures { DoneTells K.Sink (hits_note tally.cache tally.hits tally.asks) result notes.old notes.new }
+{
+    if tally.cache == 0 {
+        return 0;
+    }
+    match note::cache_hits(alloc, tally.hits, tally.asks) {
+        Ok(note) => match write_whole(notes, &note) {
+            Ok(()) => 0,
+            Err(_) => 4,
+        },
+        Err(_) => {
+            tell(notes, note::memory());
+            7
+        }
+    }
+}
+
 // Writes the note of a session's end, and gives its status.
-fn tell_end<K: Sink>(alloc: Global, end: End, notes: &mut K) -> u8
-    ensures { EndTells K.Sink end result notes.old notes.new }
+fn tell_end<K: Sink>(alloc: Global, end: End, tally: Tally, notes: &mut K) -> u8
+    ensures { EndTells K.Sink (hits_note tally.cache tally.hits tally.asks) end result notes.old notes.new }
 {
     match end {
-        End::Done => 0,
+        End::Done => tell_done(alloc, tally, notes),
         End::Stopped { stop } => tell_stop(alloc, &stop, notes),
         End::ReadFault => {
             tell(notes, note::read_fault());
@@ -208,16 +240,22 @@ fn run_plan<R: Threads + Wait + Sync, F: Shelf, K: Sink, G: Gate + Sync>(
     alloc: Global,
     plan: &SessionPlan,
     workers: u32,
+    cache: u32,
     shelf: &mut F,
     out: &mut K,
     notes: &mut K,
     gate: &G,
 ) -> Outcome
-    ensures run { HasRun F.Shelf K.Sink (option_map (run_over plan.now) (F.files shelf.old)) result.status result.numbers.items shelf.old shelf.new out.old out.new notes.old notes.new }
+    requires { cache ≤ 256 }
+    ensures run { HasRun F.Shelf K.Sink (option_map (run_over cache plan.now) (F.files shelf.old)) result.status result.numbers.items shelf.old shelf.new out.old out.new notes.old notes.new }
     ensures past_words { result.status ≢ 2 }
 {
-    let Ended { end, numbers } = run_session(rt, alloc, plan, workers, shelf, out, gate);
-    let status = tell_end(alloc, end, notes);
+    let Ended { end, numbers, hits } = run_session(
+        rt, alloc, plan, workers, cache, shelf, out, gate,
+    );
+    let asks = numbers.len() as u64;
+    let tally = Tally { cache, hits, asks };
+    let status = tell_end(alloc, end, tally, notes);
     Outcome { status, numbers }
 }
 
@@ -231,13 +269,17 @@ pub(crate) fn run<R: Threads + Wait + Sync, F: Shelf, K: Sink, G: Gate + Sync>(
     notes: &mut K,
     gate: &G,
 ) -> Outcome
+    requires { session.now.cache ≤ 256 }
     ensures run { HasRun F.Shelf K.Sink
-        (option_map (session_over session.entry.now.passwd.now session.entry.now.group.now session.entry.now.delim session.entry.now.moment session.entry.now.script.now) (F.files shelf.old))
+        (option_map (session_over session.entry.now.passwd.now session.entry.now.group.now session.entry.now.delim session.entry.now.moment session.entry.now.cache session.entry.now.script.now) (F.files shelf.old))
         result.status result.numbers.items shelf.old shelf.new out.old out.new notes.old notes.new }
     ensures past_words { result.status ≢ 2 }
 {
     match read_plan(alloc, shelf, session) {
-        Ok(plan) => run_plan(rt, alloc, &plan, session.workers, shelf, out, notes, gate),
+        Ok(plan) => {
+            let Session { workers, cache, .. } = *session;
+            run_plan(rt, alloc, &plan, workers, cache, shelf, out, notes, gate)
+        }
         Err(halt) => halted(alloc, halt, notes),
     }
 }

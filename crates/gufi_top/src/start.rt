@@ -36,11 +36,23 @@ fn text_of(alloc: Global, out: Vec<u8>) -> Output
     }
 }
 
-/// What a reply over a snapshot writes: its text, or the note of its start's refusal.
+/// What a reply writes: its text, or the note of its start's refusal.
+#[tactic(auto, using(crate::proofs::AskLemmas::writing))]
+pub(crate) fn written(alloc: Global, reply: Result<Vec<u8>, Refusal>) -> Result<Output, Halt>
+    ensures text { (given : Result (List ℕ) SeenRefusal) → Replies reply given → Gives text_view result (replied given) }
+    ensures of_bytes { IfErr result IsOfBytes }
+    ensures past_words { IfErr result IsPastWords }
+{
+    match reply {
+        Ok(out) => Ok(text_of(alloc, out)),
+        Err(refusal) => refuse_start(alloc, refusal),
+    }
+}
+
+/// The same of a reply over a snapshot.
 ///
 /// The snapshot isn't given back, since the run ends soon: part by part that would take a tenth of its time.
-#[tactic(auto, using(crate::proofs::AskLemmas::writing))]
-pub(crate) fn written(
+pub(crate) fn written_over(
     alloc: Global,
     snap: Snapshot,
     reply: Result<Vec<u8>, Refusal>,
@@ -50,8 +62,5 @@ pub(crate) fn written(
     ensures past_words { IfErr result IsPastWords }
 {
     forget(snap);
-    match reply {
-        Ok(out) => Ok(text_of(alloc, out)),
-        Err(refusal) => refuse_start(alloc, refusal),
-    }
+    written(alloc, reply)
 }

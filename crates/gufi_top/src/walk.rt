@@ -40,8 +40,8 @@ fn walk_tree<R: Threads + Wait + Sync, G: Gate + Sync>(
 {
     let snap = snapshot_of(alloc, tree, 0)?;
     let start = Path::root(alloc)?;
-    let reply = walk_text(walkers, alloc, &snap, who, &start);
-    written(alloc, snap, reply)
+    let reply = walk_text(walkers, alloc, snap, who, &start);
+    written(alloc, reply)
 }
 
 /// What `walk` writes of a trace.

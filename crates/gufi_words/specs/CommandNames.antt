@@ -4,7 +4,7 @@ use Rattle.gufi_words.specs.WordValues.{Word}
 use Rattle.gufi_words.specs.declared.name.CommandName.{CommandName}
 use Rattle.gufi_words.specs.declared.name.CommandName.TheVariants.{Walk, Trace2index, Rollup, Query, Agg, Find, Ls, Stat, Stats, Session, Gen}
 use Rattle.gufi_words.specs.declared.name.OptionName.{OptionName}
-use Rattle.gufi_words.specs.declared.name.OptionName.TheVariants.{Passwd, Group, Delim, Limit, Workers, Now, Long, All, Summary}
+use Rattle.gufi_words.specs.declared.name.OptionName.TheVariants.{Passwd, Group, Delim, Limit, Workers, Now, Cache, Long, All, Summary}
 
 unfoldable pub command_named : Word → Option CommandName
 command_named word =
@@ -29,6 +29,7 @@ option_named word =
     else if bytes_eq word (codes "--limit") then Some Limit
     else if bytes_eq word (codes "--workers") then Some Workers
     else if bytes_eq word (codes "--now") then Some Now
+    else if bytes_eq word (codes "--cache") then Some Cache
     else if bytes_eq word (codes "-l") then Some Long
     else if bytes_eq word (codes "-A") then Some All
     else if bytes_eq word (codes "--summary") then Some Summary
@@ -72,6 +73,7 @@ allows Session Group = true
 allows Session Delim = true
 allows Session Workers = true
 allows Session Now = true
+allows Session Cache = true
 allows Session option = false
 allows Gen Delim = true
 allows Gen Workers = true

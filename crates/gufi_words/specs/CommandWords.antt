@@ -7,7 +7,7 @@ use Rattle.gufi_base.specs.Numbers.{read_u32}
 use Rattle.gufi_words.specs.WordNumbers.{number_at, refused_at}
 use Rattle.gufi_words.specs.WordValues.{Word, read_delimiter, read_count, read_report, read_file, read_start, read_gids, read_any}
 use Rattle.gufi_words.specs.CommandNames.{command_named}
-use Rattle.gufi_words.specs.WordOptions.{delim_or_default, limit_or_default, workers_or_default, start, read_options}
+use Rattle.gufi_words.specs.WordOptions.{delim_or_default, limit_or_default, workers_or_default, cache_or_default, start, read_options}
 use Rattle.gufi_words.specs.WordPositionals.{needed, perhaps, no_more}
 use Rattle.gufi_words.specs.declared.word.WordError.{WordError}
 use Rattle.gufi_words.specs.declared.name.CommandName.{CommandName}
@@ -110,7 +110,7 @@ unfoldable pub session_of : List Word → Arguments → Result Command WordError
 session_of words arguments = do
   script ← needed read_file words arguments.first
   no_more words (arguments.first + 1)
-  Ok (commands.Session arguments.options.passwd arguments.options.group (delim_or_default arguments.options) (workers_or_default arguments.options) arguments.options.time script)
+  Ok (commands.Session arguments.options.passwd arguments.options.group (delim_or_default arguments.options) (workers_or_default arguments.options) arguments.options.time (cache_or_default arguments.options) script)
 
 -- N
 unfoldable pub gen_of : List Word → Arguments → Result Command WordError

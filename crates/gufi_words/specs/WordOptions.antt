@@ -6,12 +6,12 @@ use Rattle.gufi_base.specs.Delimiters.{default_delimiter}
 use Rattle.gufi_base.specs.Basics.{refuse, ◌>>◌}
 use Rattle.gufi_base.specs.Numbers.{read_u64, read_i64}
 use Rattle.gufi_words.specs.WordNumbers.{refused_at}
-use Rattle.gufi_words.specs.WordValues.{Word, read_delimiter, read_workers, read_file}
+use Rattle.gufi_words.specs.WordValues.{Word, read_delimiter, read_workers, read_cache, read_file}
 use Rattle.gufi_words.specs.CommandNames.{option_named, takes_value, allows}
 use Rattle.gufi_words.specs.declared.word.WordError.{WordError}
 use Rattle.gufi_words.specs.declared.name.CommandName.{CommandName}
 use Rattle.gufi_words.specs.declared.name.OptionName.{OptionName}
-use Rattle.gufi_words.specs.declared.name.OptionName.TheVariants.{Passwd, Group, Delim, Limit, Workers, Now, Long, All, Summary}
+use Rattle.gufi_words.specs.declared.name.OptionName.TheVariants.{Passwd, Group, Delim, Limit, Workers, Now, Cache, Long, All, Summary}
 use Rattle.gufi_words.specs.declared.option.Options.{Options}
 use Rattle.gufi_words.specs.declared.option.Reading.{Reading}
 use Rattle.gufi_words.specs.declared.option.Arguments.{Arguments}
@@ -19,7 +19,7 @@ use Rattle.gufi_words.specs.declared.option.Step.{Step}
 use Rattle.gufi_words.specs.declared.option.Step.TheVariants.{Taken, Dropped, Positional, Refused}
 
 abbrev pub no_options : Options
-no_options = record { passwd = None; group = None; delim = None; limit = None; workers = None; time = None; long = false; all = false; summary = false }
+no_options = record { passwd = None; group = None; delim = None; limit = None; workers = None; time = None; cache = None; long = false; all = false; summary = false }
 
 abbrev pub has_option : Options → OptionName → Bool
 has_option options Passwd = is_some options.passwd
@@ -28,6 +28,7 @@ has_option options Delim = is_some options.delim
 has_option options Limit = is_some options.limit
 has_option options Workers = is_some options.workers
 has_option options Now = is_some options.time
+has_option options Cache = is_some options.cache
 has_option options Long = options.long
 has_option options All = options.all
 has_option options Summary = options.summary
@@ -40,6 +41,7 @@ put options Delim value = record options { delim = read_delimiter value }
 put options Limit value = record options { limit = read_u64 value }
 put options Workers value = record options { workers = read_workers value }
 put options Now value = record options { time = read_i64 value }
+put options Cache value = record options { cache = read_cache value }
 put options Long value = record options { long = true }
 put options All value = record options { all = true }
 put options Summary value = record options { summary = true }
@@ -53,6 +55,9 @@ limit_or_default options = unwrap_or options.limit 0
 
 abbrev pub workers_or_default : Options → ℕ
 workers_or_default options = unwrap_or options.workers 1
+
+abbrev pub cache_or_default : Options → ℕ
+cache_or_default options = unwrap_or options.cache 0
 
 -- no option yet
 abbrev pub start : Reading

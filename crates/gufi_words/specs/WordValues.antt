@@ -27,6 +27,10 @@ only_within least most (Some n) = if nat_le least n && nat_le n most then Some n
 abbrev pub read_workers : Word → Option ℕ
 read_workers word = only_within 1 max_workers (read_u32 word)
 
+-- how many replies a lane keeps
+abbrev pub read_cache : Word → Option ℕ
+read_cache word = only_within 1 256 (read_u32 word)
+
 -- how many directories the generator writes
 abbrev pub read_count : Word → Option ℕ
 read_count word = only_within 1 200000 (read_u32 word)

@@ -81,6 +81,8 @@ pub enum Command {
         workers: u32,
         /// In seconds.
         now: Option<i64>,
+        /// How many of its last replies each lane keeps; 0 for none.
+        cache: u32,
         script: Text,
     },
     Gen {

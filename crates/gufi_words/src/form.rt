@@ -176,6 +176,7 @@ fn session_of(alloc: Global, words: &[String], arguments: Arguments) -> Result<C
     Ok(Command::Session {
         delim: options.delim_or_default(),
         workers: options.workers_or_default(),
+        cache: options.cache_or_default(),
         passwd: options.passwd,
         group: options.group,
         now: options.time,

@@ -28,6 +28,7 @@ pub(crate) enum OptionName {
     Limit,
     Workers,
     Now,
+    Cache,
     Long,
     All,
     Summary,
@@ -45,6 +46,7 @@ impl OptionName {
             "--limit" => Some(OptionName::Limit),
             "--workers" => Some(OptionName::Workers),
             "--now" => Some(OptionName::Now),
+            "--cache" => Some(OptionName::Cache),
             "-l" => Some(OptionName::Long),
             "-A" => Some(OptionName::All),
             "--summary" => Some(OptionName::Summary),
@@ -119,6 +121,7 @@ impl CommandName {
                     | OptionName::Delim
                     | OptionName::Workers
                     | OptionName::Now
+                    | OptionName::Cache
             ),
             CommandName::Gen => matches!(
                 option,

@@ -3,10 +3,10 @@
 ghost use Rattle.std.specs.Prelude.{◌≡◌, ◌<◌, ◌≤◌, IfOk, length, drop, option_map};
 ghost use Rattle.gufi_base.specs.Basics.{GivesUnless};
 ghost use Rattle.gufi_words.specs.WordTexts.{texts};
-ghost use Rattle.gufi_words.specs.WordOptions.{no_options, has_option, put, delim_or_default, limit_or_default, workers_or_default, start, before_equals, after_equals, is_positional, step_with, step_named, step_free, step_at, read_options};
+ghost use Rattle.gufi_words.specs.WordOptions.{no_options, has_option, put, delim_or_default, limit_or_default, workers_or_default, cache_or_default, start, before_equals, after_equals, is_positional, step_with, step_named, step_free, step_at, read_options};
 
 use crate::name::{CommandName, OptionName};
-use crate::value::{DEFAULT_DELIMITER, read_delimiter, read_file, read_workers};
+use crate::value::{DEFAULT_DELIMITER, read_cache, read_delimiter, read_file, read_workers};
 use crate::word::{WordError, refused_at};
 use gufi_base::{Text, read_i64, read_u64};
 use std::alloc::{AllocError, Global};
@@ -21,6 +21,8 @@ pub(crate) struct Options {
     pub(crate) workers: Option<u32>,
     /// The value of `--now`, in seconds.
     pub(crate) time: Option<i64>,
+    /// How many replies each lane keeps.
+    pub(crate) cache: Option<u32>,
     pub(crate) long: bool,
     pub(crate) all: bool,
     pub(crate) summary: bool,
@@ -63,6 +65,7 @@ impl Options {
             limit: None,
             workers: None,
             time: None,
+            cache: None,
             long: false,
             all: false,
             summary: false,
@@ -80,6 +83,7 @@ impl Options {
             OptionName::Limit => self.limit.is_some(),
             OptionName::Workers => self.workers.is_some(),
             OptionName::Now => self.time.is_some(),
+            OptionName::Cache => self.cache.is_some(),
             OptionName::Long => self.long,
             OptionName::All => self.all,
             OptionName::Summary => self.summary,
@@ -97,6 +101,7 @@ impl Options {
             OptionName::Limit => self.limit = read_u64(value.as_bytes()),
             OptionName::Workers => self.workers = read_workers(value),
             OptionName::Now => self.time = read_i64(value.as_bytes()),
+            OptionName::Cache => self.cache = read_cache(value),
             OptionName::Long => self.long = true,
             OptionName::All => self.all = true,
             OptionName::Summary => self.summary = true,
@@ -120,6 +125,12 @@ impl Options {
         ensures { result ≡ workers_or_default self.now }
     {
         self.workers.unwrap_or(1)
+    }
+
+    pub(crate) fn cache_or_default(&self) -> u32
+        ensures { result ≡ cache_or_default self.now }
+    {
+        self.cache.unwrap_or(0)
     }
 }
 

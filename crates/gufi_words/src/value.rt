@@ -2,7 +2,7 @@
 
 ghost use Rattle.std.specs.Prelude.{◌≡◌, IfOk};
 ghost use Rattle.gufi_base.specs.Delimiters.{is_letter_or_digit, is_delimiter};
-ghost use Rattle.gufi_words.specs.WordValues.{read_delimiter, read_workers, read_count, read_report, read_file, read_start, read_gids};
+ghost use Rattle.gufi_words.specs.WordValues.{read_delimiter, read_workers, read_cache, read_count, read_report, read_file, read_start, read_gids};
 
 use crate::command::ReportWord;
 use gufi_base::{Nums, Path, PathFault, Text, read_numbers, read_u32};
@@ -45,6 +45,16 @@ pub(crate) fn read_workers(word: &str) -> Option<u32>
 {
     match read_u32(word.as_bytes()) {
         Some(count) if 1 <= count && count <= 32 => Some(count),
+        _ => None,
+    }
+}
+
+/// How many replies a lane keeps.
+pub(crate) fn read_cache(word: &str) -> Option<u32>
+    ensures { result ≡ read_cache word.now }
+{
+    match read_u32(word.as_bytes()) {
+        Some(count) if 1 <= count && count <= 256 => Some(count),
         _ => None,
     }
 }

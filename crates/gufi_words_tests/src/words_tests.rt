@@ -18,6 +18,9 @@ fn the_first_word_that_cannot_be_taken_is_named(rt: HostRuntime) -> Result<(), F
         ("walk A", 3),
         ("gen --limit=3 5", 2),
         ("find --workers 33 A 102 /", 3),
+        ("session --delim=| --cache=257 s", 3),
+        ("session --cache=0 s", 2),
+        ("find --cache=4 A 102 /", 2),
         ("", 1),
         ("ls -z A 102 /", 2),
     ];
@@ -94,11 +97,12 @@ fn command_line(alloc: Global, command: &Command) -> Result<String, AllocError> 
             delim,
             workers,
             now,
+            cache,
             script,
         } => {
             let (passwd, group) = (passwd.is_some(), group.is_some());
             let script = script.as_str();
-            format!(in alloc; "session {passwd} {group} {delim} {workers} {now:?} {script}")
+            format!(in alloc; "session {passwd} {group} {delim} {workers} {now:?} {cache} {script}")
         }
         Command::Gen {
             n,
@@ -142,7 +146,11 @@ fn each_command_is_read(rt: HostRuntime) -> Result<(), Fail> {
         ),
         (
             "session --workers 4 --passwd=p S",
-            "session true false 30 4 None S",
+            "session true false 30 4 None 0 S",
+        ),
+        (
+            "session --cache=256 S",
+            "session false false 30 1 None 256 S",
         ),
         ("gen --summary 5", "gen 5 30 1 true"),
     ];

@@ -17,7 +17,7 @@ answer_list-requires-send-P-Tester g c κs within = search (select_tester_send, 
 -- no row is passed over that the SELECT admits
 pub answer_list-requires-clause-query : goal.answer_list-requires-clause-query
 answer_list-requires-clause-query g c κs within = λ row depth met.
-    c.in_ok-skip.ensures row depth (rw c.question-question.ensures at met)
+    c.in_ok-skip.ensures.met row depth (rw c.question-question.ensures at met)
 
 pub returns-in-Ok : goal.returns-in-Ok
 returns-in-Ok g c =
@@ -26,6 +26,6 @@ returns-in-Ok g c =
     let start = c.args.start.now in
     let asks = select_holds c.args.select.now in
     on_ok_weaker c.put_rows.result
-    (λ put. found_put (record { who = who; start = start; query = Selects c.args.select.now }) tree who start asks c.args.text.now.items c.put_rows.new.text.items c.in-Ok.ensures.found
+    (λ put. found_put (Selects c.args.select.now) tree who start asks c.args.text.now.items c.put_rows.new.text.items c.in-Ok.ensures.found
     (put (answer tree who start asks) (rw c.question-question.ensures at c.in-Ok.ensures.rows) (rw c.question-question.ensures at c.answer_list.ensures.ascends)))
     c.put_rows.ensures

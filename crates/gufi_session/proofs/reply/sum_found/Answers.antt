@@ -19,4 +19,4 @@ returns-clause-sum g c =
 -- no row is passed over that the expression admits
 pub answer_sum-requires-clause-query : goal.answer_sum-requires-clause-query
 answer_sum-requires-clause-query g c κs within = λ row depth met.
-    c.in_ok-skip.ensures row depth (rw c.question-question.ensures at met)
+    c.in_ok-skip.ensures.met row depth (rw c.question-question.ensures at met)

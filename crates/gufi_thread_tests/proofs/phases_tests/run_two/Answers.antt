@@ -2,6 +2,6 @@ use Rattle.std.proofs.Common.{arith, ◌<◌}
 use Rattle.gufi_phases.specs.Loads.{total_size}
 use Rattle.gufi_thread_tests.proofs.phases_tests.run_two.Goals as goal
 
-pub run_session-ended-requires-clause-few : goal.run_session-ended-requires-clause-few
+pub run-requires-clause-few : goal.run-requires-clause-few
 unfolding total_size
-run_session-ended-requires-clause-few g c κs within = let few : 8 < 1073741824 = omega arith in few
+run-requires-clause-few g c κs within = let few : 8 < 1073741824 = omega arith in few

@@ -1,15 +1,13 @@
+use Rattle.gufi_find.specs.Expressions.{find_holds}
+use Rattle.gufi_walk.specs.Answer.{answer}
 use Rattle.gufi_top.specs.Asks.{find_ask}
 use Rattle.gufi_top.proofs.AskLemmas.{replies_found, replies_refused}
 use Rattle.gufi_top.proofs.ask.find_text.Goals as goal
 
--- no row is passed over for which the expression is true
-pub answer_lines-requires-clause-query : goal.answer_lines-requires-clause-query
-answer_lines-requires-clause-query g c κs within = λ row depth met. c.in_ok-skip.ensures row depth (rw c.question-question.ensures at met)
+pub returns-in_ok-text_of_paths-in-Ok : goal.returns-in_ok-text_of_paths-in-Ok
+returns-in_ok-text_of_paths-in-Ok g c =
+    replies_found c.args.snap.tree c.args.who.now c.args.start.now (find_ask c.args.expression.now) c.in_ok-text_of_paths-in-Ok.field-0 c.in-Ok.ensures.found
+    (c.in_ok-text_of_paths-in-Ok.ensures (answer c.args.snap.tree c.args.who.now c.args.start.now (find_holds c.args.expression.now)) c.in-Ok.ensures.paths c.in-Ok.ensures.ascends)
 
-pub returns-in-Ok : goal.returns-in-Ok
-returns-in-Ok g c =
-    replies_found c.args.snap.now.tree c.args.who.now c.args.start.now (find_ask c.args.expression.now) c.in-Ok.lines.text c.in-Ok.ensures.found
-    (rw c.question-question.ensures at c.in-Ok.ensures.text)
-
-pub returns : goal.returns
-returns g c = replies_refused c.args.snap.now.tree c.args.who.now c.args.start.now (find_ask c.args.expression.now) c.in-Err.refusal c.in-Err.ensures.refusal
+pub returns-in-Err : goal.returns-in-Err
+returns-in-Err g c = replies_refused c.args.snap.tree c.args.who.now c.args.start.now (find_ask c.args.expression.now) c.in-Err.refusal c.in-Err.ensures.refusal

@@ -1,5 +1,5 @@
 use denote.Param.Send.{sendable}
-use Rattle.std.proofs.Common.{◌≤◌, ◌<◌, ◌^◌, List, length, arith}
+use Rattle.std.proofs.Common.{List, arith}
 use Rattle.gufi_base.specs.declared.record.Row.{Row}
 use Rattle.gufi_select.specs.Columns.{select_holds}
 use Rattle.gufi_select.proofs.Searching.{select_tester_send}
@@ -18,7 +18,7 @@ answer-requires-send-P-Tester g c κs within = search (select_tester_send, senda
 
 -- no row is passed over that the SELECT chooses
 pub answer-requires-clause-query : goal.answer-requires-clause-query
-answer-requires-clause-query g c κs within = λ row depth met. c.in_ok-skip.ensures row depth (rw c.question-chosen.ensures at met)
+answer-requires-clause-query g c κs within = λ row depth met. c.in_ok-skip.ensures.met row depth (rw c.question-chosen.ensures at met)
 
 pub sorted-requires : goal.sorted-requires
 sorted-requires g c =

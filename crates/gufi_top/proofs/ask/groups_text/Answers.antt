@@ -1,4 +1,4 @@
-use Rattle.std.proofs.Common.{◌≡◌, ◌<◌, ◌∙◌, List, sym, ap, subst, length}
+use Rattle.std.proofs.Common.{◌<◌, ◌∙◌, List, sym, ap, subst, length}
 use Rattle.std.specs.Prelude.{All}
 use Rattle.gufi_base.specs.declared.record.Row.{Row}
 use Rattle.gufi_select.specs.Columns.{select_holds}

@@ -1,6 +1,5 @@
-use Rattle.std.proofs.Common.{◌≡◌, ◌<◌, ◌^◌, List, length, sym, ap, ◌∙◌, true, arith}
+use Rattle.std.proofs.Common.{List, sym, ap, ◌∙◌, true, arith}
 use Rattle.gufi_base.specs.declared.record.Row.{Row}
-use Rattle.gufi_stats.specs.declared.report.Report.{Report}
 use Rattle.gufi_stats.specs.Reports.{stats_text}
 use Rattle.gufi_walk.specs.Answer.{answer}
 use Rattle.gufi_top.specs.Asks.{stats_ask}
