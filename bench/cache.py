@@ -1,12 +1,13 @@
 #!/usr/bin/env python3
 """What lanes win that keep their replies: asks of which nine of ten come again, with `--cache` and without.
 
-  python3 cache.py TRACE PASSWD GROUP ASKS [--program PROGRAM] [--asks 1000] [--capacity 256] [--runs 5] [--pages small]
+  python3 cache.py TRACE PASSWD GROUP ASKS [--program PROGRAM] [--asks 1000] [--capacity 256] [--runs 5] [--pages small] [--long]
 
 TRACE has fields parted by the byte 0x1E. ASKS is a script whose lines `ask LANE USER START find ..` are taken, whatever stands beside
-them: the first tenth of `--asks` distinct ones are asked by one lane ten times over, behind one publication of TRACE. The cost of an ask
-is the time of that script less the time of a script that only publishes, over the number of asks. Runs are interleaved, output goes to
-/dev/null, files are warm, times are medians, and texts are compared. Nothing here is a test.
+them: the first tenth of `--asks` distinct ones are asked by one lane ten times over, behind one publication of TRACE. Those whose reply is
+longer than a lane keeps are left out, unless `--long` is given. The cost of an ask is the time of that script less the time of a script
+that only publishes, over the number of asks. Runs are interleaved, output goes to /dev/null, files are warm, times are medians, and texts
+are compared. Nothing here is a test.
 """
 import argparse
 import os
@@ -18,6 +19,18 @@ from session import asks_of, interleaved, write
 from walk import PAGES, take_pages
 
 
+# How many bytes a reply has at most that a lane keeps, without its head.
+MAX_KEPT = 65_536
+
+
+def short_ones(asks, words, folder):
+    """The asks whose reply a lane keeps."""
+    script = write(folder, "each", [b"publish 0 trace\n", b"barrier\n"] + [b"ask 1 " + ask for ask in asks])
+    text = subprocess.run(words + [script], cwd=folder, capture_output=True, check=True).stdout
+    replies = text.split(b"\nreply ")[1:]
+    return [ask for ask, reply in zip(asks, replies) if len(reply) < MAX_KEPT]
+
+
 def main():
     parser = argparse.ArgumentParser(usage=__doc__)
     for word in ("trace", "passwd", "group", "script"):
@@ -27,18 +40,22 @@ def main():
     parser.add_argument("--capacity", type=int, default=256)
     parser.add_argument("--runs", type=int, default=5)
     parser.add_argument("--pages", choices=PAGES, default="small")
+    parser.add_argument("--long", action="store_true")
     options = parser.parse_args()
     take_pages(options.pages)
-    asks = list(dict.fromkeys(asks_of(options.script, 100 * options.asks)))[: options.asks // 10]
-    if len(asks) < options.asks // 10:
-        sys.exit("%s: too few distinct asks" % options.script)
+    words = [os.path.abspath(options.program), "session", "--passwd=passwd", "--group=group"]
+    asks = list(dict.fromkeys(asks_of(options.script, 100 * options.asks)))
     with tempfile.TemporaryDirectory() as folder:
         for name, path in (("trace", options.trace), ("passwd", options.passwd), ("group", options.group)):
             os.symlink(os.path.abspath(path), os.path.join(folder, name))
+        if not options.long:
+            asks = short_ones(asks, words, folder)
+        asks = asks[: options.asks // 10]
+        if len(asks) < options.asks // 10:
+            sys.exit("%s: too few distinct asks" % options.script)
         publish = [b"publish 0 trace\n", b"barrier\n"]
         alone = write(folder, "publish", publish)
         again = write(folder, "again", publish + [b"ask 1 " + ask for ask in asks] * 10)
-        words = [os.path.abspath(options.program), "session", "--passwd=passwd", "--group=group"]
         commands = {
             "publish": words + [alone],
             "without": words + [again],
