@@ -413,7 +413,7 @@ fn a_lane_answers_again_by_what_it_kept(rt: HostRuntime) -> Result<(), Fail> {
     let gate = Counting::new();
     let ran = run(&rt, &gate, "--cache=4", FOUR_ASKS)?;
     check_four_replies(&rt, &ran)?;
-    let (tasks, note) = if ran.outcome.numbers[0] == 1 {
+    let (tasks, note) = if ran.outcome.numbers.first() == Some(&1) {
         (2, b"cache hits 2 of 4\n".as_slice())
     } else {
         (1, b"cache hits 3 of 4\n".as_slice())
