@@ -17,3 +17,4 @@ pub mod Sorting
 pub mod SplitParts
 pub mod TextLines
 pub mod Texts
+pub mod KeptXattrs

@@ -25,7 +25,9 @@ mod predicate;
 mod rec_ref;
 mod record;
 mod steps;
+mod view;
 mod width;
+mod xattrs;
 mod yields;
 
 pub use front::{behind, split_first};
@@ -46,7 +48,9 @@ pub use rec_ref::RecRef;
 pub use record::{Kind, Line, Meta, Rec, Row, RowRef, read_kind};
 use std::alloc::{AllocError, AllocFailed};
 pub use steps::Steps;
+pub use view::{AsItIs, View};
 pub use width::{u16_of, u32_of};
+pub use xattrs::{MAX_XATTR, MAX_XATTRS, are_xattrs, put_xattrs, xattrs_at};
 pub use yields::Yield;
 
 /// Memory was wanted, and there was none.

@@ -12,6 +12,7 @@ use std::marker::Model;
 pub struct RecRef<'a> {
     meta: &'a Meta,
     link: &'a [u8],
+    xattrs: &'a [u8],
 }
 
 impl<'a> Model for RecRef<'a> {
@@ -19,16 +20,16 @@ impl<'a> Model for RecRef<'a> {
 
     ghost Value = { Rec };
 
-    ghost view = { λ r. record { link = r.link.now; meta = r.meta.now } };
+    ghost view = { λ r. record { link = r.link.now; xattrs = r.xattrs.now; meta = r.meta.now } };
 }
 
 impl<'a> RecRef<'a> {
     /// The record of these parts.
     #[inline]
-    pub fn of(meta: &'a Meta, link: &'a [u8]) -> RecRef<'a>
-        ensures { result ≡ record { link = link.now; meta = meta.now } }
+    pub fn of(meta: &'a Meta, link: &'a [u8], xattrs: &'a [u8]) -> RecRef<'a>
+        ensures { result ≡ record { link = link.now; xattrs = xattrs.now; meta = meta.now } }
     {
-        RecRef { meta, link }
+        RecRef { meta, link, xattrs }
     }
 
     #[inline]
@@ -46,12 +47,21 @@ impl<'a> RecRef<'a> {
         self.link
     }
 
-    /// The same record in memory of its own. One allocation at most.
+    /// The names of its extended attributes, joined by single commas.
+    #[inline]
+    pub fn xattrs(&self) -> &'a [u8]
+        ensures { result.now ≡ self.now.xattrs }
+    {
+        self.xattrs
+    }
+
+    /// The same record in memory of its own. Two allocations at most.
     pub fn copy(&self, alloc: Global) -> Result<Rec, AllocError>
         ensures { IfOk result (λ copy. copy ≡ self.now) }
     {
         let link = Bytes::from_slice(alloc, self.link)?;
+        let xattrs = Bytes::from_slice(alloc, self.xattrs)?;
         let meta = *self.meta;
-        Ok(Rec { link, meta })
+        Ok(Rec { link, xattrs, meta })
     }
 }

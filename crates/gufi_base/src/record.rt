@@ -77,10 +77,11 @@ pub struct Meta {
     pub blksize: u64,
 }
 
-/// The record of a file, with the target of a link.
+/// The record of a file, with the target of a link, and the names of its extended attributes, joined by single commas.
 #[derive(Drop)]
 pub struct Rec {
     pub link: Bytes,
+    pub xattrs: Bytes,
     pub meta: Meta,
 }
 
@@ -89,7 +90,7 @@ impl Rec {
     pub fn as_rec_ref(&self) -> RecRef<'_>
         ensures { result ≡ self.now }
     {
-        RecRef::of(&self.meta, self.link.as_slice())
+        RecRef::of(&self.meta, self.link.as_slice(), self.xattrs.as_slice())
     }
 }
 
@@ -107,6 +108,7 @@ pub struct RowRef<'a> {
     pub base: &'a [u8],
     pub meta: &'a Meta,
     pub link: &'a [u8],
+    pub xattrs: &'a [u8],
 }
 
 /// A line of a trace, with the root's components taken off its path.

@@ -40,7 +40,7 @@ fn put_directory(out: &mut Vec<u8>, delim: u8, path: &[u8], number: u32) -> Resu
     ensures { OnOk result (out.new.items ≡ out.old.items ++ directory_line delim number) }
 {
     put(out, path)?;
-    put_record(out, delim, &directory_meta(number), b"")
+    put_record(out, delim, &directory_meta(number), b"", b"")
 }
 
 fn put_entry(
@@ -56,7 +56,7 @@ fn put_entry(
     put(out, path)?;
     put(out, b"/f")?;
     put_u64(out, u64::from(place))?;
-    put_record(out, delim, &entry_meta(number, place), b"")
+    put_record(out, delim, &entry_meta(number, place), b"", b"")
 }
 
 fn put_entries(out: &mut Vec<u8>, delim: u8, path: &[u8], number: u32) -> Result<(), Memory>

@@ -19,6 +19,10 @@ pub cond_parts : (b c : Bool) → cond b c false ≡ true → (b ≡ true) × (c
 cond_parts true c e = (refl, e)
 cond_parts false c e = absurd cc
 
+pub or_none : (b : Bool) → (b || false) ≡ b
+or_none true = refl
+or_none false = refl
+
 pub push_up : {X : Type 0} (cmp : X → X → Ordering) (first : X) (xs : List X) (x : X) → ascends cmp (first ∷ xs) ≡ true → is_lt (cmp (last_of first xs) x) ≡ true → ascends cmp ((first ∷ xs) ++ x ∷ []) ≡ true
 push_up cmp first [] x up lt = rw lt refl
 push_up cmp first (y ∷ ys) x up lt =

@@ -1,5 +1,5 @@
 -- The records of an image, read as they are written and in no other spelling.
-use Rattle.std.proofs.Common.{◌≡◌, ℕ, suc, ◌-◌, ◌<◌, ◌≤◌, ◌^◌, Bool, true, false, not, ◌&&◌, ltb, leb, List, ◌++◌, length, Result, Ok, refl, sym, ap, subst, ◌∙◌, arith, append_assoc, ℤ, pos, negsuc, neg_ℤ}
+use Rattle.std.proofs.Common.{◌≡◌, ℕ, suc, ◌-◌, ◌<◌, ◌≤◌, ◌^◌, Bool, true, false, not, ◌&&◌, ◌||◌, ltb, leb, List, [], ◌∷◌, ◌++◌, length, Result, Ok, refl, sym, ap, subst, ◌∙◌, arith, append_assoc, ℤ, pos, negsuc, neg_ℤ}
 use Rattle.std.specs.Prelude.{int_lt, int_le}
 use Rattle.std.specs.List.{list_all}
 use Rattle.std.specs.Int.{w16, w32, w64, cast_signed, cast_unsigned}
@@ -8,12 +8,15 @@ use Rattle.std.proofs.lemmas.Int.{of_z-to_z, to_z-of_z}
 use Rattle.gufi_base.specs.declared.record.Kind.{Kind}
 use Rattle.gufi_base.specs.declared.record.Meta.{Meta}
 use Rattle.gufi_base.specs.declared.record.Rec.{Rec}
-use Rattle.gufi_base.specs.Limits.{max_link}
+use Rattle.gufi_base.specs.Limits.{max_link, max_xattrs}
+use Rattle.gufi_base.specs.Basics.{is_empty}
 use Rattle.gufi_base.specs.Names.{is_path_byte}
+use Rattle.gufi_base.specs.Xattrs.{are_xattrs}
 use Rattle.gufi_base.specs.Rows.{are_bytes, fits_i64, fits_types, is_well_formed}
 use Rattle.gufi_image.specs.declared.fault.Flaw.{Flaw}
-use Rattle.gufi_image.specs.Bytes.{u16_bytes, u32_bytes, u64_bytes, i64_bytes, owner_image, size_image, times_image, record_image}
-use Rattle.gufi_image.specs.Fields.{bytes_at, number_at, signed_at, meta_at, link_at, record_at}
+use Rattle.gufi_image.specs.Bytes.{u16_bytes, u32_bytes, u64_bytes, i64_bytes, owner_image, size_image, times_image, xattrs_image, record_image}
+use Rattle.gufi_image.specs.Image.{is_named}
+use Rattle.gufi_image.specs.Fields.{bytes_at, number_at, signed_at, meta_at, link_at, names_at, xattrs_at, record_at}
 use Rattle.gufi_image.proofs.Repeats.{bind_ok}
 use Rattle.gufi_image.proofs.FieldsBack.{refused_ok, then_ok, ok_same, not_false, bytes_rest, step, Reads, reads_from, IsReader, bytes_reader, u16_reader, u32_reader, u64_reader}
 
@@ -188,42 +191,108 @@ link_once bytes found are e =
 link_reader : IsReader IsLink link_image link_at
 link_reader = record { back = link_back; once = link_once }
 
+-- names of extended attributes, of which a record has some only where it is wide
+pub record IsNames (names : List ℕ) : Type 0 where
+  pub sound : are_xattrs names ≡ true
+  pub bytes : are_bytes names ≡ true
+
+abbrev pub AreNames : Bool → List ℕ → Type 0
+AreNames false names = names ≡ []
+AreNames true names = IsNames names
+
+names_short : (names : List ℕ) → are_xattrs names ≡ true → length names ≤ max_xattrs
+names_short names h = leb-true (length names) max_xattrs (and_parts _ _ (and_parts (leb (length names) max_xattrs && list_all is_path_byte names) _ h).0).0
+
+names_back : (names rest : List ℕ) → IsNames names → names_at (link_image names ++ rest) ≡ Ok (names, rest)
+unfolding names_at
+names_back names rest h =
+    let short = names_short names h.sound in
+    let fits : length names < 2 ^ 16 = omega arith in
+    let few : ltb max_xattrs (length names) ≡ false = grind arith in
+    let count = u16_back (length names) (names ++ rest) fits in
+    let field = (bytes_reader (length names)).back names rest refl in
+    let sound = h.sound in
+    rw (append_assoc, count, few, field, sound) refl
+
+names_once : (bytes : List ℕ) (found : List ℕ × List ℕ) → are_bytes bytes ≡ true → names_at bytes ≡ Ok found → Reads IsNames link_image bytes found
+unfolding names_at
+names_once bytes found are e =
+    step u16_reader bytes _ found are e (λ count r1 i1 b1 a1 e1.
+    let few = refused_ok (ltb max_xattrs count) _ _ found e1 in
+    step (bytes_reader count) r1 _ found a1 few.1 (λ names rest i2 b2 a2 e2.
+    let sound = refused_ok (not (are_xattrs names)) _ _ found e2 in
+    let same : (names, rest) ≡ found = ok_same _ _ sound.1 in
+    let both : bytes ≡ u16_bytes (length names) ++ (names ++ rest) = cc in
+    let parts = bytes_rest names rest (ap are_bytes (sym i2) ∙ a1) in
+    let holds : IsNames names = record { sound = not_false _ sound.0; bytes = parts.0 } in
+    reads_from IsNames link_image bytes found are (both ∙ sym (append_assoc (u16_bytes (length names)) names rest) ∙ ap (λ (x : List ℕ × List ℕ). link_image x.0 ++ x.1) same) (subst (λ (x : List ℕ × List ℕ). IsNames x.0) same holds)))
+
+xattrs_reader : (wide : Bool) → IsReader (AreNames wide) (xattrs_image wide) (xattrs_at wide)
+xattrs_reader true = record { back = names_back; once = names_once }
+xattrs_reader false = record {
+  back = λ names rest none. ap (λ (t : List ℕ). Ok (t, rest)) (sym none);
+  once = λ bytes found are e.
+      let same : ([], bytes) ≡ found = ok_same _ _ e in
+      reads_from (AreNames false) (xattrs_image false) bytes found are (ap (λ (x : List ℕ × List ℕ). x.1) same) (ap (λ (x : List ℕ × List ℕ). x.0) (sym same));
+}
+
 -- records of a kind
-pub record IsRecord (kind : Kind) (rec : Rec) : Type 0 where
+pub record IsRecord (wide : Bool) (kind : Kind) (rec : Rec) : Type 0 where
   pub meta : IsMeta kind rec.meta
   pub link : IsLink rec.link
+  pub xattrs : AreNames wide rec.xattrs
 
-record_apart : (rec : Rec) (rest : List ℕ) → record_image rec ++ rest ≡ meta_image rec.meta ++ (link_image rec.link ++ rest)
+record_apart : (wide : Bool) (rec : Rec) (rest : List ℕ) → record_image wide rec ++ rest ≡ meta_image rec.meta ++ (link_image rec.link ++ (xattrs_image wide rec.xattrs ++ rest))
 unfolding record_image
-record_apart rec rest = simp append_assoc
+record_apart wide rec rest = by (xattrs_image wide rec.xattrs) where
+  by : (names : List ℕ) → (owner_image rec.meta ++ (size_image rec.meta ++ (times_image rec.meta ++ (u16_bytes (length rec.link) ++ (rec.link ++ names))))) ++ rest ≡ meta_image rec.meta ++ (link_image rec.link ++ (names ++ rest))
+  by names = simp append_assoc
 
-record_back : (kind : Kind) (rec : Rec) (rest : List ℕ) → IsRecord kind rec → record_at kind (record_image rec ++ rest) ≡ Ok (rec, rest)
+record_back : (wide : Bool) (kind : Kind) (rec : Rec) (rest : List ℕ) → IsRecord wide kind rec → record_at wide kind (record_image wide rec ++ rest) ≡ Ok (rec, rest)
 unfolding record_at
-record_back kind rec rest h =
-    let meta = (meta_reader kind).back rec.meta (link_image rec.link ++ rest) h.meta in
-    let link = link_back rec.link rest h.link in
-    rw (record_apart rec rest, meta, link) refl
+record_back wide kind rec rest h =
+    let names = xattrs_image wide rec.xattrs ++ rest in
+    let meta = (meta_reader kind).back rec.meta (link_image rec.link ++ names) h.meta in
+    let link = link_back rec.link names h.link in
+    let xattrs = (xattrs_reader wide).back rec.xattrs rest h.xattrs in
+    rw (record_apart wide rec rest, meta, link, xattrs) refl
 
-record_once : (kind : Kind) (bytes : List ℕ) (found : Rec × List ℕ) → are_bytes bytes ≡ true → record_at kind bytes ≡ Ok found → Reads (IsRecord kind) record_image bytes found
+record_once : (wide : Bool) (kind : Kind) (bytes : List ℕ) (found : Rec × List ℕ) → are_bytes bytes ≡ true → record_at wide kind bytes ≡ Ok found → Reads (IsRecord wide kind) (record_image wide) bytes found
 unfolding record_at
-record_once kind bytes found are e =
+record_once wide kind bytes found are e =
     step (meta_reader kind) bytes _ found are e (λ meta r1 i1 b1 a1 e1.
-    step link_reader r1 _ found a1 e1 (λ link rest i2 b2 a2 e2.
-    let rec : Rec = record { meta = meta; link = link } in
-    let same : (rec, rest) ≡ found = ok_same _ _ e2 in
-    let is : bytes ≡ meta_image meta ++ (link_image link ++ rest) = i1 ∙ ap (λ (t : List ℕ). meta_image meta ++ t) i2 in
-    let holds : IsRecord kind rec = record { meta = b1; link = b2 } in
-    reads_from (IsRecord kind) record_image bytes found are (is ∙ sym (record_apart rec rest) ∙ ap (λ (x : Rec × List ℕ). record_image x.0 ++ x.1) same) (subst (λ (x : Rec × List ℕ). IsRecord kind x.0) same holds)))
+    step link_reader r1 _ found a1 e1 (λ link r2 i2 b2 a2 e2.
+    step (xattrs_reader wide) r2 _ found a2 e2 (λ xattrs rest i3 b3 a3 e3.
+    let rec : Rec = record { meta = meta; link = link; xattrs = xattrs } in
+    let same : (rec, rest) ≡ found = ok_same _ _ e3 in
+    let is : bytes ≡ meta_image meta ++ (link_image link ++ (xattrs_image wide xattrs ++ rest)) = i1 ∙ ap (λ (t : List ℕ). meta_image meta ++ t) (i2 ∙ ap (λ (t : List ℕ). link_image link ++ t) i3) in
+    let holds : IsRecord wide kind rec = record { meta = b1; link = b2; xattrs = b3 } in
+    reads_from (IsRecord wide kind) (record_image wide) bytes found are (is ∙ sym (record_apart wide rec rest) ∙ ap (λ (x : Rec × List ℕ). record_image wide x.0 ++ x.1) same) (subst (λ (x : Rec × List ℕ). IsRecord wide kind x.0) same holds))))
 
-pub record_reader : (kind : Kind) → IsReader (IsRecord kind) record_image (record_at kind)
-record_reader kind = record { back = record_back kind; once = record_once kind }
+pub record_reader : (wide : Bool) (kind : Kind) → IsReader (IsRecord wide kind) (record_image wide) (record_at wide kind)
+record_reader wide kind = record { back = record_back wide kind; once = record_once wide kind }
+
+-- A record that has no names, where it isn't wide.
+abbrev pub fits_width : Bool → Rec → Bool
+fits_width wide rec = wide || not (is_named rec)
+
+names_fit : (wide : Bool) (names : List ℕ) → are_xattrs names ≡ true → are_bytes names ≡ true → (wide || not (not (is_empty names))) ≡ true → AreNames wide names
+names_fit true names sound bytes h = record { sound = sound; bytes = bytes }
+names_fit false [] sound bytes h = refl
+names_fit false (b ∷ names) sound bytes h = absurd cc
+
+pub names_sound : (wide : Bool) (names : List ℕ) → AreNames wide names → (are_xattrs names ≡ true) × (are_bytes names ≡ true)
+names_sound true names h = (h.sound, h.bytes)
+names_sound false names h = rw h (refl, refl)
 
 -- A record is one of its kind where it is well formed and its numbers fit their types.
-pub record_parts : (rec : Rec) → is_well_formed rec ≡ true → fits_types rec ≡ true → IsRecord rec.meta.kind rec
-record_parts rec sound fits =
-    let outer = and_parts (leb rec.meta.mode 4095 && leb (length rec.link) max_link) (list_all is_path_byte rec.link) sound in
+pub record_parts : (wide : Bool) (rec : Rec) → is_well_formed rec ≡ true → fits_types rec ≡ true → fits_width wide rec ≡ true → IsRecord wide rec.meta.kind rec
+record_parts wide rec sound fits width =
+    let named = and_parts (leb rec.meta.mode 4095 && leb (length rec.link) max_link && list_all is_path_byte rec.link) (are_xattrs rec.xattrs) sound in
+    let outer = and_parts (leb rec.meta.mode 4095 && leb (length rec.link) max_link) (list_all is_path_byte rec.link) named.0 in
     let inner = and_parts (leb rec.meta.mode 4095) (leb (length rec.link) max_link) outer.0 in
-    let link = and_parts _ _ fits in
+    let xattrs = and_parts _ _ fits in
+    let link = and_parts _ _ xattrs.0 in
     let ctime = and_parts _ _ link.0 in
     let mtime = and_parts _ _ ctime.0 in
     let atime = and_parts _ _ mtime.0 in
@@ -250,16 +319,19 @@ record_parts rec sound fits =
         ctime = ctime.1;
       };
       link = record { short = leb-true _ _ inner.1; sound = outer.1; bytes = link.1 };
+      xattrs = names_fit wide rec.xattrs named.1 xattrs.1 width;
     }
 
-pub record_sound : (kind : Kind) (rec : Rec) → IsRecord kind rec → is_well_formed rec ≡ true
-record_sound kind rec h = and_from _ _ (and_from _ _ (le-leb rec.meta.mode 4095 h.meta.mode) (le-leb (length rec.link) max_link h.link.short)) h.link.sound
+pub record_sound : (wide : Bool) (kind : Kind) (rec : Rec) → IsRecord wide kind rec → is_well_formed rec ≡ true
+record_sound wide kind rec h =
+    and_from _ _ (and_from _ _ (and_from _ _ (le-leb rec.meta.mode 4095 h.meta.mode) (le-leb (length rec.link) max_link h.link.short)) h.link.sound) (names_sound wide rec.xattrs h.xattrs).0
 
-pub record_fits : (kind : Kind) (rec : Rec) → IsRecord kind rec → fits_types rec ≡ true
-record_fits kind rec h =
+pub record_fits : (wide : Bool) (kind : Kind) (rec : Rec) → IsRecord wide kind rec → fits_types rec ≡ true
+record_fits wide kind rec h =
     let m = h.meta in
     let mode : rec.meta.mode < 2 ^ 16 = omega (arith, m.mode) in
     and_from _ _
+    (and_from _ _
     (and_from _ _
     (and_from _ _
     (and_from _ _
@@ -279,4 +351,5 @@ record_fits kind rec h =
     m.atime)
     m.mtime)
     m.ctime)
-    h.link.bytes
+    h.link.bytes)
+    (names_sound wide rec.xattrs h.xattrs).1

@@ -17,11 +17,15 @@ use Rattle.gufi_image.specs.Entries.{entry_at, entries_at}
 use Rattle.gufi_image.specs.Directories.{root_at, below_at, first_at, other_at, path_at, flag_at, heading_at, directory_at, directories_at}
 use Rattle.gufi_image.specs.Reading.{counts_at, version_at, head_at, all_at, snapshot_at, image_means}
 
-abbrev rec : Kind → ℕ → ℕ → ℕ → ℕ → Rec
-rec kind inode mode uid gid = record {
+abbrev named : Kind → ℕ → ℕ → ℕ → ℕ → List ℕ → Rec
+named kind inode mode uid gid xattrs = record {
   meta = record { kind = kind; inode = inode; mode = mode; nlink = 2; uid = uid; gid = gid; size = 4096; blksize = 4096; blocks = 8; atime = pos 10; mtime = pos 20; ctime = pos 30 };
   link = [];
+  xattrs = xattrs;
 }
+
+abbrev rec : Kind → ℕ → ℕ → ℕ → ℕ → Rec
+rec kind inode mode uid gid = named kind inode mode uid gid []
 
 abbrev lone : List Directory
 lone = record { path = []; rec = rec Dir 1 493 101 100; entries = [] } ∷ []
@@ -35,6 +39,18 @@ bytes_of_one : image_text lone 0 ≡
     ∷ 0 ∷ 0 ∷ 0 ∷ 0 ∷ []
 unfolding image_text head_image parts_image record_image owner_image size_image times_image u16_bytes u32_bytes u64_bytes covers keeps_for fresh_uid can_list is_granted class_for
 bytes_of_one = refl
+
+-- with a name of an extended attribute it has version 2
+bytes_of_named : image_text (record { path = []; rec = named Dir 1 493 101 100 (codes "user.k"); entries = [] } ∷ []) 0 ≡
+    0x47 ∷ 0x55 ∷ 0x46 ∷ 0x49 ∷ 0x58 ∷ 0 ∷ 2 ∷ 0 ∷ 0 ∷ 0 ∷ 0 ∷ 0 ∷ 0 ∷ 0 ∷ 0 ∷ 0 ∷ 1 ∷ 0 ∷ 0 ∷ 0 ∷ 0 ∷ 0 ∷ 0 ∷ 0
+    ∷ 0xff ∷ 0xff ∷ 0xff ∷ 0xff ∷ 0 ∷ 0
+    ∷ 1 ∷ 0 ∷ 0 ∷ 0 ∷ 0 ∷ 0 ∷ 0 ∷ 0 ∷ 0xed ∷ 1 ∷ 2 ∷ 0 ∷ 0 ∷ 0 ∷ 0 ∷ 0 ∷ 0 ∷ 0 ∷ 0x65 ∷ 0 ∷ 0 ∷ 0 ∷ 0x64 ∷ 0 ∷ 0 ∷ 0
+    ∷ 0 ∷ 0x10 ∷ 0 ∷ 0 ∷ 0 ∷ 0 ∷ 0 ∷ 0 ∷ 0 ∷ 0x10 ∷ 0 ∷ 0 ∷ 0 ∷ 0 ∷ 0 ∷ 0 ∷ 8 ∷ 0 ∷ 0 ∷ 0 ∷ 0 ∷ 0 ∷ 0 ∷ 0
+    ∷ 0x0a ∷ 0 ∷ 0 ∷ 0 ∷ 0 ∷ 0 ∷ 0 ∷ 0 ∷ 0x14 ∷ 0 ∷ 0 ∷ 0 ∷ 0 ∷ 0 ∷ 0 ∷ 0 ∷ 0x1e ∷ 0 ∷ 0 ∷ 0 ∷ 0 ∷ 0 ∷ 0 ∷ 0 ∷ 0 ∷ 0
+    ∷ 6 ∷ 0 ∷ 0x75 ∷ 0x73 ∷ 0x65 ∷ 0x72 ∷ 0x2e ∷ 0x6b
+    ∷ 0 ∷ 0 ∷ 0 ∷ 0 ∷ []
+unfolding image_text head_image parts_image record_image owner_image size_image times_image u16_bytes u32_bytes u64_bytes covers keeps_for fresh_uid can_list is_granted class_for
+bytes_of_named = refl
 
 -- a root that isn't rolled up, since few may list the directory in it, which is
 folded : List Directory

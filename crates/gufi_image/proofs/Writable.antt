@@ -1,11 +1,11 @@
 -- What can be written is read: each directory of such a tree behind those before it.
-use Rattle.std.proofs.Common.{◌≡◌, ℕ, zero, suc, ◌+◌, ◌<◌, ◌≤◌, Bool, true, false, not, ◌&&◌, ltb, List, [], ◌∷◌, ◌++◌, length, map, get_or, Some, refl, sym, ap, subst, ◌∙◌, arith, append_assoc, inl, inr, ◌⊎◌, ⊎_elim}
+use Rattle.std.proofs.Common.{◌≡◌, ℕ, zero, suc, ◌+◌, ◌<◌, ◌≤◌, Bool, true, false, not, ◌&&◌, ◌||◌, ltb, List, [], ◌∷◌, ◌++◌, length, map, get_or, Some, refl, sym, ap, subst, ◌∙◌, arith, append_assoc, inl, inr, ◌⊎◌, ⊎_elim}
 use Rattle.std.specs.Prelude.{bytes_eq, slice_get}
 use Rattle.std.specs.Ordering.{is_lt}
 use Rattle.std.specs.declared.cmp.Ordering.{Ordering}
 use Rattle.std.specs.declared.cmp.Ordering.TheVariants.{Less, Equal, Greater}
 use Rattle.std.specs.List.{Any, list_all, flat_map}
-use Rattle.std.proofs.lemmas.Bool.{and_parts, or_parts, ltb-false, false≢true, cases_lt, cases_order}
+use Rattle.std.proofs.lemmas.Bool.{and_parts, and_from, or_parts, ltb-false, false≢true, cases_lt, cases_order}
 use Rattle.std.proofs.lemmas.Cmp.{tied_itself}
 use Rattle.std.proofs.lemmas.List.{length-append, get_or_append_left}
 use Rattle.std.proofs.lemmas.List.Folds.{list_all-append, Any-from_list_any}
@@ -28,11 +28,12 @@ use Rattle.gufi_tree.specs.Tree.{Directory, dir_cmp, entry_cmp, entry_count, has
 use Rattle.gufi_tree.proofs.Built.{path_eq-Decides, path_cmp-total, dir_cmp-total}
 use Rattle.gufi_tree.proofs.Linked.{root_first}
 use Rattle.gufi_image.specs.Entries as entries
+use Rattle.gufi_image.specs.Image.{is_named, holds_named, holds_xattrs, has_xattrs}
 use Rattle.gufi_image.specs.Placed.{IsChild}
 use Rattle.gufi_image.specs.Laws.{IsWritable}
 use Rattle.gufi_image.proofs.Fronts.{cond_parts, path_more, any_there, not_true}
 use Rattle.gufi_image.proofs.Searches.{in_order, all_there, false_from, some_same}
-use Rattle.gufi_image.proofs.RecordsBack.{IsRecord, record_parts}
+use Rattle.gufi_image.proofs.RecordsBack.{IsRecord, fits_width, record_parts}
 use Rattle.gufi_image.proofs.EntriesBack.{IsNextEntry, AreNextEntries}
 use Rattle.gufi_image.proofs.PathsBack.{IsSound, IsNextPath}
 use Rattle.gufi_image.proofs.FrontsBack.{AreNextDirectories}
@@ -48,9 +49,9 @@ abbrev pub is_short : Row → Bool
 is_short row = not (is_too_long row.path)
 
 -- the entries of a directory of the tree
-next_entry : (tree : List Directory) (path : Components) (before : List Entry) (entry : Entry) → entries.follows before entry.name ≡ true → is_entry_of tree path entry ≡ true → row_fits_types (entry_row path entry) ≡ true → is_short (entry_row path entry) ≡ true
-    → IsNextEntry path before entry
-next_entry tree path before entry above own fits short =
+next_entry : (wide : Bool) (tree : List Directory) (path : Components) (before : List Entry) (entry : Entry) → entries.follows before entry.name ≡ true → is_entry_of tree path entry ≡ true → row_fits_types (entry_row path entry) ≡ true → is_short (entry_row path entry) ≡ true → fits_width wide entry.rec ≡ true
+    → IsNextEntry wide path before entry
+next_entry wide tree path before entry above own fits short width =
     let apart = and_parts (not (is_dir entry.rec.meta.kind) && is_well_formed entry.rec && is_name entry.name) (not (has_dir tree (path ++ entry.name ∷ []))) own in
     let named = and_parts (not (is_dir entry.rec.meta.kind) && is_well_formed entry.rec) (is_name entry.name) apart.0 in
     let sound = and_parts (not (is_dir entry.rec.meta.kind)) (is_well_formed entry.rec) named.0 in
@@ -60,17 +61,18 @@ next_entry tree path before entry above own fits short =
       apart = not_true (is_dir entry.rec.meta.kind) sound.0;
       below = record { named = named.1; short = not_true (is_too_long (path ++ entry.name ∷ [])) short; bytes = (and_parts (are_bytes entry.name) true bytes.1).0 };
       above = above;
-      rec = record_parts entry.rec sound.1 types.1;
+      rec = record_parts wide entry.rec sound.1 types.1 width;
     }
 
-next_entries : (tree : List Directory) (path : Components) (before es : List Entry) → ascends entry_cmp (before ++ es) ≡ true → list_all (is_entry_of tree path) es ≡ true → list_all row_fits_types (map (entry_row path) es) ≡ true → list_all is_short (map (entry_row path) es) ≡ true
-    → AreNextEntries path before es
-next_entries tree path before [] up own fits short = tt
-next_entries tree path before (e ∷ es) up own fits short =
+next_entries : (wide : Bool) (tree : List Directory) (path : Components) (before es : List Entry) → ascends entry_cmp (before ++ es) ≡ true → list_all (is_entry_of tree path) es ≡ true → list_all row_fits_types (map (entry_row path) es) ≡ true → list_all is_short (map (entry_row path) es) ≡ true → list_all (λ (e : Entry). fits_width wide e.rec) es ≡ true
+    → AreNextEntries wide path before es
+next_entries wide tree path before [] up own fits short width = tt
+next_entries wide tree path before (e ∷ es) up own fits short width =
     let o = and_parts (is_entry_of tree path e) (list_all (is_entry_of tree path) es) own in
     let f = and_parts (row_fits_types (entry_row path e)) (list_all row_fits_types (map (entry_row path) es)) fits in
     let s = and_parts (is_short (entry_row path e)) (list_all is_short (map (entry_row path) es)) short in
-    (next_entry tree path before e (above before up) o.0 f.0 s.0, next_entries tree path (before ++ e ∷ []) es (ap (ascends entry_cmp) (append_assoc before (e ∷ []) es) ∙ up) o.1 f.1 s.1) where
+    let w = and_parts (fits_width wide e.rec) (list_all (λ (v : Entry). fits_width wide v.rec) es) width in
+    (next_entry wide tree path before e (above before up) o.0 f.0 s.0 w.0, next_entries wide tree path (before ++ e ∷ []) es (ap (ascends entry_cmp) (append_assoc before (e ∷ []) es) ∙ up) o.1 f.1 s.1 w.1) where
       above : (bs : List Entry) → ascends entry_cmp (bs ++ e ∷ es) ≡ true → entries.follows bs e.name ≡ true
       above [] h = refl
       above (b ∷ bs) h = above_last entry_cmp b bs e es h
@@ -87,12 +89,29 @@ own_all q (x ∷ tree) zero d all there =
 own_all q (x ∷ tree) (suc i) d all there = own_all q tree i d (own_parts q x tree all).1 there
 
 -- What is known of each directory of such a tree.
-record IsOwn (tree : List Directory) (d : Directory) : Type 0 where
+record IsOwn (wide : Bool) (tree : List Directory) (d : Directory) : Type 0 where
   pub sound : IsSound d.path
   pub parent : has_dir tree (parent_path d.path) ≡ true
-  pub rec : IsRecord Dir d.rec
+  pub rec : IsRecord wide Dir d.rec
   pub each : list_all (is_entry_of tree d.path) d.entries ≡ true
-  pub entries : AreNextEntries d.path [] d.entries
+  pub entries : AreNextEntries wide d.path [] d.entries
+
+-- Where records are narrow, none has names.
+dir_fits : (wide : Bool) (d : Directory) → (wide || not (holds_xattrs d)) ≡ true → (fits_width wide d.rec ≡ true) × (list_all (λ (e : Entry). fits_width wide e.rec) d.entries ≡ true)
+dir_fits true d h = (refl, all d.entries) where
+  all : (es : List Entry) → list_all (λ (e : Entry). fits_width true e.rec) es ≡ true
+  all [] = refl
+  all (e ∷ es) = all es
+dir_fits false d h = let none = or_parts (is_named d.rec) (holds_named d.entries) (not_true _ h) in (ap not none.0, all d.entries none.1) where
+  all : (es : List Entry) → holds_named es ≡ false → list_all (λ (e : Entry). fits_width false e.rec) es ≡ true
+  all [] none = refl
+  all (e ∷ es) none = let both = or_parts (is_named e.rec) (holds_named es) none in and_from _ _ (ap not both.0) (all es both.1)
+
+all_fit : (tree : List Directory) (i : ℕ) (d : Directory) → slice_get tree i ≡ Some d → (has_xattrs tree || not (holds_xattrs d)) ≡ true
+all_fit tree i d there = by (has_xattrs tree) refl where
+  by : (b : Bool) → has_xattrs tree ≡ b → (b || not (holds_xattrs d)) ≡ true
+  by true e = refl
+  by false e = ap not (false_from (holds_xattrs d) (λ named. absurd (false≢true (sym e ∙ any_there holds_xattrs tree i d there named))))
 
 dir_only : (kind : Kind) → is_dir kind ≡ true → kind ≡ Dir
 dir_only Block h = absurd cc
@@ -103,8 +122,9 @@ dir_only Fifo h = absurd cc
 dir_only File h = absurd cc
 dir_only Socket h = absurd cc
 
-own_directory : (tree : List Directory) (d : Directory) → is_directory_of tree d ≡ true → list_all row_fits_types (own_rows d) ≡ true → list_all is_short (own_rows d) ≡ true → IsOwn tree d
-own_directory tree d own fits short =
+own_directory : (wide : Bool) (tree : List Directory) (d : Directory) → is_directory_of tree d ≡ true → list_all row_fits_types (own_rows d) ≡ true → list_all is_short (own_rows d) ≡ true → (wide || not (holds_xattrs d)) ≡ true → IsOwn wide tree d
+own_directory wide tree d own fits short width =
+    let w = dir_fits wide d width in
     let each = and_parts (is_dir d.rec.meta.kind && is_well_formed d.rec && list_all is_name d.path && has_dir tree (parent_path d.path) && ascends entry_cmp d.entries) (list_all (is_entry_of tree d.path) d.entries) own in
     let up = and_parts (is_dir d.rec.meta.kind && is_well_formed d.rec && list_all is_name d.path && has_dir tree (parent_path d.path)) (ascends entry_cmp d.entries) each.0 in
     let parent = and_parts (is_dir d.rec.meta.kind && is_well_formed d.rec && list_all is_name d.path) (has_dir tree (parent_path d.path)) up.0 in
@@ -116,9 +136,9 @@ own_directory tree d own fits short =
     record {
       sound = record { named = named.1; bytes = types.0; short = not_true (is_too_long d.path) s.0 };
       parent = parent.1;
-      rec = subst (λ (k : Kind). IsRecord k d.rec) (dir_only d.rec.meta.kind kind.0) (record_parts d.rec kind.1 types.1);
+      rec = subst (λ (k : Kind). IsRecord wide k d.rec) (dir_only d.rec.meta.kind kind.0) (record_parts wide d.rec kind.1 types.1 w.0);
       each = each.1;
-      entries = next_entries tree d.path [] d.entries up.1 each.1 f.1 s.1;
+      entries = next_entries wide tree d.path [] d.entries up.1 each.1 f.1 s.1 w.1;
     }
 
 -- the parent of a directory stands before it
@@ -176,9 +196,9 @@ there_itself : (before : List Directory) (d : Directory) (more : List Directory)
 there_itself [] d more = refl
 there_itself (x ∷ before) d more = there_itself before d more
 
-child : (first : Directory) (bs : List Directory) (d : Directory) (more : List Directory) → ascends dir_cmp ((first ∷ bs) ++ d ∷ more) ≡ true
-    → ((i : ℕ) (x : Directory) → slice_get ((first ∷ bs) ++ d ∷ more) i ≡ Some x → IsOwn ((first ∷ bs) ++ d ∷ more) x) → IsChild (first ∷ bs) d.path
-child first bs d more up each =
+child : (wide : Bool) (first : Directory) (bs : List Directory) (d : Directory) (more : List Directory) → ascends dir_cmp ((first ∷ bs) ++ d ∷ more) ≡ true
+    → ((i : ℕ) (x : Directory) → slice_get ((first ∷ bs) ++ d ∷ more) i ≡ Some x → IsOwn wide ((first ∷ bs) ++ d ∷ more) x) → IsChild (first ∷ bs) d.path
+child wide first bs d more up each =
     let dirs = first ∷ bs in
     let all = (first ∷ bs) ++ d ∷ more in
     let itself = there_itself (first ∷ bs) d more in
@@ -202,26 +222,26 @@ child first bs d more up each =
       above = above_last dir_cmp first bs d more up;
     }
 
-next_path : (before : List Directory) (d : Directory) (more : List Directory) → has_dir (before ++ d ∷ more) [] ≡ true → ascends dir_cmp (before ++ d ∷ more) ≡ true
-    → ((i : ℕ) (x : Directory) → slice_get (before ++ d ∷ more) i ≡ Some x → IsOwn (before ++ d ∷ more) x) → IsNextPath before d.path
-next_path [] d more root up each = root_first (d ∷ more) up root
-next_path (first ∷ bs) d more root up each = record { child = child first bs d more up each; sound = (each (length (first ∷ bs)) d (there_itself (first ∷ bs) d more)).sound }
+next_path : (wide : Bool) (before : List Directory) (d : Directory) (more : List Directory) → has_dir (before ++ d ∷ more) [] ≡ true → ascends dir_cmp (before ++ d ∷ more) ≡ true
+    → ((i : ℕ) (x : Directory) → slice_get (before ++ d ∷ more) i ≡ Some x → IsOwn wide (before ++ d ∷ more) x) → IsNextPath before d.path
+next_path wide [] d more root up each = root_first (d ∷ more) up root
+next_path wide (first ∷ bs) d more root up each = record { child = child wide first bs d more up each; sound = (each (length (first ∷ bs)) d (there_itself (first ∷ bs) d more)).sound }
 
-next_directories : (tree before ds : List Directory) → tree ≡ before ++ ds → has_dir tree [] ≡ true → ascends dir_cmp tree ≡ true → ((i : ℕ) (x : Directory) → slice_get tree i ≡ Some x → IsOwn tree x)
-    → AreNextDirectories (entry_count tree) before ds
-next_directories tree before [] whole root up each = tt
-next_directories tree before (d ∷ more) whole root up each =
+next_directories : (wide : Bool) (tree before ds : List Directory) → tree ≡ before ++ ds → has_dir tree [] ≡ true → ascends dir_cmp tree ≡ true → ((i : ℕ) (x : Directory) → slice_get tree i ≡ Some x → IsOwn wide tree x)
+    → AreNextDirectories wide (entry_count tree) before ds
+next_directories wide tree before [] whole root up each = tt
+next_directories wide tree before (d ∷ more) whole root up each =
     let all = before ++ d ∷ more in
     let own = each (length before) d (ap (λ (ds : List Directory). slice_get ds (length before)) whole ∙ there_itself before d more) in
     let count : entry_count tree ≡ entry_count before + entry_count (d ∷ more) = ap (λ (ds : List Directory). entry_count ds) whole ∙ sum_by-append (λ (v : Directory). length v.entries) before (d ∷ more) in
     let one = sum_by-cons (λ (v : Directory). length v.entries) d more in (
       record {
-        path = next_path before d more (ap (λ (ds : List Directory). has_dir ds []) (sym whole) ∙ root) (ap (ascends dir_cmp) (sym whole) ∙ up) (subst (λ (ds : List Directory). (i : ℕ) (x : Directory) → slice_get ds i ≡ Some x → IsOwn ds x) whole each);
+        path = next_path wide before d more (ap (λ (ds : List Directory). has_dir ds []) (sym whole) ∙ root) (ap (ascends dir_cmp) (sym whole) ∙ up) (subst (λ (ds : List Directory). (i : ℕ) (x : Directory) → slice_get ds i ≡ Some x → IsOwn wide ds x) whole each);
         rec = own.rec;
         few = omega (arith, count, one);
         entries = own.entries;
       },
-      next_directories tree (before ++ d ∷ []) more (whole ∙ sym (append_assoc before (d ∷ []) more)) root up each,
+      next_directories wide tree (before ++ d ∷ []) more (whole ∙ sym (append_assoc before (d ∷ []) more)) root up each,
     )
 
 -- what is written is read
@@ -242,5 +262,5 @@ all_written tree limit h =
       few = ltb-false max_dirs (length tree) few.0;
       entries = ltb-false max_entries (entry_count tree) few.1;
       order = front.1;
-      next = next_directories tree [] tree refl front.0 front.1 (λ i x there. own_directory tree x (all_there (is_directory_of tree) tree i x t.1 there) (own_all row_fits_types tree i x p.1 there) (own_all is_short tree i x h.short there));
+      next = next_directories (has_xattrs tree) tree [] tree refl front.0 front.1 (λ i x there. own_directory (has_xattrs tree) tree x (all_there (is_directory_of tree) tree i x t.1 there) (own_all row_fits_types tree i x p.1 there) (own_all is_short tree i x h.short there) (all_fit tree i x there));
     }

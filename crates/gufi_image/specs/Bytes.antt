@@ -1,5 +1,5 @@
 -- The bytes of the fields of an image. Numbers are little endian.
-use Rattle.std.specs.Prelude.{ℕ, List, [], ◌∷◌, ◌++◌, length, ℤ, codes}
+use Rattle.std.specs.Prelude.{ℕ, Bool, true, false, List, [], ◌∷◌, ◌++◌, length, ℤ, codes}
 use Rattle.std.specs.Int.{w16, w32, w64, to_le_bytes, cast_unsigned}
 use Rattle.gufi_base.specs.declared.record.Meta.{Meta}
 use Rattle.gufi_base.specs.declared.record.Rec.{Rec}
@@ -32,8 +32,18 @@ size_image m = u64_bytes m.size ++ (u64_bytes m.blksize ++ u64_bytes m.blocks)
 unfoldable pub times_image : Meta → List ℕ
 times_image m = i64_bytes m.atime ++ (i64_bytes m.mtime ++ i64_bytes m.ctime)
 
-unfoldable pub record_image : Rec → List ℕ
-record_image rec = owner_image rec.meta ++ (size_image rec.meta ++ (times_image rec.meta ++ (u16_bytes (length rec.link) ++ rec.link)))
+-- a wide record holds names of extended attributes behind its link
+abbrev pub xattrs_image : Bool → List ℕ → List ℕ
+xattrs_image false names = []
+xattrs_image true names = u16_bytes (length names) ++ names
+
+unfoldable pub record_image : Bool → Rec → List ℕ
+record_image wide rec = owner_image rec.meta ++ (size_image rec.meta ++ (times_image rec.meta ++ (u16_bytes (length rec.link) ++ (rec.link ++ xattrs_image wide rec.xattrs))))
+
+-- the version of an image, by whether its records are wide
+abbrev pub version_of : Bool → ℕ
+version_of false = 1
+version_of true = 2
 
 abbrev pub name_image : List ℕ → List ℕ
 name_image name = u8_bytes (length name) ++ name

@@ -25,17 +25,17 @@ follows [] name = true
 follows (entry ∷ entries) name = is_lt (slice_cmp nat_cmp (last_of entry entries).name name)
 
 -- an entry of the directory at a path, behind those before it
-unfoldable pub entry_at : Components → List Entry → List ℕ → Result (Entry × List ℕ) Flaw
-entry_at path before bytes = do
+unfoldable pub entry_at : Bool → Components → List Entry → List ℕ → Result (Entry × List ℕ) Flaw
+entry_at wide path before bytes = do
   letter ← number_at w8 bytes
   kind ← ok_or (entry_kind letter.0) (flaw bytes kinds.Number)
   name ← name_at path letter.1
   wrong (not (follows before name.0)) bytes kinds.Order
-  rec ← record_at kind name.1
+  rec ← record_at wide kind name.1
   Ok (record { name = name.0; rec = rec.0 }, rec.1)
 
-abbrev pub one_entry : Components → List Entry → List ℕ → Result (List Entry × List ℕ) Flaw
-one_entry path before bytes = entry_at path before bytes >>= λ entry. Ok (before ++ entry.0 ∷ [], entry.1)
+abbrev pub one_entry : Bool → Components → List Entry → List ℕ → Result (List Entry × List ℕ) Flaw
+one_entry wide path before bytes = entry_at wide path before bytes >>= λ entry. Ok (before ++ entry.0 ∷ [], entry.1)
 
-unfoldable pub entries_at : ℕ → Components → List ℕ → Result (List Entry × List ℕ) Flaw
-entries_at count path bytes = repeated (one_entry path) count [] bytes
+unfoldable pub entries_at : Bool → ℕ → Components → List ℕ → Result (List Entry × List ℕ) Flaw
+entries_at wide count path bytes = repeated (one_entry wide path) count [] bytes

@@ -1,13 +1,14 @@
 -- The fields of an image, read from the left.
-use Rattle.std.specs.Prelude.{◌≡◌, ℕ, Bool, not, nat_lt, List, length, take, drop, Result, Ok, Err, ℤ, if◌then◌else◌}
+use Rattle.std.specs.Prelude.{◌≡◌, ℕ, Bool, true, false, not, nat_lt, List, [], length, take, drop, Result, Ok, Err, ℤ, if◌then◌else◌}
 use Rattle.std.specs.List.{list_all}
 use Rattle.std.specs.Int.{Width, w16, w32, w64, byte_len, from_le_bytes, cast_signed}
 use Rattle.gufi_base.specs.declared.record.Kind.{Kind}
 use Rattle.gufi_base.specs.declared.record.Meta.{Meta}
 use Rattle.gufi_base.specs.declared.record.Rec.{Rec}
-use Rattle.gufi_base.specs.Limits.{max_link}
+use Rattle.gufi_base.specs.Limits.{max_link, max_xattrs}
 use Rattle.gufi_base.specs.Basics.{◌>>=◌, ◌>>◌, refuse}
 use Rattle.gufi_base.specs.Names.{is_path_byte}
+use Rattle.gufi_base.specs.Xattrs.{are_xattrs}
 use Rattle.gufi_image.specs.declared.fault.ImageKind.{ImageKind}
 use Rattle.gufi_image.specs.declared.fault.ImageKind.TheVariants as kinds
 use Rattle.gufi_image.specs.declared.fault.Flaw.{Flaw}
@@ -67,9 +68,24 @@ link_at bytes = do
   wrong (not (list_all is_path_byte link.0)) bytes kinds.Name
   Ok link
 
+-- names of extended attributes, behind their length
+unfoldable pub names_at : List ℕ → Result (List ℕ × List ℕ) Flaw
+names_at bytes = do
+  count ← number_at w16 bytes
+  wrong (nat_lt max_xattrs count.0) bytes kinds.Name
+  names ← bytes_at count.0 count.1
+  wrong (not (are_xattrs names.0)) bytes kinds.Name
+  Ok names
+
+-- those of a record, which has some only where it is wide
+abbrev pub xattrs_at : Bool → List ℕ → Result (List ℕ × List ℕ) Flaw
+xattrs_at false bytes = Ok ([], bytes)
+xattrs_at true bytes = names_at bytes
+
 -- a record of this kind
-unfoldable pub record_at : Kind → List ℕ → Result (Rec × List ℕ) Flaw
-record_at kind bytes = do
+unfoldable pub record_at : Bool → Kind → List ℕ → Result (Rec × List ℕ) Flaw
+record_at wide kind bytes = do
   meta ← meta_at kind bytes
   link ← link_at meta.1
-  Ok (record { meta = meta.0; link = link.0 }, link.1)
+  xattrs ← xattrs_at wide link.1
+  Ok (record { meta = meta.0; link = link.0; xattrs = xattrs.0 }, xattrs.1)

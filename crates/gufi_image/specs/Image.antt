@@ -1,6 +1,6 @@
--- The bytes of an index image, version 1.
-use Rattle.std.specs.Prelude.{ℕ, ◌-◌, ◌^◌, Bool, true, false, List, [], ◌++◌, length, unwrap_or, if◌then◌else◌}
-use Rattle.std.specs.List.{flat_map}
+-- The bytes of an index image. Its version is the least that can hold the tree.
+use Rattle.std.specs.Prelude.{ℕ, ◌-◌, ◌^◌, Bool, true, false, not, ◌||◌, List, [], ◌++◌, length, unwrap_or, if◌then◌else◌}
+use Rattle.std.specs.List.{list_any, flat_map}
 use Rattle.gufi_base.specs.declared.record.Rec.{Rec}
 use Rattle.gufi_base.specs.Basics.{is_empty, last_of}
 use Rattle.gufi_base.specs.Kinds.{kind_letter}
@@ -8,13 +8,26 @@ use Rattle.gufi_base.specs.Paths.{Components, parent_path}
 use Rattle.gufi_tree.specs.declared.tree.Entry.{Entry}
 use Rattle.gufi_tree.specs.Tree.{Directory, place_of, entry_count}
 use Rattle.gufi_roll.specs.CanRoll.{can_roll}
-use Rattle.gufi_image.specs.Bytes.{magic, u8_bytes, u16_bytes, u32_bytes, u64_bytes, name_image, record_image}
+use Rattle.gufi_image.specs.Bytes.{magic, u8_bytes, u16_bytes, u32_bytes, u64_bytes, name_image, record_image, version_of}
 
-unfoldable pub entry_image : Entry → List ℕ
-entry_image entry = u8_bytes (kind_letter entry.rec.meta.kind) ++ (name_image entry.name ++ record_image entry.rec)
+-- a file has names of extended attributes; a directory or one of its entries has some; and some directory of a tree
+abbrev pub is_named : Rec → Bool
+is_named rec = not (is_empty rec.xattrs)
 
-abbrev pub entries_image : List Entry → List ℕ
-entries_image entries = flat_map entry_image entries
+abbrev pub holds_named : List Entry → Bool
+holds_named entries = list_any (λ (e : Entry). is_named e.rec) entries
+
+abbrev pub holds_xattrs : Directory → Bool
+holds_xattrs dir = is_named dir.rec || holds_named dir.entries
+
+abbrev pub has_xattrs : List Directory → Bool
+has_xattrs tree = list_any holds_xattrs tree
+
+unfoldable pub entry_image : Bool → Entry → List ℕ
+entry_image wide entry = u8_bytes (kind_letter entry.rec.meta.kind) ++ (name_image entry.name ++ record_image wide entry.rec)
+
+abbrev pub entries_image : Bool → List Entry → List ℕ
+entries_image wide entries = flat_map (entry_image wide) entries
 
 -- the parent's place from 0, or all ones for the root's parent
 abbrev pub parent_number : List Directory → Components → ℕ
@@ -25,19 +38,19 @@ flag_byte true = 1
 flag_byte false = 0
 
 -- a directory of these parts
-unfoldable pub parts_image : ℕ → Bool → Components → Rec → List Entry → List ℕ
-parts_image parent flag path rec entries =
-    u32_bytes parent ++ (name_image (last_of [] path) ++ (u8_bytes (flag_byte flag) ++ (record_image rec ++ (u32_bytes (length entries) ++ entries_image entries))))
+unfoldable pub parts_image : Bool → ℕ → Bool → Components → Rec → List Entry → List ℕ
+parts_image wide parent flag path rec entries =
+    u32_bytes parent ++ (name_image (last_of [] path) ++ (u8_bytes (flag_byte flag) ++ (record_image wide rec ++ (u32_bytes (length entries) ++ entries_image wide entries))))
 
 -- a directory of a tree, with its flag by the rule of roll-up
-abbrev pub directory_image : List Directory → ℕ → Directory → List ℕ
-directory_image tree limit dir = parts_image (parent_number tree dir.path) (can_roll tree limit dir.path) dir.path dir.rec dir.entries
+abbrev pub directory_image : Bool → List Directory → ℕ → Directory → List ℕ
+directory_image wide tree limit dir = parts_image wide (parent_number tree dir.path) (can_roll tree limit dir.path) dir.path dir.rec dir.entries
 
-abbrev pub directories_image : List Directory → ℕ → List Directory → List ℕ
-directories_image tree limit dirs = flat_map (directory_image tree limit) dirs
+abbrev pub directories_image : Bool → List Directory → ℕ → List Directory → List ℕ
+directories_image wide tree limit dirs = flat_map (directory_image wide tree limit) dirs
 
-unfoldable pub head_image : List Directory → ℕ → List ℕ
-head_image tree limit = magic ++ (u16_bytes 1 ++ (u64_bytes limit ++ (u32_bytes (length tree) ++ u32_bytes (entry_count tree))))
+unfoldable pub head_image : Bool → List Directory → ℕ → List ℕ
+head_image wide tree limit = magic ++ (u16_bytes (version_of wide) ++ (u64_bytes limit ++ (u32_bytes (length tree) ++ u32_bytes (entry_count tree))))
 
 unfoldable pub image_text : List Directory → ℕ → List ℕ
-image_text tree limit = head_image tree limit ++ directories_image tree limit tree
+image_text tree limit = head_image (has_xattrs tree) tree limit ++ directories_image (has_xattrs tree) tree limit tree

@@ -1,11 +1,11 @@
 -- Reading an image whose bytes come in pieces.
-use Rattle.std.specs.Prelude.{◌≡◌, ◌<◌, ◌≤◌, ℕ, ◌+◌, ◌-◌, List, [], ◌++◌, length, Option, Some, None, Result, Ok, Err}
+use Rattle.std.specs.Prelude.{◌≡◌, ◌<◌, ◌≤◌, ℕ, ◌+◌, ◌-◌, ◌^◌, Bool, not, ◌==◌, ◌&&◌, List, [], ◌++◌, length, Option, Some, None, Result, Ok, Err}
 use Rattle.gufi_base.specs.Limits.{max_dirs, max_entries, max_image}
 use Rattle.gufi_base.specs.Basics.{◌>>=◌, result_map_err}
 use Rattle.gufi_base.specs.Paths.{Components}
 use Rattle.gufi_tree.specs.declared.tree.Entry.{Entry}
 use Rattle.gufi_tree.specs.Packs.{Packs, entries_of}
-use Rattle.gufi_tree.specs.Tree.{entry_count}
+use Rattle.gufi_tree.specs.Tree.{Directory, entry_count}
 use Rattle.gufi_snap.specs.Snap.{Snap}
 use Rattle.gufi_image.specs.declared.fault.Flaw.{Flaw}
 use Rattle.gufi_image.specs.declared.fault.ImageError.{ImageError}
@@ -17,10 +17,11 @@ use Rattle.gufi_image.specs.declared.head.Head.{Head}
 use Rattle.gufi_image.specs.declared.directory.Open.{Open}
 use Rattle.gufi_image.specs.declared.progress.Directories.{Directories as Kept}
 use Rattle.gufi_image.specs.declared.progress.Progress.{Progress}
+use Rattle.gufi_image.specs.Image.{has_xattrs}
 use Rattle.gufi_image.specs.Repeated.{repeated}
 use Rattle.gufi_image.specs.Entries.{one_entry}
 use Rattle.gufi_image.specs.Directories.{Front, with_entries, with_one, one_directory}
-use Rattle.gufi_image.specs.Reading.{Counts, all_from, rolled, snapshot_at, fault_in}
+use Rattle.gufi_image.specs.Reading.{Counts, is_bare, all_from, rolled, snapshot_at, fault_in}
 use Rattle.gufi_image.specs.Placed.{AreDirectories, AreParents, IsPart}
 use Rattle.gufi_image.specs.Parts.{counted}
 use Rattle.gufi_image.specs.Views.{headed, front_near}
@@ -55,20 +56,20 @@ Halts room read f = (more : List ℕ) → length more ≤ room → Stops f more 
 -- ---- what is still to come
 
 -- the entries of a directory
-abbrev pub entries_from : Components → ℕ → List Entry → List ℕ → Result (List Entry × List ℕ) Flaw
-entries_from path count before bytes = repeated (one_entry path) (count - length before) before bytes
+abbrev pub entries_from : Bool → Components → ℕ → List Entry → List ℕ → Result (List Entry × List ℕ) Flaw
+entries_from wide path count before bytes = repeated (one_entry wide path) (count - length before) before bytes
 
 -- directories
-abbrev pub rest_from : ℕ → ℕ → Front → List ℕ → Result (Front × List ℕ) Flaw
-rest_from total count front bytes = repeated (one_directory total) (count - length front.dirs) front bytes
+abbrev pub rest_from : Bool → ℕ → ℕ → Front → List ℕ → Result (Front × List ℕ) Flaw
+rest_from wide total count front bytes = repeated (one_directory wide total) (count - length front.dirs) front bytes
 
 -- directories behind one whose entries these are
-abbrev pub rest_with : ℕ → ℕ → ℕ → Front → Open → Result (List Entry × List ℕ) Flaw → Result (Front × List ℕ) Flaw
-rest_with total count k front part entries = entries >>= λ es. rest_from total count (with_one front (with_entries (headed k part) es.0)) es.1
+abbrev pub rest_with : Bool → ℕ → ℕ → ℕ → Front → Open → Result (List Entry × List ℕ) Flaw → Result (Front × List ℕ) Flaw
+rest_with wide total count k front part entries = entries >>= λ es. rest_from wide total count (with_one front (with_entries (headed k part) es.0)) es.1
 
 abbrev pub rest_behind : ℕ → Head → Kept → Option Open → List ℕ → Result (Front × List ℕ) Flaw
-rest_behind k head before None bytes = rest_from head.entries head.dirs (front_near k before) bytes
-rest_behind k head before (Some part) bytes = rest_with head.entries head.dirs k (front_near k before) part (entries_from part.path part.count (entries_of before.packing.pending) bytes)
+rest_behind k head before None bytes = rest_from head.wide head.entries head.dirs (front_near k before) bytes
+rest_behind k head before (Some part) bytes = rest_with head.wide head.entries head.dirs k (front_near k before) part (entries_from head.wide part.path part.count (entries_of before.packing.pending) bytes)
 
 abbrev pub rest_of : ℕ → Progress → List ℕ → Result (Front × List ℕ) Flaw
 rest_of k p bytes = rest_behind k p.head p.directories p.part bytes
@@ -97,12 +98,17 @@ Fails room read errors.Memory = Unit {0}
 Fails room read (errors.Fault offset kind) = (bytes more : List ℕ) → length more ≤ room → length bytes + (room - length more) ≡ max_image
     → result_map_err (fault_in bytes) (read (room - length more) more) ≡ Err (errors.Fault offset kind)
 
+-- the directories are what the head says
+abbrev pub is_as_said : Head → List Directory → Bool
+is_as_said head dirs = (entry_count dirs == head.entries) && not (is_bare head.wide dirs)
+
 -- ---- what was read
 
 pub record HasFew (head : Head) : Type 0 where
   pub some : 0 < head.dirs
   pub few : head.dirs ≤ max_dirs
   pub entries : head.entries ≤ max_entries
+  pub left : head.left < 2 ^ 63 + max_image
 
 -- so many directories with the one whose entries are being read
 abbrev pub IsNextOpen : ℕ → ℕ → Packs → Option Open → Type 0
@@ -114,6 +120,7 @@ pub record IsRead (p : Progress) : Type 0 where
   pub directories : AreDirectories (length p.directories.packing.dirs) p.head.entries p.directories.packing.dirs
   pub parents : AreParents p.directories.packing.dirs p.directories.parents.items
   pub count : p.directories.entries ≡ entry_count p.directories.packing.dirs
+  pub named : p.directories.named ≡ (p.head.wide && has_xattrs p.directories.packing.dirs)
   pub part : IsNextOpen p.head.dirs p.head.entries p.directories.packing p.part
 
 abbrev pub IsReadBy : Option Progress → Type 0

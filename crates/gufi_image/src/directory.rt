@@ -191,20 +191,21 @@ fn flag_at(bytes: &[u8]) -> Result<(Flag, &[u8]), Refused>
 pub(crate) fn heading_at<'a>(
     alloc: Global,
     bytes: &'a [u8],
+    wide: bool,
     before: &Packing,
     so_far: u32,
     total: u32,
 ) -> Result<(Open, &'a [u8]), Refused>
     requires sorted { AreSorted before.now.dirs }
     requires so_far { so_far ≡ entry_count before.now.dirs }
-    ensures gives { Gives (λ x. (heading x.0, x.1.now)) result (heading_at total before.now.dirs bytes.now) }
+    ensures gives { Gives (λ x. (heading x.0, x.1.now)) result (heading_at wide total before.now.dirs bytes.now) }
     ensures part { IfOk result (λ x. IsOpen total before.now.dirs x.0) }
     ensures left { IfOk result (λ x. x.0.flag.left < 2 ^ 63) }
 {
     let (located, rest) = path_at(alloc, bytes, before)?;
     let Located { path, parent } = located;
     let (flag, rest) = flag_at(rest)?;
-    let (own, counts) = record_at(rest, Kind::Dir)?;
+    let (own, counts) = record_at(rest, wide, Kind::Dir)?;
     let (count, rest) = u32_at(counts)?;
     if count as u64 + so_far as u64 > total as u64 {
         return Err(flaw(counts, ImageKind::Number));

@@ -12,11 +12,11 @@ pub enum ImageKind {
     Magic,
     /// The field isn't wholly there.
     Cut,
-    /// No directory, a mode or flag or type that is none, or counts of entries that aren't the head's.
+    /// No directory, a mode or flag or type that is none, counts of entries that aren't the head's, or a version that isn't the least.
     Number,
     /// A directory that doesn't stand behind its parent.
     Parent,
-    /// What is no name, or taken, or makes a path too long; or what is no link.
+    /// What is no name, or taken, or makes a path too long; or what is no link, or no names of extended attributes.
     Name,
     /// A directory or entry that isn't above the one before.
     Order,

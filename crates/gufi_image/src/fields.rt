@@ -6,13 +6,15 @@ ghost use Rattle.std.specs.Prelude.{◌≡◌, IfOk};
 ghost use Rattle.std.specs.Int.{w8, w16, w32, w64};
 ghost use Rattle.std.specs.List.{list_all};
 ghost use Rattle.gufi_base.specs.Names.{is_path_byte};
-ghost use Rattle.gufi_image.specs.Fields.{Gives, flaw, bytes_at, number_at, signed_at, meta_at, link_at, record_at};
+ghost use Rattle.gufi_image.specs.Fields.{Gives, flaw, bytes_at, number_at, signed_at, meta_at, link_at, names_at, xattrs_at, record_at};
 
 use crate::fault::{Flaw, ImageKind, Refused};
 use byteorder::{ByteOrder, LittleEndian};
-use gufi_base::{Kind, Meta, RecRef};
+use gufi_base::{Kind, Meta, RecRef, are_xattrs};
 
 const MAX_LINK: u16 = 4096;
+
+const MAX_XATTRS: u16 = 4096;
 
 /// A fault of the field that begins here.
 pub(crate) fn flaw(bytes: &[u8], kind: ImageKind) -> Refused
@@ -136,29 +138,62 @@ fn link_at(bytes: &[u8]) -> Result<(&[u8], &[u8]), Refused>
     Ok((link, rest))
 }
 
-/// A record whose link stays where it stands in the image.
+/// Names of extended attributes, behind their length.
+#[tactic(auto, unfolding(crate::specs::Fields::names_at))]
+fn names_at(bytes: &[u8]) -> Result<(&[u8], &[u8]), Refused>
+    ensures { Gives (λ x. (x.0.now, x.1.now)) result (names_at bytes.now) }
+{
+    let (count, rest) = u16_at(bytes)?;
+    if count > MAX_XATTRS {
+        return Err(flaw(bytes, ImageKind::Name));
+    }
+    let (names, rest) = bytes_at(rest, count as usize)?;
+    if !are_xattrs(names) {
+        return Err(flaw(bytes, ImageKind::Name));
+    }
+    Ok((names, rest))
+}
+
+/// The names of a record's extended attributes. It has some only where it is wide.
+#[inline]
+fn xattrs_at(bytes: &[u8], wide: bool) -> Result<(&[u8], &[u8]), Refused>
+    ensures { Gives (λ x. (x.0.now, x.1.now)) result (xattrs_at wide bytes.now) }
+{
+    if wide {
+        return names_at(bytes);
+    }
+    Ok((&[], bytes))
+}
+
+/// A record whose link and names of extended attributes stay where they stand in the image.
 #[derive(Drop)]
 pub(crate) struct Borrowed<'a> {
     pub meta: Meta,
     pub link: &'a [u8],
+    pub xattrs: &'a [u8],
 }
 
 impl Borrowed<'_> {
     pub(crate) fn as_rec_ref(&self) -> RecRef<'_>
-        ensures { result ≡ record { meta = self.now.meta; link = self.now.link.now } }
+        ensures { result ≡ record { meta = self.now.meta; link = self.now.link.now; xattrs = self.now.xattrs.now } }
     {
-        RecRef::of(&self.meta, self.link)
+        RecRef::of(&self.meta, self.link, self.xattrs)
     }
 }
 
 /// A record of this kind.
 #[inline(always)]
 #[tactic(auto, unfolding(crate::specs::Fields::record_at))]
-pub(crate) fn record_at(bytes: &[u8], kind: Kind) -> Result<(Borrowed<'_>, &[u8]), Refused>
-    ensures gives { Gives (λ x. (record { meta = x.0.meta; link = x.0.link.now }, x.1.now)) result (record_at kind bytes.now) }
+pub(crate) fn record_at(
+    bytes: &[u8],
+    wide: bool,
+    kind: Kind,
+) -> Result<(Borrowed<'_>, &[u8]), Refused>
+    ensures gives { Gives (λ x. (record { meta = x.0.meta; link = x.0.link.now; xattrs = x.0.xattrs.now }, x.1.now)) result (record_at wide kind bytes.now) }
     ensures kind { IfOk result (λ x. x.0.meta.kind ≡ kind) }
 {
     let (meta, rest) = meta_at(bytes, kind)?;
     let (link, rest) = link_at(rest)?;
-    Ok((Borrowed { meta, link }, rest))
+    let (xattrs, rest) = xattrs_at(rest, wide)?;
+    Ok((Borrowed { meta, link, xattrs }, rest))
 }

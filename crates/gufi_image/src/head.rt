@@ -16,9 +16,12 @@ const MAX_DIRS: u32 = 262144;
 
 const MAX_ENTRIES: u32 = 1048576;
 
-/// The counts of the head, and how many bytes are left from the count of entries on.
+/// The counts of the head, whether the records are wide, and how many bytes are left from the count of entries on.
+///
+/// A wide record holds names of extended attributes. Those of version 2 are wide.
 #[derive(Clone, Copy)]
 pub(crate) struct Head {
+    pub wide: bool,
     pub limit: u64,
     pub dirs: u32,
     pub entries: u32,
@@ -31,20 +34,21 @@ fn begins_with_mark(bytes: &[u8]) -> bool
     bytes.starts_with(b"GUFIX\0")
 }
 
+/// The version, which tells whether the records are wide.
 #[tactic(auto, unfolding(crate::specs::Reading::version_at))]
-fn version_at(bytes: &[u8]) -> Result<(u16, &[u8]), Refused>
+fn version_at(bytes: &[u8]) -> Result<(bool, &[u8]), Refused>
     ensures { Gives (λ x. (x.0, x.1.now)) result (version_at bytes.now) }
 {
     let (version, rest) = u16_at(bytes)?;
-    if version != 1 {
+    if version != 1 && version != 2 {
         return Err(flaw(bytes, ImageKind::Magic));
     }
-    Ok((version, rest))
+    Ok((version == 2, rest))
 }
 
 #[tactic(auto, unfolding(crate::specs::Reading::counts_at))]
-fn counts_at(bytes: &[u8]) -> Result<(Head, &[u8]), Refused>
-    ensures gives { Gives (λ x. (counts x.0, x.1.now)) result (counts_at bytes.now) }
+fn counts_at(bytes: &[u8], wide: bool) -> Result<(Head, &[u8]), Refused>
+    ensures gives { Gives (λ x. (counts x.0, x.1.now)) result (counts_at wide bytes.now) }
     ensures some { IfOk result (λ x. 0 < x.0.dirs) }
     ensures few { IfOk result (λ x. x.0.dirs ≤ max_dirs) }
     ensures entries { IfOk result (λ x. x.0.entries ≤ max_entries) }
@@ -63,6 +67,7 @@ fn counts_at(bytes: &[u8]) -> Result<(Head, &[u8]), Refused>
         return Err(flaw(from_entries, ImageKind::TooMany { limit: 1048576 }));
     }
     let head = Head {
+        wide,
         limit,
         dirs,
         entries,
@@ -82,6 +87,6 @@ pub(crate) fn head_at(bytes: &[u8]) -> Result<(Head, &[u8]), Refused>
     if !begins_with_mark(bytes) {
         return Err(flaw(bytes, ImageKind::Magic));
     }
-    let (_version, rest) = version_at(&bytes[6..])?;
-    counts_at(rest)
+    let (wide, rest) = version_at(&bytes[6..])?;
+    counts_at(rest, wide)
 }

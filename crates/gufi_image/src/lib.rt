@@ -11,6 +11,7 @@ mod fields;
 mod head;
 mod laws;
 mod name;
+mod named;
 mod progress;
 mod put;
 mod reader;

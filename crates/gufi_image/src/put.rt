@@ -2,7 +2,7 @@
 
 ghost use Rattle.std.specs.Prelude.{◌≡◌, ◌<◌, ◌^◌, ◌++◌, length, IsTrue, OnOk};
 ghost use Rattle.gufi_base.specs.Names.{is_name};
-ghost use Rattle.gufi_image.specs.Bytes.{u8_bytes, u16_bytes, u32_bytes, u64_bytes, owner_image, size_image, times_image, record_image, name_image};
+ghost use Rattle.gufi_image.specs.Bytes.{u8_bytes, u16_bytes, u32_bytes, u64_bytes, owner_image, size_image, times_image, xattrs_image, record_image, name_image};
 
 use byteorder::{ByteOrder, LittleEndian};
 use gufi_base::{Memory, Meta, RecRef, put};
@@ -82,12 +82,12 @@ fn put_times(out: &mut Vec<u8>, meta: &Meta) -> Result<(), Memory>
     )
 }
 
-/// The length of a link in two bytes.
+/// The length of a link or of names in two bytes.
 #[tactic(auto, unfolding(crate::specs::Bytes::u16_bytes))]
-fn put_length(out: &mut Vec<u8>, link: &[u8]) -> Result<(), Memory>
-    ensures { OnOk result (out.new.items ≡ out.old.items ++ u16_bytes (length link.now)) }
+fn put_length(out: &mut Vec<u8>, bytes: &[u8]) -> Result<(), Memory>
+    ensures { OnOk result (out.new.items ≡ out.old.items ++ u16_bytes (length bytes.now)) }
 {
-    put_u16(out, (link.len() % 65536) as u16)
+    put_u16(out, (bytes.len() % 65536) as u16)
 }
 
 /// A count in four bytes.
@@ -98,9 +98,20 @@ pub(crate) fn put_count(out: &mut Vec<u8>, count: usize) -> Result<(), Memory>
     put_u32(out, (count % 4294967296) as u32)
 }
 
+/// The names of a record's extended attributes behind their length, where it is wide.
+fn put_xattrs(out: &mut Vec<u8>, wide: bool, names: &[u8]) -> Result<(), Memory>
+    ensures { OnOk result (out.new.items ≡ out.old.items ++ xattrs_image wide names.now) }
+{
+    if !wide {
+        return Ok(());
+    }
+    put_length(out, names)?;
+    put(out, names)
+}
+
 #[tactic(auto, unfolding(crate::specs::Bytes::record_image))]
-pub(crate) fn put_record(out: &mut Vec<u8>, rec: &RecRef<'_>) -> Result<(), Memory>
-    ensures { OnOk result (out.new.items ≡ out.old.items ++ record_image rec.now) }
+pub(crate) fn put_record(out: &mut Vec<u8>, wide: bool, rec: &RecRef<'_>) -> Result<(), Memory>
+    ensures { OnOk result (out.new.items ≡ out.old.items ++ record_image wide rec.now) }
 {
     let meta = rec.meta();
     put_owner(out, meta)?;
@@ -108,7 +119,8 @@ pub(crate) fn put_record(out: &mut Vec<u8>, rec: &RecRef<'_>) -> Result<(), Memo
     put_times(out, meta)?;
     let link = rec.link();
     put_length(out, link)?;
-    put(out, link)
+    put(out, link)?;
+    put_xattrs(out, wide, rec.xattrs())
 }
 
 /// A name or the root's nothing, behind its length.

@@ -6,11 +6,11 @@ ghost use Rattle.gufi_base.specs.Basics.{GivesUnless};
 ghost use Rattle.gufi_tree.specs.Kept.{HasParents};
 ghost use Rattle.gufi_roll.specs.CanRoll.{roll_flags};
 ghost use Rattle.gufi_image.specs.Fields.{Gives};
-ghost use Rattle.gufi_image.specs.Reading.{head_at, all_from, rolled, image_means, differs, wrong_flag};
+ghost use Rattle.gufi_image.specs.Reading.{head_at, is_bare, all_from, rolled, image_means, differs, wrong_flag};
 ghost use Rattle.gufi_image.specs.Placed.{IsWholeTree};
 ghost use Rattle.gufi_image.specs.Parts.{flags_of, counted};
 ghost use Rattle.gufi_image.specs.Views.{nearer, front_near};
-ghost use Rattle.gufi_image.specs.Pieces.{OnFlaw, UnlessMemory, Stops, Alike, Halts, Tells, Fails, IsRead, IsReadBy, IsBegun, rest_of, judged, resume, resumed};
+ghost use Rattle.gufi_image.specs.Pieces.{OnFlaw, UnlessMemory, Stops, Alike, Halts, Tells, Fails, IsRead, IsReadBy, IsBegun, is_as_said, rest_of, judged, resume, resumed};
 ghost use Rattle.gufi_image.specs.Reader.{HasRead};
 
 use crate::directory::Flag;
@@ -29,6 +29,9 @@ const MAX_IMAGE: usize = 1_073_741_824;
 
 /// How many bytes tell whether an image begins as one does.
 const MARK: usize = 6;
+
+/// How many bytes the version stands before the count of entries.
+const VERSION: usize = 14;
 
 /// All directories with their flags, and the limit.
 #[derive(Drop)]
@@ -52,7 +55,24 @@ fn begin<'a>(alloc: Global, rest: &mut &'a [u8], room: usize) -> Result<Progress
     Ok(Progress::new(alloc, head))
 }
 
-/// Nothing may stand behind the last directory. Where the entries aren't as many as the head says, that comes first, at the end.
+/// Whether no row has names, though the records are wide.
+fn is_bare(progress: &Progress) -> bool
+    requires { IsRead progress.now }
+    ensures { result ≡ is_bare progress.now.head.wide progress.now.directories.packing.dirs }
+{
+    progress.head.wide && !progress.directories.named
+}
+
+/// Whether the directories are what the head says: so many entries, and some names where the version is that of names.
+fn is_as_said(progress: &Progress) -> bool
+    requires { IsRead progress.now }
+    ensures { result ≡ is_as_said progress.now.head progress.now.directories.packing.dirs }
+{
+    progress.directories.entries == progress.head.entries && !is_bare(progress)
+}
+
+/// Nothing may stand behind the last directory. Where the entries aren't as many as the head says, or the version isn't the least, that comes
+/// first, at the end.
 fn end<'a>(progress: &Progress, rest: &mut &'a [u8]) -> Result<(), Refused>
     requires read { IsRead progress.now }
     requires whole { progress.now.head.dirs ≤ length progress.now.directories.packing.dirs }
@@ -62,7 +82,7 @@ fn end<'a>(progress: &Progress, rest: &mut &'a [u8]) -> Result<(), Refused>
     if rest.is_empty() {
         return Ok(());
     }
-    if progress.directories.entries == progress.head.entries {
+    if is_as_said(progress) {
         return Err(flaw(*rest, ImageKind::Trailing));
     }
     *rest = &[];
@@ -209,6 +229,7 @@ fn all_of(progress: Progress, rest: &[u8], room: usize) -> Result<Parts, Refused
     ensures whole { IfOk result (λ parts. IsWholeTree parts.directories.packing.dirs) }
     ensures parents { IfOk result (λ parts. HasParents parts.directories.packing.dirs parts.directories.parents.items) }
 {
+    let bare = is_bare(&progress);
     let Progress {
         head,
         directories,
@@ -216,6 +237,11 @@ fn all_of(progress: Progress, rest: &[u8], room: usize) -> Result<Parts, Refused
     } = progress;
     if directories.entries != head.entries {
         let left = head.left.saturating_sub(room);
+        let kind = ImageKind::Number;
+        return Err(Refused::Flaw(Flaw { left, kind }));
+    }
+    if bare {
+        let left = head.left.saturating_sub(room) + VERSION;
         let kind = ImageKind::Number;
         return Err(Refused::Flaw(Flaw { left, kind }));
     }

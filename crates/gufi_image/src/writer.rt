@@ -4,9 +4,10 @@ ghost use Rattle.std.specs.Prelude.{◌≡◌, ◌<◌, ◌++◌, [], length, On
 ghost use Rattle.gufi_base.specs.Basics.{last_of};
 ghost use Rattle.gufi_tree.specs.Tree.{entry_count, HasTreeShape};
 ghost use Rattle.gufi_tree.specs.Places.{path_at};
-ghost use Rattle.gufi_image.specs.Bytes.{name_image};
+ghost use Rattle.gufi_image.specs.Bytes.{name_image, version_of};
 ghost use Rattle.gufi_image.specs.Image.{entry_image, entries_image, parent_number, flag_byte, parts_image, directories_image, head_image, image_text};
 
+use crate::named::has_xattrs;
 use crate::put::{put_count, put_name, put_record, put_u8, put_u16, put_u32, put_u64};
 use gufi_base::{Memory, PathRef, RecRef, put};
 use gufi_snap::Snapshot;
@@ -16,24 +17,24 @@ use std::alloc::Global;
 /// The bytes of the fields before the directories.
 const HEAD: usize = 24;
 
-/// The bytes of a row besides its name and its link: at most those of a directory.
-const RECORD: usize = 86;
+/// The bytes of a row besides its name, its link and its names of extended attributes: at most those of a directory.
+const RECORD: usize = 88;
 
 #[tactic(auto, unfolding(crate::specs::Image::entry_image))]
-fn put_entry(out: &mut Vec<u8>, entry: &EntryRef<'_>) -> Result<(), Memory>
-    ensures { OnOk result (out.new.items ≡ out.old.items ++ entry_image entry.now) }
+fn put_entry(out: &mut Vec<u8>, wide: bool, entry: &EntryRef<'_>) -> Result<(), Memory>
+    ensures { OnOk result (out.new.items ≡ out.old.items ++ entry_image wide entry.now) }
 {
     let rec = entry.rec();
     put_u8(out, rec.meta().kind.letter())?;
     put_entry_name(out, entry)?;
-    put_record(out, &rec)
+    put_record(out, wide, &rec)
 }
 
-fn put_entries(out: &mut Vec<u8>, entries: &EntriesRef<'_>) -> Result<(), Memory>
-    ensures { OnOk result (out.new.items ≡ out.old.items ++ entries_image entries.now) }
+fn put_entries(out: &mut Vec<u8>, wide: bool, entries: &EntriesRef<'_>) -> Result<(), Memory>
+    ensures { OnOk result (out.new.items ≡ out.old.items ++ entries_image wide entries.now) }
 {
     for place in 0..entries.len() {
-        put_entry(out, &entries.at(place))?;
+        put_entry(out, wide, &entries.at(place))?;
     }
     Ok(())
 }
@@ -64,20 +65,21 @@ fn flag_byte(flag: bool) -> u8
 #[tactic(auto, unfolding(crate::specs::Image::parts_image))]
 fn put_directory(
     out: &mut Vec<u8>,
+    wide: bool,
     parent: u32,
     flag: bool,
     path: &PathRef<'_>,
     rec: &RecRef<'_>,
     entries: &EntriesRef<'_>,
 ) -> Result<(), Memory>
-    ensures { OnOk result (out.new.items ≡ out.old.items ++ parts_image parent flag path.now rec.now entries.now) }
+    ensures { OnOk result (out.new.items ≡ out.old.items ++ parts_image wide parent flag path.now rec.now entries.now) }
 {
     put_u32(out, parent)?;
     put_last_name(out, path)?;
     put_u8(out, flag_byte(flag))?;
-    put_record(out, rec)?;
+    put_record(out, wide, rec)?;
     put_count(out, entries.len())?;
-    put_entries(out, entries)
+    put_entries(out, wide, entries)
 }
 
 /// The place of a directory's parent, or all ones for the root.
@@ -96,14 +98,15 @@ fn parent_number(tree: &Tree, id: DirId) -> u32
 }
 
 /// The directories of a snapshot, in path order.
-fn put_directories(out: &mut Vec<u8>, snap: &Snapshot) -> Result<(), Memory>
-    ensures { OnOk result (out.new.items ≡ out.old.items ++ directories_image snap.now.tree snap.now.limit snap.now.tree) }
+fn put_directories(out: &mut Vec<u8>, wide: bool, snap: &Snapshot) -> Result<(), Memory>
+    ensures { OnOk result (out.new.items ≡ out.old.items ++ directories_image wide snap.now.tree snap.now.limit snap.now.tree) }
 {
     let tree = snap.tree();
     for number in 0..tree.dirs() {
         let id = DirId(number);
         put_directory(
             out,
+            wide,
             parent_number(tree, id),
             snap.rolled(id),
             &tree.path(id),
@@ -125,12 +128,19 @@ fn entry_count(tree: &Tree) -> u32
     count
 }
 
+/// The version of an image. That of wide records is 2.
+fn version_of(wide: bool) -> u16
+    ensures { result ≡ version_of wide }
+{
+    if wide { 2 } else { 1 }
+}
+
 #[tactic(auto, unfolding(crate::specs::Image::head_image))]
-fn put_head(out: &mut Vec<u8>, tree: &Tree, limit: u64) -> Result<(), Memory>
-    ensures { OnOk result (out.new.items ≡ out.old.items ++ head_image tree.now limit) }
+fn put_head(out: &mut Vec<u8>, wide: bool, tree: &Tree, limit: u64) -> Result<(), Memory>
+    ensures { OnOk result (out.new.items ≡ out.old.items ++ head_image wide tree.now limit) }
 {
     put(out, b"GUFIX\0")?;
-    put_u16(out, 1)?;
+    put_u16(out, version_of(wide))?;
     put_u64(out, limit)?;
     put_u32(out, tree.dirs())?;
     put_u32(out, entry_count(tree))
@@ -138,7 +148,9 @@ fn put_head(out: &mut Vec<u8>, tree: &Tree, limit: u64) -> Result<(), Memory>
 
 /// The bytes of a record with its name.
 fn row_size(name: usize, rec: &RecRef<'_>) -> usize {
-    name.saturating_add(rec.link().len()).saturating_add(RECORD)
+    name.saturating_add(rec.link().len())
+        .saturating_add(rec.xattrs().len())
+        .saturating_add(RECORD)
 }
 
 /// The bytes of entries.
@@ -166,13 +178,14 @@ fn image_size(tree: &Tree) -> usize {
 
 /// The image of a snapshot: its directories in path order, each with its entries in name order.
 ///
-/// One buffer, of the size that is counted first. Linear in the rows.
+/// Its version is the least that can hold the tree. One buffer, of the size that is counted first. Linear in the rows.
 #[tactic(auto, unfolding(crate::specs::Image::image_text))]
 pub fn write_image(alloc: Global, snap: &Snapshot) -> Result<Vec<u8>, Memory>
     ensures { IfOk result (λ image. image.items ≡ image_text snap.now.tree snap.now.limit) }
 {
     let mut image = Vec::with_capacity(alloc, image_size(snap.tree()))?;
-    put_head(&mut image, snap.tree(), snap.limit())?;
-    put_directories(&mut image, snap)?;
+    let wide = has_xattrs(snap.tree());
+    put_head(&mut image, wide, snap.tree(), snap.limit())?;
+    put_directories(&mut image, wide, snap)?;
     Ok(image)
 }

@@ -22,6 +22,24 @@ fn lone_image() -> &'static [u8] {
     b"GUFIX\0\x01\0\0\0\0\0\0\0\0\0\x01\0\0\0\0\0\0\0\xff\xff\xff\xff\0\0\x01\0\0\0\0\0\0\0\xed\x01\x02\0\0\0\0\0\0\0\x65\0\0\0\x64\0\0\0\0\x10\0\0\0\0\0\0\0\x10\0\0\0\0\0\0\x08\0\0\0\0\0\0\0\x0a\0\0\0\0\0\0\0\x14\0\0\0\0\0\0\0\x1e\0\0\0\0\0\0\0\0\0\0\0\0\0"
 }
 
+const NAMED_ROOT: &[u8] = b"/|d|1|493|2|101|100|4096|4096|8|10|20|30||xattrs/user.k
+";
+
+/// The 118 bytes of the image of a root alone that has the name of an extended attribute.
+fn named_image() -> &'static [u8] {
+    b"GUFIX\0\x02\0\0\0\0\0\0\0\0\0\x01\0\0\0\0\0\0\0\xff\xff\xff\xff\0\0\x01\0\0\0\0\0\0\0\xed\x01\x02\0\0\0\0\0\0\0\x65\0\0\0\x64\0\0\0\0\x10\0\0\0\0\0\0\0\x10\0\0\0\0\0\0\x08\0\0\0\0\0\0\0\x0a\0\0\0\0\0\0\0\x14\0\0\0\0\0\0\0\x1e\0\0\0\0\0\0\0\0\0\x06\0user.k\0\0\0\0"
+}
+
+/// The image of a root alone, with two bytes more behind its link, as for the length of names.
+fn widened(alloc: Global) -> Result<Vec<u8>, Fail> {
+    let image = lone_image();
+    let (front, back) = image.split_at(106.min(image.len()));
+    let mut bytes = Vec::from_slice(alloc, front)?;
+    bytes.extend_from_slice(b"\0\0")?;
+    bytes.extend_from_slice(back)?;
+    Ok(bytes)
+}
+
 const WITH_A_FOLD: &[u8] = b"/|d|1|493|2|101|100|4096|4096|8|10|20|30|
 /c|d|2|45|2|102|200|4096|4096|8|10|20|30|
 /c/x|f|3|420|2|102|200|4096|4096|8|10|20|30|
@@ -109,6 +127,8 @@ fn an_image_is_written_byte_for_byte(rt: HostRuntime) -> Result<(), Fail> {
     let alloc = rt.alloc();
     let image = write_image(alloc, &lone_root(alloc)?)?;
     assert!(rt; image.as_slice() == lone_image());
+    let named = write_image(alloc, &snapshot_of(alloc, NAMED_ROOT, 0)?)?;
+    assert!(rt; named.as_slice() == named_image());
     Ok(())
 }
 
@@ -116,6 +136,7 @@ fn an_image_is_written_byte_for_byte(rt: HostRuntime) -> Result<(), Fail> {
 fn what_is_read_is_written_again(rt: HostRuntime) -> Result<(), Fail> {
     let alloc = rt.alloc();
     assert!(rt; dirs_again(alloc, lone_image())? == Some(1));
+    assert!(rt; dirs_again(alloc, named_image())? == Some(1));
     let folded = write_image(alloc, &with_a_fold(alloc)?)?;
     assert!(rt; dirs_again(alloc, folded.as_slice())? == Some(2));
     assert!(rt;
@@ -133,7 +154,8 @@ fn the_first_damaged_field_is_named(rt: HostRuntime) -> Result<(), Fail> {
     let alloc = rt.alloc();
     let cases = vec![in alloc;
         changed(0, 0, 0, ImageKind::Magic),
-        changed(6, 2, 6, ImageKind::Magic),
+        changed(6, 2, 108, ImageKind::Cut),
+        changed(6, 3, 6, ImageKind::Magic),
         changed(16, 0, 16, ImageKind::Number),
         changed(18, 4, 16, ImageKind::TooMany { limit: 262144 }),
         changed(20, 1, 20, ImageKind::Number),
@@ -149,6 +171,25 @@ fn the_first_damaged_field_is_named(rt: HostRuntime) -> Result<(), Fail> {
         changed(106, 1, 106, ImageKind::Number),
     ]?;
     assert!(rt; not_found(alloc, lone_image(), cases.as_slice())? == None);
+    Ok(())
+}
+
+#[test]
+fn the_least_version_and_sound_names_are_asked(rt: HostRuntime) -> Result<(), Fail> {
+    let alloc = rt.alloc();
+    let mut bytes = widened(alloc)?;
+    let least = changed(6, 2, 6, ImageKind::Number);
+    assert!(rt; is_found(alloc, bytes.as_slice(), &least)?);
+    bytes.push(0)?;
+    assert!(rt; is_found(alloc, bytes.as_slice(), &least)?);
+    let cases = vec![in alloc;
+        changed(20, 1, 20, ImageKind::Number),
+        changed(106, 5, 113, ImageKind::Number),
+        changed(107, 17, 106, ImageKind::Name),
+        changed(108, 0, 106, ImageKind::Name),
+        changed(108, b',', 106, ImageKind::Name),
+    ]?;
+    assert!(rt; not_found(alloc, named_image(), cases.as_slice())? == None);
     Ok(())
 }
 

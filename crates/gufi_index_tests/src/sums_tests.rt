@@ -80,6 +80,7 @@ fn a_row_is_yielded(rt: HostRuntime) -> Result<(), Memory> {
         base: b"/".as_slice(),
         meta: &meta,
         link: b"".as_slice(),
+        xattrs: b"".as_slice(),
     };
     let sum: Summary = sum_of_one_row(rt.alloc(), row)?;
     assert_eq!(rt; (sum.dirs, sum.bytes, sum.uid), (1, 0, Some((3, 3))));

@@ -100,6 +100,14 @@ fn each_fault_is_named_by_its_line(rt: HostRuntime) -> Result<(), Fail> {
             "2 BadNumber 8",
         ),
         (
+            "/r/a|f|2|420|1|101|100|x|4096|0|10|20|30||xattrs/\0\n",
+            "2 BadNumber 8",
+        ),
+        (
+            "/a|f|2|420|1|101|100|0|4096|0|10|20|30||xattrs/\0\n",
+            "2 BadXattr",
+        ),
+        (
             "/a|f|2|420|1|101|100|0|4096|0|10|20|30|\n",
             "2 NotUnderRoot",
         ),
@@ -197,6 +205,22 @@ fn a_trace_in_order_is_written_as_it_was(rt: HostRuntime) -> Result<(), Fail> {
     );
     assert_eq!(rt;
         rewritten(alloc, link, b"/", b',').err(),
+        Some(WriteTraceFault::DelimUsed)
+    );
+    Ok(())
+}
+
+#[test]
+fn names_of_attributes_are_written_joined(rt: HostRuntime) -> Result<(), Fail> {
+    let alloc = rt.alloc();
+    let given = b"/|d|1|493|2|101|100|4096|4096|8|10|20|30||xattrs/,user.a,,user.b|more\n";
+    let joined = b"/|d|1|493|2|101|100|4096|4096|8|10|20|30||xattrs/user.a,user.b\n";
+    assert_eq!(rt;
+        rewritten(alloc, given, b"/", b'|')?.as_slice(),
+        joined.as_slice()
+    );
+    assert_eq!(rt;
+        rewritten(alloc, given, b"/", b',').err(),
         Some(WriteTraceFault::DelimUsed)
     );
     Ok(())

@@ -1,8 +1,9 @@
--- Rows that stand packed: each as a record, its base name and its link in one text, its stem there once for the rows that share it.
+-- Rows that stand packed: each as a record, its base name, its link and its names of extended attributes in one text, its stem there once for the rows that share it.
 use Rattle.std.specs.Prelude.{◌≡◌, ℕ, ◌+◌, ◌-◌, ◌^◌, ◌<◌, ◌≤◌, Bool, nat_le, List, [], ◌∷◌, ◌++◌, length, filter, take, drop, slice_index_or, All}
 use Rattle.gufi_base.specs.declared.record.Row.{Row}
 use Rattle.gufi_base.specs.declared.record.RowRef.{RowRef}
 use Rattle.gufi_base.specs.PathParts.{ArePartsOf, path_of_parts}
+use Rattle.gufi_base.specs.Xattrs.{AreKept, kept_names}
 use Rattle.gufi_page.specs.declared.text.Stem.{Stem}
 use Rattle.gufi_page.specs.declared.text.Ends.{Ends}
 use Rattle.gufi_page.specs.declared.page.Packed.{Packed}
@@ -36,17 +37,24 @@ number_at stems k = length (filter (has_begun k) stems) - 1
 abbrev pub base_in : List ℕ → Ends → List ℕ
 base_in text ends = between ends.at (ends.at + ends.name) text
 
+-- where the link ends, and the names of extended attributes begin
+abbrev pub end_of : Ends → ℕ
+end_of ends = ends.at + ends.name + ends.link
+
 abbrev pub link_in : List ℕ → Ends → List ℕ
-link_in text ends = between (ends.at + ends.name) (ends.at + ends.name + ends.link) text
+link_in text ends = between (ends.at + ends.name) (end_of ends) text
+
+abbrev pub xattrs_in : List ℕ → Ends → List ℕ
+xattrs_in text ends = kept_names text (end_of ends) ends.has_xattrs
 
 abbrev pub IsWithin : List ℕ → Ends → Type 0
-IsWithin text ends = ends.at + ends.name + ends.link ≤ length text
+IsWithin text ends = AreKept text (end_of ends) ends.has_xattrs
 
 -- a packed row, with the bytes of its stem
 abbrev pub row_in : List ℕ → List ℕ → Packed → Row
 row_in text stem p = record {
   path = path_of_parts stem (base_in text p.ends);
-  rec = record { meta = p.meta; link = link_in text p.ends };
+  rec = record { meta = p.meta; link = link_in text p.ends; xattrs = xattrs_in text p.ends };
 }
 
 -- the rows from a number on
@@ -90,6 +98,7 @@ pub record IsPut (text : List ℕ) (stems : List Stem) (row : RowRef) (ends : En
   pub stem : stem_in text stems (length stems - 1) ≡ row.stem.now
   pub base : base_in text ends ≡ row.base.now
   pub link : link_in text ends ≡ row.link.now
+  pub xattrs : xattrs_in text ends ≡ row.xattrs.now
 
 -- of stems that ascend, those below a place have begun at a row, and the others not
 pub record HaveBegun (stems : List Stem) (k place : ℕ) : Type 0 where

@@ -1,10 +1,10 @@
-//! The text of a page: stems, base names and links.
+//! The text of a page: stems, base names, links and names of extended attributes.
 
 ghost use Rattle.std.specs.Prelude.{◌≡◌, ℕ, ◌+◌, ◌-◌, ◌<◌, ◌≤◌, ◌++◌, true, List, length, All, IfOk, OnOk};
-ghost use Rattle.gufi_page.specs.Packed.{Ascend, GoesOn, HaveBegun, IsIn, IsPut, IsWithin, base_in, bytes_in, link_in, number_at, stem_in};
+ghost use Rattle.gufi_page.specs.Packed.{Ascend, GoesOn, HaveBegun, IsIn, IsPut, IsWithin, base_in, bytes_in, end_of, link_in, number_at, stem_in, xattrs_in};
 ghost use Rattle.gufi_page.specs.declared.text.Stem.{Stem as SeenStem};
 
-use gufi_base::{Memory, RowRef, same_bytes, u16_of, u32_of};
+use gufi_base::{Memory, RowRef, put_xattrs, same_bytes, u16_of, u32_of, xattrs_at};
 
 /// The bytes of a stem in a text, and the number of the first row that has it. A text has less than 4 GiB.
 #[derive(Clone, Copy)]
@@ -14,12 +14,14 @@ pub struct Stem {
     pub first: u32,
 }
 
-/// Where a base name stands in a text, and the link behind it, by their lengths in bytes.
+/// Where a base name stands in a text, and the link behind it, by their lengths in bytes; and whether names of extended
+/// attributes stand behind them.
 #[derive(Clone, Copy)]
 pub struct Ends {
     pub at: u32,
     pub name: u8,
     pub link: u16,
+    pub has_xattrs: bool,
 }
 
 /// The bytes of a stem.
@@ -46,6 +48,14 @@ pub(crate) fn link_at(text: &[u8], ends: Ends) -> &[u8]
     &text[from..from + ends.link as usize]
 }
 
+pub(crate) fn names_at(text: &[u8], ends: Ends) -> &[u8]
+    requires { IsWithin text.now ends }
+    ensures { result.now ≡ xattrs_in text.now ends }
+{
+    let from = ends.at as usize + ends.name as usize + ends.link as usize;
+    xattrs_at(text, from, ends.has_xattrs)
+}
+
 fn put_stem(text: &mut Vec<u8>, bytes: &[u8], first: u32) -> Result<Stem, Memory>
     ensures grown { (more : List ℕ) × (text.new.items ≡ text.old.items ++ more) }
     ensures within { IfOk result (IsIn text.new.items) }
@@ -59,10 +69,10 @@ fn put_stem(text: &mut Vec<u8>, bytes: &[u8], first: u32) -> Result<Stem, Memory
 }
 
 /// Puts a base name and a link behind a text.
-fn put_ends(text: &mut Vec<u8>, base: &[u8], link: &[u8]) -> Result<Ends, Memory>
+fn put_base_and_link(text: &mut Vec<u8>, base: &[u8], link: &[u8]) -> Result<Ends, Memory>
     requires { length base.now ≤ 255 }
     ensures grown { (more : List ℕ) × (text.new.items ≡ text.old.items ++ more) }
-    ensures within { IfOk result (IsWithin text.new.items) }
+    ensures end { IfOk result (λ ends. end_of ends ≡ length text.new.items) }
     ensures base { IfOk result (λ ends. base_in text.new.items ends ≡ base.now) }
     ensures link { IfOk result (λ ends. link_in text.new.items ends ≡ link.now) }
 {
@@ -74,7 +84,22 @@ fn put_ends(text: &mut Vec<u8>, base: &[u8], link: &[u8]) -> Result<Ends, Memory
         at,
         name: base.len() as u8,
         link: length,
+        has_xattrs: false,
     })
+}
+
+/// Puts a row's base name, its link and its names of extended attributes behind a text.
+fn put_ends(text: &mut Vec<u8>, row: RowRef<'_>) -> Result<Ends, Memory>
+    requires { length row.base.now ≤ 255 }
+    ensures grown { (more : List ℕ) × (text.new.items ≡ text.old.items ++ more) }
+    ensures within { IfOk result (IsWithin text.new.items) }
+    ensures base { IfOk result (λ ends. base_in text.new.items ends ≡ row.entry.base.now) }
+    ensures link { IfOk result (λ ends. link_in text.new.items ends ≡ row.entry.link.now) }
+    ensures xattrs { IfOk result (λ ends. xattrs_in text.new.items ends ≡ row.entry.xattrs.now) }
+{
+    let mut ends = put_base_and_link(text, row.base, row.link)?;
+    ends.has_xattrs = put_xattrs(text, row.xattrs)?;
+    Ok(ends)
 }
 
 /// Whether the last stem has these bytes.
@@ -124,7 +149,7 @@ pub(crate) fn put_parts(
     ensures put { IfOk result (IsPut text.new.items stems.new.items row.entry) }
 {
     keep_stem(text, stems, first, row.stem)?;
-    put_ends(text, row.base, row.link)
+    put_ends(text, row)
 }
 
 /// Whether a number is that of a row's stem.

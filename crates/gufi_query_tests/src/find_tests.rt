@@ -53,6 +53,7 @@ fn run_file(meta: &Meta) -> RowRef<'_>
         base: b"run.h5".as_slice(),
         meta,
         link: b"".as_slice(),
+        xattrs: b"".as_slice(),
     }
 }
 

@@ -35,6 +35,7 @@ pub(crate) fn row(
         rec: Rec {
             meta: meta(kind, size),
             link: Bytes::from_slice(alloc, link)?,
+            xattrs: Bytes::from_slice(alloc, b"user.a,user.b")?,
         },
     })
 }
@@ -58,6 +59,7 @@ fn parts_of<'a>(path: &'a Path, rec: &'a Rec) -> RowRef<'a>
         base: path.base_name(),
         meta: &rec.meta,
         link: rec.link.as_slice(),
+        xattrs: rec.xattrs.as_slice(),
     }
 }
 
@@ -103,10 +105,10 @@ fn chosen_rows_are_printed(rt: HostRuntime) -> Result<(), Fail> {
         b"/c/x\tx\tf\t9\t416\t2\t1001\t501\t7\t4096\t8\t-5\t100000\t30000\t\t2\n".as_slice()
     );
     let link = row(alloc, b"/c/x", Kind::Link, 7, b"/y")?;
-    let select = read_select(alloc, b"SELECT linkname, level FROM rows")?;
+    let select = read_select(alloc, b"SELECT linkname, xattrs, level FROM rows")?;
     let mut line = Vec::new(alloc);
     select.put(alloc, &link, 1, &mut line)?;
-    assert_eq!(rt; line.as_slice(), b"/y\t1\n".as_slice());
+    assert_eq!(rt; line.as_slice(), b"/y\tuser.a,user.b\t1\n".as_slice());
     Ok(())
 }
 
@@ -142,6 +144,8 @@ true size = 7 OR name REGEXP 'y'
 false size = 8 AND name REGEXP 'x'
 true name REGEXP 'y' OR size = 7
 true linkname REGEXP 'y' AND type = 'l'
+true xattrs = 'user.a,user.b' AND xattrs REGEXP 'b$'
+false xattrs = '/y'
 "
 }
 

@@ -12,9 +12,9 @@ use Rattle.gufi_rows.specs.declared.kept.Kept.{Kept}
 use Rattle.gufi_rows.specs.declared.spot.Spot.{Spot}
 use Rattle.gufi_rows.specs.declared.stretch.Stretch.{Stretch}
 use Rattle.gufi_base.specs.Paths.{Components, path_cmp}
-use Rattle.gufi_rows.specs.PathLists.{AreMarked, ArePlaces, AreSpots, IsSpan, IsSpot, follower, path_in, paths_in, picked}
+use Rattle.gufi_rows.specs.PathLists.{AreMarked, ArePlaces, AreSpots, IsSpot, follower, path_in, paths_in, picked}
 use Rattle.gufi_rows.specs.PathPlaces.{Ascend, places_between, places_of}
-use Rattle.gufi_rows.specs.RowLists.{AreRecords, no_row, rows_in}
+use Rattle.gufi_rows.specs.RowLists.{AreRecords, IsKept, no_row, rows_in}
 use Rattle.gufi_rows.proofs.PathLists.{picked-IsPermutation}
 use Rattle.gufi_rows.proofs.RowLists.{length-rows_in, places_in_range, row_in}
 
@@ -22,7 +22,7 @@ pub no_spot : Spot
 no_spot = record { stem = record { from = 0; end = 0 }; base = record { from = 0; end = 0 }; follows = false }
 
 pub no_kept : Kept
-no_kept = record { meta = no_row.rec.meta; link = record { from = 0; end = 0 } }
+no_kept = record { meta = no_row.rec.meta; link = record { from = 0; end = 0 }; xattrs = record { from = 0; end = 0 } }
 
 map-picked : {A B : Type 0} (f : A → B) (xs : List A) (d : A) (e : B) (places : List ℕ) → All (λ k. k < length xs) places → map f (picked xs d places) ≡ picked (map f xs) e places
 map-picked f xs d e [] within = refl
@@ -95,8 +95,8 @@ module _ (links : List ℕ) (paths next : List Components) (records made : List 
   pub AreRecords-arranged : AreRecords links next made
   AreRecords-arranged = record {
     alike = ap length ps ∙ length-map moved (λ k. get_or paths k []) ∙ sym (length-map moved (λ k. get_or records k no_kept)) ∙ sym (ap length rs);
-    each = subst (All (λ (kept : Kept). IsSpan links kept.link)) (sym rs)
-        (All-picked (λ (kept : Kept). IsSpan links kept.link) records no_kept moved (λ k d h. omega (arith, inside k d h, are.alike)) are.each);
+    each = subst (All (IsKept links)) (sym rs)
+        (All-picked (IsKept links) records no_kept moved (λ k d h. omega (arith, inside k d h, are.alike)) are.each);
   }
 
   pub rows_in-arranged : IsPermutation (rows_in links paths records) (rows_in links next made)

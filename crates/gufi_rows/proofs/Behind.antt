@@ -6,6 +6,7 @@ use Rattle.std.proofs.lemmas.Bool.{cases_lt}
 use Rattle.std.proofs.lemmas.List.{map-append, length-map, get_or-map, get_or_append_left}
 use Rattle.std.proofs.lemmas.List.Elements.{All-append, All-map}
 use Rattle.std.proofs.Math.Seq.{get_or-append_right, take-append-add, drop-append-add}
+use Rattle.gufi_base.specs.declared.record.Rec.{Rec}
 use Rattle.gufi_base.specs.declared.record.Row.{Row}
 use Rattle.gufi_rows.specs.declared.kept.Kept.{Kept}
 use Rattle.gufi_rows.specs.declared.spot.Span.{Span}
@@ -13,10 +14,10 @@ use Rattle.gufi_rows.specs.declared.spot.Spot.{Spot}
 use Rattle.gufi_base.specs.Paths.{Components, path_cmp}
 use Rattle.gufi_base.specs.PathParts.{path_of_parts}
 use Rattle.gufi_rows.specs.PathLists.{AreSpots, Follow, Grows, IsSpan, IsSpot, SpotFitsBehind, bytes_in, path_in, paths_in, span_behind, spot_behind}
-use Rattle.gufi_rows.specs.RowLists.{AreRecords, kept_behind, rec_in, rows_in}
+use Rattle.gufi_rows.specs.RowLists.{AreRecords, IsKept, kept_behind, rec_in, rows_in}
 use Rattle.gufi_rows.proofs.PathLists.{AreSpots-grows, paths_in-grows}
-use Rattle.gufi_rows.proofs.RowLists.{rows_in-grows}
-use Rattle.gufi_rows.proofs.Spots.{IsSpan-grows, parts_same}
+use Rattle.gufi_rows.proofs.RowLists.{IsKept-grows, rows_in-grows}
+use Rattle.gufi_rows.proofs.Spots.{parts_same}
 
 bytes_in-behind : (text more : List ℕ) (span : Span) → bytes_in (text ++ more) (span_behind (length text) span) ≡ bytes_in more span
 bytes_in-behind text more span =
@@ -113,21 +114,25 @@ rows_in-both links (path ∷ paths) others (kept ∷ records) also e =
     let row : Row = record { path = path; rec = rec_in links kept } in
     ap (λ l. row ∷ l) (rows_in-both links paths others records also (omega (arith, e)))
 
+rec_in-behind : (links more : List ℕ) (kept : Kept) → rec_in (links ++ more) (kept_behind (length links) kept) ≡ rec_in more kept
+rec_in-behind links more kept = λ i. record { meta = kept.meta; link = bytes_in-behind links more kept.link i; xattrs = bytes_in-behind links more kept.xattrs i }
+
 rows_in-behind : (links more : List ℕ) (paths : List Components) (records : List Kept) → rows_in (links ++ more) paths (map (kept_behind (length links)) records) ≡ rows_in more paths records
 rows_in-behind links more [] records = refl
 rows_in-behind links more (path ∷ paths) [] = refl
 rows_in-behind links more (path ∷ paths) (kept ∷ records) =
-    let row : List ℕ → Row = λ l. record { path = path; rec = record { meta = kept.meta; link = l } } in
-    ap (λ l. row l ∷ rows_in (links ++ more) paths (map (kept_behind (length links)) records)) (bytes_in-behind links more kept.link)
-    ∙ ap (λ l. row (bytes_in more kept.link) ∷ l) (rows_in-behind links more paths records)
+    let row : Rec → Row = λ r. record { path = path; rec = r } in
+    ap (λ r. row r ∷ rows_in (links ++ more) paths (map (kept_behind (length links)) records)) (rec_in-behind links more kept)
+    ∙ ap (λ l. row (rec_in more kept) ∷ l) (rows_in-behind links more paths records)
 
 module _ (links more : List ℕ) (paths others : List Components) (records also : List Kept) (are : AreRecords links paths records) (too : AreRecords more others also) where
   pub AreRecords-append : AreRecords (links ++ more) (paths ++ others) (records ++ map (kept_behind (length links)) also)
   AreRecords-append = record {
     alike = omega (arith, are.alike, too.alike, length-append paths others, length-append records (map (kept_behind (length links)) also), length-map also (kept_behind (length links)));
-    each = All-append (λ (kept : Kept). IsSpan (links ++ more) kept.link) records (map (kept_behind (length links)) also)
-        (λ k d h. IsSpan-grows links (links ++ more) _ (more, refl) (are.each k d h))
-        (All-map (λ (kept : Kept). IsSpan (links ++ more) kept.link) (kept_behind (length links)) also (λ k d h. IsSpan-behind links more _ (too.each k d h)));
+    each = All-append (IsKept (links ++ more)) records (map (kept_behind (length links)) also)
+        (λ k d h. IsKept-grows links (links ++ more) (get_or records k d) (more, refl) (are.each k d h))
+        (All-map (IsKept (links ++ more)) (kept_behind (length links)) also
+        (λ k d h. let is = too.each k d h in (IsSpan-behind links more (get_or also k d).link is.0, IsSpan-behind links more (get_or also k d).xattrs is.1)));
   }
 
   pub rows_in-append : rows_in (links ++ more) (paths ++ others) (records ++ map (kept_behind (length links)) also) ≡ rows_in links paths records ++ rows_in more others also

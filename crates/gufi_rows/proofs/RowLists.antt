@@ -1,10 +1,11 @@
 -- Lists of rows: one more, the row at a place, and rows in order.
-use Rattle.std.proofs.Common.{◌≡◌, ℕ, zero, suc, ◌+◌, ◌<◌, true, List, [], ◌∷◌, ◌++◌, length, get_or, refl, sym, ap, ◌∙◌, subst, arith}
+use Rattle.std.proofs.Common.{◌≡◌, ℕ, zero, suc, ◌+◌, ◌<◌, true, List, [], ◌∷◌, ◌++◌, length, get_or, refl, sym, ap, ◌∙◌, subst, arith, length-append}
 use Rattle.std.specs.Prelude.{All, Result, Ok, Err, OnOk}
 use Rattle.std.specs.Ordering.{is_lt}
 use Rattle.std.specs.List.{range_with_len}
 use Rattle.std.specs.List.Sorted.{IsPermutation, IsSortedBy}
 use Rattle.std.proofs.lemmas.List.{length-map, get_or-map}
+use Rattle.std.proofs.lemmas.List.Elements.{All-push}
 use Rattle.std.proofs.lemmas.List.FromFn.{get_or-range_with_len, length-range_with_len}
 use Rattle.std.proofs.lemmas.List.Sorted.{All-permutation, IsPermutation-append, IsPermutation-append_left, IsPermutation-sym, IsPermutation-trans}
 use Rattle.gufi_base.specs.declared.record.Rec.{Rec}
@@ -15,25 +16,34 @@ use Rattle.gufi_base.specs.Basics.{ascends}
 use Rattle.gufi_base.specs.Paths.{Components}
 use Rattle.gufi_base.specs.Rows.{Stands, row_cmp}
 use Rattle.gufi_base.specs.PathParts.{ArePartsOf}
-use Rattle.gufi_rows.specs.PathLists.{Grows, InOrder, IsSpan, picked}
-use Rattle.gufi_rows.specs.RowLists.{AreRecords, no_row, rec_in, rows_in}
+use Rattle.gufi_rows.specs.PathLists.{Grows, InOrder, picked}
+use Rattle.gufi_rows.specs.RowLists.{AreRecords, IsKept, no_row, rec_in, rows_in}
 use Rattle.gufi_base.proofs.Prefixes.{rows_total}
 use Rattle.gufi_base.proofs.SortedOnce.{same_from_sorted}
 use Rattle.gufi_rows.proofs.Spots.{IsSpan-grows, bytes_in-grows}
 
 -- links that grow keep the rows
-pub AreRecords-grows : (links next : List ℕ) (paths : List Components) (records : List Kept) → Grows links next → AreRecords links paths records → AreRecords next paths records
-AreRecords-grows links next paths records g are = record { alike = are.alike; each = λ k d h. IsSpan-grows links next _ g (are.each k d h) }
+pub IsKept-grows : (links next : List ℕ) (kept : Kept) → Grows links next → IsKept links kept → IsKept next kept
+IsKept-grows links next kept g is = (IsSpan-grows links next kept.link g is.0, IsSpan-grows links next kept.xattrs g is.1)
 
-pub rows_in-grows : (links next : List ℕ) (paths : List Components) (records : List Kept) → Grows links next → All (λ (kept : Kept). IsSpan links kept.link) records
+rec_in-grows : (links next : List ℕ) (kept : Kept) → Grows links next → IsKept links kept → rec_in next kept ≡ rec_in links kept
+rec_in-grows links next kept g is = λ i. record {
+  meta = kept.meta;
+  link = bytes_in-grows links next kept.link g is.0 i;
+  xattrs = bytes_in-grows links next kept.xattrs g is.1 i;
+}
+
+pub AreRecords-grows : (links next : List ℕ) (paths : List Components) (records : List Kept) → Grows links next → AreRecords links paths records → AreRecords next paths records
+AreRecords-grows links next paths records g are = record { alike = are.alike; each = λ k d h. IsKept-grows links next (get_or records k d) g (are.each k d h) }
+
+pub rows_in-grows : (links next : List ℕ) (paths : List Components) (records : List Kept) → Grows links next → All (IsKept links) records
     → rows_in next paths records ≡ rows_in links paths records
 rows_in-grows links next [] records g each = refl
 rows_in-grows links next (path ∷ paths) [] g each = refl
 rows_in-grows links next (path ∷ paths) (kept ∷ records) g each =
     let row : Rec → Row = λ r. record { path = path; rec = r } in
-    let link : List ℕ → Rec = λ l. record { meta = kept.meta; link = l } in
     let rest = rows_in-grows links next paths records g (λ k d h. each (suc k) d (omega arith)) in
-    ap (λ l. row (link l) ∷ rows_in next paths records) (bytes_in-grows links next kept.link g (each 0 kept (omega arith))) ∙ ap (λ l. row (rec_in links kept) ∷ l) rest
+    ap (λ r. row r ∷ rows_in next paths records) (rec_in-grows links next kept g (each 0 kept (omega arith))) ∙ ap (λ l. row (rec_in links kept) ∷ l) rest
 
 pub length-rows_in : (links : List ℕ) (paths : List Components) (records : List Kept) → length paths ≡ length records → length (rows_in links paths records) ≡ length records
 length-rows_in links [] [] e = refl
@@ -49,6 +59,13 @@ rows_in-push links (p ∷ paths) [] path kept e = absurd (omega (arith, e))
 rows_in-push links (p ∷ paths) (k ∷ records) path kept e =
     let row : Row = record { path = p; rec = rec_in links k } in
     ap (λ l. row ∷ l) (rows_in-push links paths records path kept (omega (arith, e)))
+
+pub AreRecords-push : (links next : List ℕ) (paths : List Components) (records : List Kept) (path : Components) (kept : Kept) → Grows links next → AreRecords links paths records → IsKept next kept
+    → AreRecords next (paths ++ path ∷ []) (records ++ kept ∷ [])
+AreRecords-push links next paths records path kept g are is = record {
+  alike = omega (arith, are.alike, length-append paths (path ∷ []), length-append records (kept ∷ []));
+  each = All-push (IsKept next) records kept (AreRecords-grows links next paths records g are).each is;
+}
 
 -- the row at a place
 pub row_in : (links : List ℕ) (paths : List Components) (records : List Kept) (k : ℕ) (kept : Kept) → length paths ≡ length records → k < length records → kept ≡ get_or records k kept
@@ -66,8 +83,9 @@ path_in_rows links (p ∷ paths) [] k e = absurd (omega (arith, e))
 path_in_rows links (p ∷ paths) (x ∷ records) zero e = refl
 path_in_rows links (p ∷ paths) (x ∷ records) (suc k) e = path_in_rows links paths records k (omega (arith, e))
 
-pub Stands-row : (ref : RowRef) (path : Components) (rec : Rec) → ArePartsOf ref.stem.now ref.base.now path → ref.meta.now ≡ rec.meta → ref.link.now ≡ rec.link → Stands ref (record { path = path; rec = rec })
-Stands-row ref path rec parts meta link = record { names = parts.names; stem = parts.stem; base = parts.base; meta = meta; link = link }
+pub Stands-row : (ref : RowRef) (path : Components) (rec : Rec) → ArePartsOf ref.stem.now ref.base.now path → ref.meta.now ≡ rec.meta → ref.link.now ≡ rec.link → ref.xattrs.now ≡ rec.xattrs
+    → Stands ref (record { path = path; rec = rec })
+Stands-row ref path rec parts meta link xattrs = record { names = parts.names; stem = parts.stem; base = parts.base; meta = meta; link = link; xattrs = xattrs }
 
 pub places_in_range : (n : ℕ) (places : List ℕ) → IsPermutation (range_with_len 0 n) places → All (λ k. k < n) places
 places_in_range n places h =

@@ -7,9 +7,9 @@ ghost use Rattle.std.proofs.lemmas.List.Sorted.{length_permutation, IsPermutatio
 ghost use Rattle.gufi_base.specs.declared.record.Row.{Row as SeenRow};
 ghost use Rattle.gufi_base.specs.Basics.{ascends};
 ghost use Rattle.gufi_base.specs.Rows.{Stands, StandsForSome, row_cmp};
-ghost use Rattle.gufi_rows.specs.PathLists.{FitsBehind, picked};
+ghost use Rattle.gufi_rows.specs.PathLists.{Grows, picked};
 ghost use Rattle.gufi_rows.specs.PathPlaces.{places_between, places_of};
-ghost use Rattle.gufi_rows.specs.RowLists.{kept_behind, no_row};
+ghost use Rattle.gufi_rows.specs.RowLists.{IsKept, KeptFitsBehind, kept_behind, no_row, rec_in};
 
 use crate::kept::Kept;
 use crate::kept_paths::KeptPaths;
@@ -48,16 +48,29 @@ fn owned(alloc: Global, row: RowRef<'_>) -> Result<Row, Memory>
 {
     let path = Path::of_parts(alloc, row.stem, row.base)?;
     let link = Bytes::from_slice(alloc, row.link)?;
+    let xattrs = Bytes::from_slice(alloc, row.xattrs)?;
     let meta = *row.meta;
     Ok(Row {
         path,
-        rec: Rec { meta, link },
+        rec: Rec { meta, link, xattrs },
     })
+}
+
+/// Puts a row's link and its names of extended attributes behind a text.
+fn keep(links: &mut Vec<u8>, row: RowRef<'_>) -> Result<Kept, Memory>
+    ensures grown { Grows links.old.items links.new.items }
+    ensures within { IfOk result (IsKept links.new.items) }
+    ensures kept { IfOk result (λ kept. (of : SeenRow) → Stands row.entry of → rec_in links.new.items kept ≡ of.rec) }
+{
+    let link = put(links, row.link)?;
+    let xattrs = put(links, row.xattrs)?;
+    let meta = *row.meta;
+    Ok(Kept { meta, link, xattrs })
 }
 
 /// Puts the records of another text behind others.
 fn put_records(records: &mut Vec<Kept>, more: &[Kept], by: u32) -> Result<(), Memory>
-    requires { All (λ kept. FitsBehind by kept.link) more.now }
+    requires { All (KeptFitsBehind by) more.now }
     ensures put { OnOk result (records.new.items ≡ records.old.items ++ map (kept_behind by) more.now) }
     ensures begun { OnErr result (take (length records.old.items) records.new.items ≡ records.old.items) }
 {
@@ -65,7 +78,8 @@ fn put_records(records: &mut Vec<Kept>, more: &[Kept], by: u32) -> Result<(), Me
     for kept in more {
         let meta = kept.meta;
         let link = span_behind(kept.link, by);
-        records.push(Kept { meta, link })?;
+        let xattrs = span_behind(kept.xattrs, by);
+        records.push(Kept { meta, link, xattrs })?;
     }
     Ok(())
 }
@@ -93,9 +107,8 @@ impl RowList {
         ensures { OnOk result ((of : SeenRow) → Stands row.entry of → self.new ≡ self.old ++ of ∷ []) }
     {
         let count = self.records.len();
-        let link = put(&mut self.links, row.link)?;
-        let meta = *row.meta;
-        self.records.push(Kept { meta, link })?;
+        let kept = keep(&mut self.links, row)?;
+        self.records.push(kept)?;
         let parts = Parts {
             stem: row.stem,
             base: row.base,
@@ -121,6 +134,7 @@ impl RowList {
             base: parts.base,
             meta: &kept.meta,
             link: bytes_at(self.links.as_slice(), kept.link),
+            xattrs: bytes_at(self.links.as_slice(), kept.xattrs),
         }
     }
 

@@ -18,6 +18,7 @@ pub fn parts_of(row: &Row) -> RowRef<'_>
         base,
         meta: &row.rec.meta,
         link: row.rec.link.as_slice(),
+        xattrs: row.rec.xattrs.as_slice(),
     }
 }
 

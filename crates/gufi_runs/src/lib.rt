@@ -6,9 +6,13 @@
 #[cfg(test)]
 mod agg_tests;
 #[cfg(test)]
+mod attribute_tests;
+#[cfg(test)]
 mod find_tests;
 #[cfg(test)]
 mod image_tests;
+#[cfg(test)]
+mod lane_tests;
 #[cfg(test)]
 mod query_tests;
 #[cfg(test)]

@@ -6,11 +6,11 @@ use lib.Utf8.{encode}
 use Rattle.regex_syntax.specs.Grammar.{read, join_parts, branches, item, opening, capture}
 use Rattle.regex_syntax.specs.Reading.{skip, first}
 use Rattle.gufi_formula.specs.Formulas.{test, negation, both, either}
-use Rattle.gufi_select.specs.declared.column.Column.TheVariants.{Path, Size, Uid, Mtime}
+use Rattle.gufi_select.specs.declared.column.Column.TheVariants.{Path, Name, Size, Uid, Mtime, Xattrs}
 use Rattle.gufi_select.specs.declared.column.Table.TheVariants.{Entries, Rows}
 use Rattle.gufi_select.specs.declared.condition.Condition.TheVariants.{Compares}
 use Rattle.gufi_select.specs.declared.condition.Value.TheVariants.{Text, Number}
-use Rattle.gufi_select.specs.declared.operator.Operator.TheVariants.{Above, Equal, Below}
+use Rattle.gufi_select.specs.declared.operator.Operator.TheVariants.{Above, Equal, Unequal, Below}
 use Rattle.gufi_select.specs.declared.fault.SelectKind.TheVariants.{Unexpected, UnknownColumn, WrongType, LiteralTooBig, OpenText, BadRegex}
 use Rattle.gufi_select.specs.declared.fault.SelectError.TheVariants.{Fault}
 use Rattle.gufi_select.specs.Reading.{read_select, read_tokens}
@@ -29,6 +29,11 @@ precedence : read_select (codes "select path from rows where not uid=1 and mtime
     ≡ Ok (record { columns = Path ∷ []; table = Rows; regexp = None; condition = Some (either (both (negation (test (Compares Uid Equal (Number (pos 1))))) (test (Compares Mtime Below (Number (negsuc 4))))) (test (Compares Path Equal (Text (codes "it's"))))) })
 unfolding read_select read_tokens
 precedence = refl
+
+attributes_named : read_select (codes "SELECT name, xattrs FROM rows WHERE XATTRS <> ''")
+    ≡ Ok (record { columns = Name ∷ Xattrs ∷ []; table = Rows; regexp = None; condition = Some (test (Compares Xattrs Unequal (Text []))) })
+unfolding read_select read_tokens
+attributes_named = refl
 
 wrong_type : read_select (codes "SELECT * FROM rows WHERE path = -5") ≡ Err (Fault 32 WrongType)
 unfolding read_select read_tokens

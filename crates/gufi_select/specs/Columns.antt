@@ -14,7 +14,7 @@ use Rattle.gufi_base.specs.Rows.{depth_below}
 use Rattle.gufi_formula.specs.Formulas.{Formula, holds}
 use Rattle.gufi_select.specs.Patterns.{is_pattern_found}
 use Rattle.gufi_select.specs.declared.column.Column.{Column}
-use Rattle.gufi_select.specs.declared.column.Column.TheVariants.{Path, Name, Kind, Inode, Mode, Nlink, Uid, Gid, Size, Blksize, Blocks, Atime, Mtime, Ctime, Linkname, Level}
+use Rattle.gufi_select.specs.declared.column.Column.TheVariants.{Path, Name, Kind, Inode, Mode, Nlink, Uid, Gid, Size, Blksize, Blocks, Atime, Mtime, Ctime, Linkname, Xattrs, Level}
 use Rattle.gufi_select.specs.declared.column.Table.{Table}
 use Rattle.gufi_select.specs.declared.column.Table.TheVariants.{Entries, Summary, Rows}
 use Rattle.gufi_select.specs.declared.operator.Operator.{Operator}
@@ -31,10 +31,11 @@ pub record Seen : Type 0 where
   pub name : List ℕ
   pub meta : Meta
   pub link : List ℕ
+  pub xattrs : List ℕ
   pub depth : ℕ
 
 abbrev pub seen_row : Row → ℕ → Seen
-seen_row row depth = record { path = path_text row.path; name = base_name row.path; meta = row.rec.meta; link = row.rec.link; depth = depth }
+seen_row row depth = record { path = path_text row.path; name = base_name row.path; meta = row.rec.meta; link = row.rec.link; xattrs = row.rec.xattrs; depth = depth }
 
 abbrev pub value_in : Column → Seen → Value
 value_in Path s = Text s.path
@@ -52,6 +53,7 @@ value_in Atime s = Number s.meta.atime
 value_in Mtime s = Number s.meta.mtime
 value_in Ctime s = Number s.meta.ctime
 value_in Linkname s = Text s.link
+value_in Xattrs s = Text s.xattrs
 value_in Level s = Number (pos s.depth)
 
 abbrev pub value_at : Column → Row → ℕ → Value
@@ -62,6 +64,7 @@ is_text_column Path = true
 is_text_column Name = true
 is_text_column Kind = true
 is_text_column Linkname = true
+is_text_column Xattrs = true
 is_text_column column = false
 
 abbrev pub is_in_table : Table → Meta → Bool

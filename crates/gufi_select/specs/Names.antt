@@ -1,9 +1,9 @@
 -- What the words of a SELECT name.
-use Rattle.std.specs.Prelude.{ℕ, List, [], ◌∷◌, map, Option, Some, None, codes}
+use Rattle.std.specs.Prelude.{ℕ, List, [], ◌∷◌, ◌++◌, map, Option, Some, None, codes}
 use Rattle.std.specs.Char.{to_ascii_lowercase}
 use Rattle.gufi_base.specs.Basics.{lookup}
 use Rattle.gufi_select.specs.declared.column.Column.{Column}
-use Rattle.gufi_select.specs.declared.column.Column.TheVariants.{Path, Name, Kind, Inode, Mode, Nlink, Uid, Gid, Size, Blksize, Blocks, Atime, Mtime, Ctime, Linkname, Level}
+use Rattle.gufi_select.specs.declared.column.Column.TheVariants.{Path, Name, Kind, Inode, Mode, Nlink, Uid, Gid, Size, Blksize, Blocks, Atime, Mtime, Ctime, Linkname, Xattrs, Level}
 use Rattle.gufi_select.specs.declared.column.Table.{Table}
 use Rattle.gufi_select.specs.declared.column.Table.TheVariants.{Entries, Summary, Rows}
 use Rattle.gufi_select.specs.declared.word.Keyword.{Keyword}
@@ -18,12 +18,16 @@ abbrev pub keywords : List (List ℕ × Keyword)
 keywords =
     (codes "select", Select) ∷ (codes "from", From) ∷ (codes "where", Where) ∷ (codes "or", Or) ∷ (codes "and", And) ∷ (codes "not", Not) ∷ (codes "regexp", Regexp) ∷ []
 
--- The names of the columns, in the order of `*`.
-abbrev pub columns : List (List ℕ × Column)
-columns =
+-- The names of the columns of `*`, in its order.
+abbrev pub starred : List (List ℕ × Column)
+starred =
     (codes "path", Path) ∷ (codes "name", Name) ∷ (codes "type", Kind) ∷ (codes "inode", Inode) ∷ (codes "mode", Mode) ∷ (codes "nlink", Nlink)
     ∷ (codes "uid", Uid) ∷ (codes "gid", Gid) ∷ (codes "size", Size) ∷ (codes "blksize", Blksize) ∷ (codes "blocks", Blocks)
     ∷ (codes "atime", Atime) ∷ (codes "mtime", Mtime) ∷ (codes "ctime", Ctime) ∷ (codes "linkname", Linkname) ∷ (codes "level", Level) ∷ []
+
+-- The names of all columns: `*` leaves those of extended attributes out.
+abbrev pub columns : List (List ℕ × Column)
+columns = starred ++ (codes "xattrs", Xattrs) ∷ []
 
 abbrev pub tables : List (List ℕ × Table)
 tables = (codes "entries", Entries) ∷ (codes "summary", Summary) ∷ (codes "rows", Rows) ∷ []

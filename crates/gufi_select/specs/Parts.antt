@@ -9,7 +9,7 @@ use Rattle.gufi_select.specs.declared.condition.Value.TheVariants.{Text, Number}
 use Rattle.gufi_select.specs.Columns.{Seen}
 
 abbrev pub seen_parts : RowRef → ℕ → Seen
-seen_parts ref depth = record { path = ref.stem.now ++ ref.base.now; name = ref.base.now; meta = ref.meta.now; link = ref.link.now; depth = depth }
+seen_parts ref depth = record { path = ref.stem.now ++ ref.base.now; name = ref.base.now; meta = ref.meta.now; link = ref.link.now; xattrs = ref.xattrs.now; depth = depth }
 
 -- the order of a text value and a text
 abbrev pub order_in : Value → List ℕ → Option Ordering

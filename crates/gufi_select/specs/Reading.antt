@@ -25,7 +25,7 @@ use Rattle.gufi_select.specs.declared.word.Keyword.TheVariants as words
 use Rattle.gufi_select.specs.declared.word.Word.TheVariants.{OfGrammar, OfColumn, OfTable, Unknown}
 use Rattle.gufi_select.specs.Columns.{is_text_column, Select}
 use Rattle.gufi_select.specs.Levels.{negated, nested, closed}
-use Rattle.gufi_select.specs.Names.{columns}
+use Rattle.gufi_select.specs.Names.{starred}
 use Rattle.gufi_select.specs.Patterns.{is_bad_pattern}
 use Rattle.gufi_select.specs.Tokens.{PlacedToken, tokens}
 
@@ -65,7 +65,7 @@ with_column s column = record s { place = places.CommaOrFrom; columns = s.column
 
 -- the columns of `*`
 abbrev pub all_columns : List Column
-all_columns = map (λ row. row.1) columns
+all_columns = map (λ row. row.1) starred
 
 abbrev pub read_select_word : SelectState → Token → Result SelectState SelectKind
 read_select_word s (variants.Word (OfGrammar words.Select)) = go places.FirstColumn s

@@ -27,6 +27,8 @@ pub enum Column {
     Mtime,
     Ctime,
     Linkname,
+    /// The names of extended attributes, joined by single commas. `*` leaves them out.
+    Xattrs,
     /// How many components the row lies below the start of the query.
     Level,
 }
@@ -38,7 +40,7 @@ impl Column {
     {
         matches!(
             self,
-            Column::Path | Column::Name | Column::Kind | Column::Linkname
+            Column::Path | Column::Name | Column::Kind | Column::Linkname | Column::Xattrs
         )
     }
 }

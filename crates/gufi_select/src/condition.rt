@@ -55,6 +55,7 @@ fn text_order(column: Column, row: RowRef<'_>, text: &[u8]) -> Option<Ordering>
             Some(letter.as_slice().cmp(text))
         }
         Column::Linkname => Some(row.link.cmp(text)),
+        Column::Xattrs => Some(row.xattrs.cmp(text)),
         _ => None,
     }
 }
@@ -66,7 +67,7 @@ fn number_at(column: Column, row: RowRef<'_>, depth: u32) -> Option<i128>
 {
     let meta = row.meta;
     match column {
-        Column::Path | Column::Name | Column::Kind | Column::Linkname => None,
+        Column::Path | Column::Name | Column::Kind | Column::Linkname | Column::Xattrs => None,
         Column::Inode => Some(i128::from(meta.inode)),
         Column::Mode => Some(i128::from(meta.mode)),
         Column::Nlink => Some(i128::from(meta.nlink)),

@@ -42,6 +42,7 @@ fn put_value(out: &mut Vec<u8>, column: Column, row: RowRef<'_>, depth: u64) -> 
         Column::Mtime => put_i64(out, meta.mtime),
         Column::Ctime => put_i64(out, meta.ctime),
         Column::Linkname => put(out, row.link),
+        Column::Xattrs => put(out, row.xattrs),
         Column::Level => put_u64(out, depth),
     }
 }

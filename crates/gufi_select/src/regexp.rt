@@ -72,6 +72,7 @@ impl<'r> RegexpSearch<'r> {
                 Ok(self.search.is_found(letter.as_slice()))
             }
             Column::Linkname => Ok(self.search.is_found(row.link)),
+            Column::Xattrs => Ok(self.search.is_found(row.xattrs)),
             _ => Ok(self.search.is_found(&[])),
         }
     }

@@ -70,6 +70,7 @@ fn column_of(letters: &[u8]) -> Option<Column>
         _ if is_name(letters, b"ctime") => Some(Column::Ctime),
         _ if is_name(letters, b"linkname") => Some(Column::Linkname),
         _ if is_name(letters, b"level") => Some(Column::Level),
+        _ if is_name(letters, b"xattrs") => Some(Column::Xattrs),
         _ => None,
     }
 }

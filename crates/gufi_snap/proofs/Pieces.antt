@@ -1,9 +1,9 @@
 -- What a snapshot knows of the rows of a directory, and of those at and below it.
-use Rattle.std.proofs.Common.{◌≡◌, ℕ, ◌<◌, ◌≤◌, ◌^◌, Bool, true, false, cond, List, ◌++◌, length, get_or, arith}
+use Rattle.std.proofs.Common.{◌≡◌, ℕ, ◌<◌, ◌≤◌, ◌^◌, Bool, true, false, cond, List, ◌++◌, map, length, get_or, arith}
 use Rattle.std.specs.Prelude.{Result, Ok, Err, OnOk}
 use Rattle.std.specs.List.{filter, flat_map}
 use Rattle.std.specs.List.Sorted.{IsPermutation}
-use Rattle.std.proofs.lemmas.List.Sorted.{IsPermutation-append_right, IsPermutation-sym, length_permutation}
+use Rattle.std.proofs.lemmas.List.Sorted.{IsPermutation-append_right, IsPermutation-map, IsPermutation-sym, length_permutation}
 use Rattle.gufi_base.specs.declared.record.Row.{Row}
 use Rattle.gufi_base.specs.Paths.{Components, path_eq, is_prefix}
 use Rattle.gufi_base.specs.Rows.{row_cmp, home}
@@ -38,16 +38,16 @@ module _ (tree : List Directory) (shape : HasTreeShape tree) (k : ℕ) (within :
   pub own-length : (d : Directory) → length (home_rows tree (path_at tree k)) ≡ length (own_rows (get_or tree k d))
   own-length d = length_permutation _ _ (IsPermutation-sym _ _ (home_rows-own tree shape k d within))
 
-  pub own-met : (d : Directory) (met : Row → Bool) (rows : List Row) → IsPermutation (rows ++ filter met (own_rows (get_or tree k d))) (rows ++ filter met (home_rows tree (path_at tree k)))
-  own-met d met rows = IsPermutation-append_right rows _ _ (IsPermutation-filter met _ _ (IsPermutation-sym _ _ (home_rows-own tree shape k d within)))
+  pub own-met : (d : Directory) (met : Row → Bool) (shows : Row → Row) (rows : List Row) → IsPermutation (rows ++ filter met (map shows (own_rows (get_or tree k d)))) (rows ++ filter met (map shows (home_rows tree (path_at tree k))))
+  own-met d met shows rows = IsPermutation-append_right rows _ _ (IsPermutation-filter met _ _ (IsPermutation-map shows _ _ (IsPermutation-sym _ _ (home_rows-own tree shape k d within))))
 
 module _ (tree : List Directory) (shape : HasTreeShape tree) (path : Components) where
   -- the rows at and below a path are those of the directories there, up to their order
   pub under-length : length (subtree_rows tree path) ≡ length (rows_under tree path)
   under-length = length_permutation _ _ (IsPermutation-sym _ _ (subtree_rows-under tree shape path))
 
-  pub under-met : (met : Row → Bool) (rows : List Row) → IsPermutation (rows ++ filter met (rows_under tree path)) (rows ++ filter met (subtree_rows tree path))
-  under-met met rows = IsPermutation-append_right rows _ _ (IsPermutation-filter met _ _ (IsPermutation-sym _ _ (subtree_rows-under tree shape path)))
+  pub under-met : (met : Row → Bool) (shows : Row → Row) (rows : List Row) → IsPermutation (rows ++ filter met (map shows (rows_under tree path))) (rows ++ filter met (map shows (subtree_rows tree path)))
+  under-met met shows rows = IsPermutation-append_right rows _ _ (IsPermutation-filter met _ _ (IsPermutation-map shows _ _ (IsPermutation-sym _ _ (subtree_rows-under tree shape path))))
 
 -- a sum of a directory's own rows is one of its home's, and a sum of the rows of directories below a path one of its subtree's
 pub home_total : (tree : List Directory) (k : ℕ) (d : Directory) (sum : Summary) → HasTreeShape tree → k < length tree → IsTotal sum (own_rows (get_or tree k d)) → IsTotal sum (home_rows tree (path_at tree k))

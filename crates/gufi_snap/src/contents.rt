@@ -1,6 +1,6 @@
 //! What a snapshot keeps under every limit.
 
-ghost use Rattle.std.specs.Prelude.{◌≡◌, ◌+◌, ◌≤◌, ◌<◌, ◌^◌, List, ◌++◌, filter, length, All, IfOk, OnOk};
+ghost use Rattle.std.specs.Prelude.{◌≡◌, ◌+◌, ◌≤◌, ◌<◌, ◌^◌, List, ◌++◌, filter, map, length, All, IfOk, OnOk};
 ghost use Rattle.std.specs.List.{flat_map};
 ghost use Rattle.gufi_base.specs.declared.record.Row.{Row};
 ghost use Rattle.gufi_base.specs.Paths.{is_prefix};
@@ -12,7 +12,7 @@ ghost use Rattle.gufi_sums.specs.Total.{IsTotal};
 
 use crate::stores::sum_stores;
 use crate::sums::{add_above, add_below};
-use gufi_base::{Memory, Steps, Tester, Yield};
+use gufi_base::{Memory, Steps, Tester, View, Yield};
 use gufi_store::{DirStore, scan_fold};
 use gufi_sums::{SharedSums, Summary};
 use gufi_tree::{DirId, DirRange, Tree};
@@ -124,12 +124,13 @@ impl Contents {
         self.tree.range(id, count)
     }
 
-    /// Adds the rows of a directory itself that meet the question. One step.
-    pub(crate) fn scan_own<T: Tester, Y: Yield, L: Ledger>(
+    /// Adds the rows of a directory itself as they are shown, those that meet the question so. One step.
+    pub(crate) fn scan_own<T: Tester, V: View, Y: Yield, L: Ledger>(
         &self,
         alloc: Global,
         id: DirId,
         tester: &mut T,
+        view: &V,
         above: u32,
         out: &mut Y,
         steps: &mut Steps<L>,
@@ -139,19 +140,20 @@ impl Contents {
         requires room { Y.count out.old + length (home_rows self.now (path_at self.now id.0)) < 2 ^ 40 }
         requires rows { (rows : List Row) × Y.stands_for out.old rows }
         ensures rows { OnOk result ((rows : List Row) → Y.stands_for out.old rows →
-            Y.stands_for out.new (rows ++ filter (is_met above (T.meets tester.old)) (home_rows self.now (path_at self.now id.0)))) }
+            Y.stands_for out.new (rows ++ filter (is_met above (T.meets tester.old)) (map (V.shows view.now) (home_rows self.now (path_at self.now id.0))))) }
         ensures same { T.meets tester.new ≡ T.meets tester.old }
         ensures tick { steps.new ≡ steps.old + 1 }
     {
-        DirStore::again(self.tree.dir(id)).scan(alloc, tester, above, out, steps)
+        DirStore::again(self.tree.dir(id)).scan(alloc, tester, view, above, out, steps)
     }
 
-    /// Adds the rows at and below a directory that meet the question. One step for all.
-    pub(crate) fn scan_below<T: Tester, Y: Yield, L: Ledger>(
+    /// Adds the rows at and below a directory as they are shown, those that meet the question so. One step for all.
+    pub(crate) fn scan_below<T: Tester, V: View, Y: Yield, L: Ledger>(
         &self,
         alloc: Global,
         id: DirId,
         tester: &mut T,
+        view: &V,
         above: u32,
         out: &mut Y,
         steps: &mut Steps<L>,
@@ -161,10 +163,18 @@ impl Contents {
         requires room { Y.count out.old + length (subtree_rows self.now (path_at self.now id.0)) < 2 ^ 40 }
         requires rows { (rows : List Row) × Y.stands_for out.old rows }
         ensures rows { OnOk result ((rows : List Row) → Y.stands_for out.old rows →
-            Y.stands_for out.new (rows ++ filter (is_met above (T.meets tester.old)) (subtree_rows self.now (path_at self.now id.0)))) }
+            Y.stands_for out.new (rows ++ filter (is_met above (T.meets tester.old)) (map (V.shows view.now) (subtree_rows self.now (path_at self.now id.0))))) }
         ensures same { T.meets tester.new ≡ T.meets tester.old }
         ensures tick { steps.new ≡ steps.old + 1 }
     {
-        scan_fold(alloc, &self.stores_below(id), tester, above, out, steps)
+        scan_fold(
+            alloc,
+            &self.stores_below(id),
+            tester,
+            view,
+            above,
+            out,
+            steps,
+        )
     }
 }

@@ -1,6 +1,6 @@
 //! Snapshots.
 
-ghost use Rattle.std.specs.Prelude.{◌≡◌, ◌+◌, ◌≤◌, ◌<◌, ◌^◌, List, ◌++◌, filter, length, IfOk, OnOk};
+ghost use Rattle.std.specs.Prelude.{◌≡◌, ◌+◌, ◌≤◌, ◌<◌, ◌^◌, List, ◌++◌, filter, map, length, IfOk, OnOk};
 ghost use Rattle.std.specs.Arc.{arc_value};
 ghost use Rattle.gufi_base.specs.declared.record.Row.{Row};
 ghost use Rattle.gufi_base.specs.Rows.{depth_below};
@@ -11,7 +11,7 @@ ghost use Rattle.gufi_roll.specs.CanRoll.{can_roll, roll_flags};
 ghost use Rattle.gufi_snap.specs.Pieces.{piece, dir_sum, tree_sum};
 
 use crate::contents::Contents;
-use gufi_base::{Memory, Steps, Tester, Yield};
+use gufi_base::{Memory, Steps, Tester, View, Yield};
 use gufi_roll::roll;
 use gufi_sums::Summary;
 use gufi_tree::{DirId, Tree};
@@ -177,15 +177,16 @@ impl Snapshot {
         self.contents.tree_sum(id)
     }
 
-    /// Adds the rows of a directory's piece that meet the question: its own row and its entries' rows, or, where it is rolled
-    /// up, all rows at and below it. One step.
+    /// Adds the rows of a directory's piece as they are shown, those that meet the question so: its own row and its entries'
+    /// rows, or, where it is rolled up, all rows at and below it. One step.
     ///
     /// `above` is how many components the start has, below which depths are counted.
-    pub fn scan_piece<T: Tester, Y: Yield, L: Ledger>(
+    pub fn scan_piece<T: Tester, V: View, Y: Yield, L: Ledger>(
         &self,
         alloc: Global,
         id: DirId,
         tester: &mut T,
+        view: &V,
         above: u32,
         out: &mut Y,
         steps: &mut Steps<L>,
@@ -195,15 +196,16 @@ impl Snapshot {
         requires room { Y.count out.old + length (piece self.now.tree (path_at self.now.tree id.0) self.now.limit) < 2 ^ 40 }
         requires rows { (rows : List Row) × Y.stands_for out.old rows }
         ensures rows { OnOk result ((rows : List Row) → Y.stands_for out.old rows →
-            Y.stands_for out.new (rows ++ filter (λ row. T.meets tester.old row (depth_below above row)) (piece self.now.tree (path_at self.now.tree id.0) self.now.limit))) }
+            Y.stands_for out.new (rows ++ filter (λ row. T.meets tester.old row (depth_below above row)) (map (V.shows view.now) (piece self.now.tree (path_at self.now.tree id.0) self.now.limit)))) }
         ensures same { T.meets tester.new ≡ T.meets tester.old }
         ensures tick { steps.new ≡ steps.old + 1 }
     {
         if self.rolled(id) {
             return self
                 .contents
-                .scan_below(alloc, id, tester, above, out, steps);
+                .scan_below(alloc, id, tester, view, above, out, steps);
         }
-        self.contents.scan_own(alloc, id, tester, above, out, steps)
+        self.contents
+            .scan_own(alloc, id, tester, view, above, out, steps)
     }
 }

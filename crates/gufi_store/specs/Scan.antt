@@ -1,5 +1,5 @@
--- Which rows of directories meet a question.
-use Rattle.std.specs.Prelude.{ℕ, Bool, List, filter}
+-- Which rows of directories meet a question, as they are shown.
+use Rattle.std.specs.Prelude.{ℕ, Bool, List, filter, map}
 use Rattle.std.specs.List.{flat_map}
 use Rattle.gufi_base.specs.declared.record.Row.{Row}
 use Rattle.gufi_base.specs.Rows.{depth_below}
@@ -9,10 +9,10 @@ use Rattle.gufi_tree.specs.Tree.{Directory, own_rows}
 abbrev pub is_met : ℕ → (Row → ℕ → Bool) → Row → Bool
 is_met above sat row = sat row (depth_below above row)
 
--- the directory's own row and its entries' rows, those that meet the question
-abbrev pub rows_met : ℕ → (Row → ℕ → Bool) → Directory → List Row
-rows_met above sat dir = filter (is_met above sat) (own_rows dir)
+-- the directory's own row and its entries' rows as they are shown, those that meet the question
+abbrev pub rows_met : ℕ → (Row → ℕ → Bool) → (Row → Row) → Directory → List Row
+rows_met above sat shows dir = filter (is_met above sat) (map shows (own_rows dir))
 
 -- the same of each of several directories, one after another
-abbrev pub rows_met_in : ℕ → (Row → ℕ → Bool) → List Directory → List Row
-rows_met_in above sat dirs = filter (is_met above sat) (flat_map own_rows dirs)
+abbrev pub rows_met_in : ℕ → (Row → ℕ → Bool) → (Row → Row) → List Directory → List Row
+rows_met_in above sat shows dirs = filter (is_met above sat) (map shows (flat_map own_rows dirs))

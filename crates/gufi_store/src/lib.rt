@@ -5,7 +5,7 @@
 //! It stands on `gufi_tree`, whose trees lend the directories; snapshots stand on it.
 #![tactic(auto)]
 
-ghost use Rattle.std.specs.Prelude.{◌≡◌, ◌+◌, ◌-◌, ◌^◌, ◌<◌, ◌≤◌, List, [], ◌∷◌, ◌++◌, length, IfOk, OnOk, IsTrue, All, if◌then◌else◌};
+ghost use Rattle.std.specs.Prelude.{◌≡◌, ◌+◌, ◌-◌, ◌^◌, ◌<◌, ◌≤◌, List, [], ◌∷◌, ◌++◌, length, map, IfOk, OnOk, IsTrue, All, if◌then◌else◌};
 ghost use Rattle.std.specs.List.{list_all, flat_map};
 ghost use Rattle.gufi_base.specs.Names.{is_name};
 ghost use Rattle.gufi_base.specs.declared.record.Row.{Row};
@@ -15,7 +15,7 @@ ghost use Rattle.gufi_base.specs.PathTexts.{kept_text};
 ghost use Rattle.gufi_tree.specs.Tree.{entry_row, own_rows};
 ghost use Rattle.gufi_store.specs.Scan.{rows_met, rows_met_in};
 
-use gufi_base::{Memory, PathRef, RecRef, RowRef, Steps, Tester, Yield};
+use gufi_base::{Memory, PathRef, RecRef, RowRef, Steps, Tester, View, Yield};
 use gufi_tree::{DirRange, DirRef, EntryRef};
 use std::alloc::Global;
 use std::marker::Model;
@@ -47,6 +47,7 @@ fn own_row<'a>(path: &PathRef<'a>, rec: &RecRef<'a>) -> RowRef<'a>
         base,
         meta: rec.meta(),
         link: rec.link(),
+        xattrs: rec.xattrs(),
     }
 }
 
@@ -61,27 +62,30 @@ fn row_below<'a>(stem: &'a [u8], entry: &EntryRef<'a>) -> RowRef<'a>
         base: entry.name(),
         meta: rec.meta(),
         link: rec.link(),
+        xattrs: rec.xattrs(),
     }
 }
 
-/// Adds a row where it meets the question.
+/// Adds a row as it is shown, where that meets the question.
 #[inline]
-fn offer<T: Tester, Y: Yield>(
+fn offer<T: Tester, V: View, Y: Yield>(
     alloc: Global,
     row: RowRef<'_>,
     depth: u32,
     tester: &mut T,
+    view: &V,
     out: &mut Y,
 ) -> Result<(), Memory>
     requires row { StandsForSome row }
     requires room { Y.count out.old + 1 < 2 ^ 40 }
     requires rows { (rows : List Row) × Y.stands_for out.old rows }
     ensures rows { OnOk result ((of : Row) (rows : List Row) → Stands row.entry of → Y.stands_for out.old rows →
-        Y.stands_for out.new (rows ++ (if T.meets tester.old of depth then of ∷ [] else []))) }
+        Y.stands_for out.new (rows ++ (if T.meets tester.old (V.shows view.now of) depth then V.shows view.now of ∷ [] else []))) }
     ensures same { T.meets tester.new ≡ T.meets tester.old }
 {
-    if tester.test(alloc, row, depth)? {
-        out.take(alloc, row)?;
+    let shown = view.view(row);
+    if tester.test(alloc, shown, depth)? {
+        out.take(alloc, shown)?;
     }
     Ok(())
 }
@@ -125,13 +129,14 @@ impl<'a> DirStore<'a> {
         &self.dir
     }
 
-    /// Adds the directory's own row and its entries' rows, each that meets the question, and counts one step.
+    /// Adds the directory's own row and its entries' rows as they are shown, each that meets the question so, and counts one step.
     ///
     /// `above` is how many components the start has, below which depths are counted.
-    pub fn scan<T: Tester, Y: Yield, L: Ledger>(
+    pub fn scan<T: Tester, V: View, Y: Yield, L: Ledger>(
         &self,
         alloc: Global,
         tester: &mut T,
+        view: &V,
         above: u32,
         out: &mut Y,
         steps: &mut Steps<L>,
@@ -140,18 +145,19 @@ impl<'a> DirStore<'a> {
         requires room { Y.count out.old + length (own_rows self.now) < 2 ^ 40 }
         requires rows { (rows : List Row) × Y.stands_for out.old rows }
         ensures rows { OnOk result ((rows : List Row) → Y.stands_for out.old rows →
-            Y.stands_for out.new (rows ++ rows_met above (T.meets tester.old) self.now)) }
+            Y.stands_for out.new (rows ++ rows_met above (T.meets tester.old) (V.shows view.now) self.now)) }
         ensures same { T.meets tester.new ≡ T.meets tester.old }
         ensures tick { steps.new ≡ steps.old + 1 }
     {
         steps.tick();
-        self.scan_rows(alloc, tester, above, out)
+        self.scan_rows(alloc, tester, view, above, out)
     }
 
-    fn scan_rows<T: Tester, Y: Yield>(
+    fn scan_rows<T: Tester, V: View, Y: Yield>(
         &self,
         alloc: Global,
         tester: &mut T,
+        view: &V,
         above: u32,
         out: &mut Y,
     ) -> Result<(), Memory>
@@ -159,29 +165,31 @@ impl<'a> DirStore<'a> {
         requires room { Y.count out.old + length (own_rows self.now) < 2 ^ 40 }
         requires rows { (rows : List Row) × Y.stands_for out.old rows }
         ensures rows { OnOk result ((rows : List Row) → Y.stands_for out.old rows →
-            Y.stands_for out.new (rows ++ rows_met above (T.meets tester.old) self.now)) }
+            Y.stands_for out.new (rows ++ rows_met above (T.meets tester.old) (V.shows view.now) self.now)) }
         ensures same { T.meets tester.new ≡ T.meets tester.old }
     {
         let path = self.dir.path();
         let depth = depth_between(path.depth(), above)?;
         let stem = path.text();
-        offer(alloc, own_row(&path, &self.dir.rec()), depth, tester, out)?;
+        let own = own_row(&path, &self.dir.rec());
+        offer(alloc, own, depth, tester, view, out)?;
         let entries = self.dir.entries();
         for place in 0..entries.len() {
             let row = row_below(stem, &entries.at(place));
-            offer(alloc, row, depth + 1, tester, out)?;
+            offer(alloc, row, depth + 1, tester, view, out)?;
         }
         Ok(())
     }
 }
 
-/// Adds the rows of a fold that meet the question, and counts one step for all its stores, which stand side by side.
+/// Adds the rows of a fold as they are shown, each that meets the question so, and counts one step for all its stores, which stand side by side.
 ///
 /// The rows of a store follow those of the stores before it. `above` is as in [`DirStore::scan`].
-pub fn scan_fold<T: Tester, Y: Yield, L: Ledger>(
+pub fn scan_fold<T: Tester, V: View, Y: Yield, L: Ledger>(
     alloc: Global,
     stores: &DirRange<'_>,
     tester: &mut T,
+    view: &V,
     above: u32,
     out: &mut Y,
     steps: &mut Steps<L>,
@@ -190,13 +198,13 @@ pub fn scan_fold<T: Tester, Y: Yield, L: Ledger>(
     requires room { Y.count out.old + length (flat_map own_rows stores.now) < 2 ^ 40 }
     requires rows { (rows : List Row) × Y.stands_for out.old rows }
     ensures rows { OnOk result ((rows : List Row) → Y.stands_for out.old rows →
-        Y.stands_for out.new (rows ++ rows_met_in above (T.meets tester.old) stores.now)) }
+        Y.stands_for out.new (rows ++ rows_met_in above (T.meets tester.old) (V.shows view.now) stores.now)) }
     ensures same { T.meets tester.new ≡ T.meets tester.old }
     ensures tick { steps.new ≡ steps.old + 1 }
 {
     steps.tick();
     for place in 0..stores.len() {
-        DirStore::again(stores.at(place)).scan_rows(alloc, tester, above, out)?;
+        DirStore::again(stores.at(place)).scan_rows(alloc, tester, view, above, out)?;
     }
     Ok(())
 }

@@ -1,16 +1,17 @@
 -- Lemmas on what a command asks of one tree.
-use Rattle.std.proofs.Common.{◌≡◌, ◌≢◌, ℕ, ◌≤◌, true, not, cond, List, [], ◌∷◌, length, get_or, refl, sym, ap, ◌∙◌, subst, arith}
+use Rattle.std.proofs.Common.{◌≡◌, ◌≢◌, ℕ, ◌≤◌, true, false, not, cond, List, [], ◌∷◌, length, get_or, refl, sym, ap, ◌∙◌, subst, arith}
 use Rattle.std.specs.Prelude.{Bool, Option, Some, None, Result, Ok, Err, filter, Vec}
 use Rattle.std.specs.declared.alloc.Global.{Global}
 use Rattle.std.specs.List.{flat_map}
-use Rattle.std.proofs.lemmas.List.{append-nil}
+use Rattle.std.proofs.lemmas.List.{append-nil, length-map}
 use Rattle.std.proofs.lemmas.List.Filters.{length-filter_both}
 use Rattle.gufi_base.specs.declared.record.Row.{Row}
 use Rattle.gufi_base.specs.Basics.{◌>>=◌}
 use Rattle.gufi_base.specs.Paths.{Components, path_eq}
 use Rattle.gufi_base.specs.Rows.{home, depth_below}
 use Rattle.gufi_access.specs.declared.class.Principal.{Principal}
-use Rattle.gufi_tree.specs.Tree.{Directory, all_rows, dir_row, may_list, HasTreeShape}
+use Rattle.gufi_access.specs.Access.{is_granted}
+use Rattle.gufi_tree.specs.Tree.{Directory, all_rows, dir_row, may_list, rights_of, HasTreeShape}
 use Rattle.gufi_tree.specs.Listed.{is_listed}
 use Rattle.gufi_tree.specs.declared.tree.DirId.{DirId}
 use Rattle.gufi_tree.specs.declared.resolve.Resolved.TheVariants.{Found}
@@ -25,7 +26,7 @@ use Rattle.gufi_sums.specs.declared.summary.Summary.{Summary}
 use Rattle.gufi_sums.specs.Total.{total}
 use Rattle.gufi_list.specs.Texts.{stat_text}
 use Rattle.gufi_walk.specs.declared.refusal.Refusal.{Refusal}
-use Rattle.gufi_walk.specs.Answer.{answer, listed_rows, refusal_of, rows_or}
+use Rattle.gufi_walk.specs.Answer.{answer, listed_rows, nameless, refusal_of, rows_or, shown}
 use Rattle.gufi_walk.proofs.Isolation.{alike_replies}
 use Rattle.gufi_walk.proofs.StartRow.{start_row}
 use Rattle.gufi_walk.specs.declared.refusal.Refusal.TheVariants as refusals
@@ -50,15 +51,23 @@ pub reply_refused : (tree : List Directory) (who : Principal) (start : Component
 unfolding ask_reply
 reply_refused tree who start ask refusal is = ap (λ (o : Option Refusal). rows_or o (answer tree who start (ask_holds ask)) >>= λ rows. Ok (ask_text ask start rows)) is
 
+-- what is printed of a start doesn't tell its names of extended attributes
+stat_text-nameless : (some : Bool) (row : Row) (sum : Summary) → stat_text (cond some row (nameless row)) sum ≡ stat_text row sum
+stat_text-nameless true row sum = refl
+stat_text-nameless false row sum = refl
+
+stat_text-shown : (who : Principal) (row : Row) (sum : Summary) → stat_text (shown who row) sum ≡ stat_text row sum
+stat_text-shown who row sum = stat_text-nameless (is_granted who (rights_of row.rec) 4) row sum
+
 -- a directory's row is the one of its path
 start_row_at : (tree : List Directory) (shape : HasTreeShape tree) (who : Principal) (start : Components) (d : Directory) (row : Row) → Has tree d → may_list who d ≡ true → d.path ≡ start → row ≡ dir_row d
-    → filter (λ other. path_eq start other.path) (answer tree who start (λ row depth. true)) ≡ row ∷ []
+    → filter (λ other. path_eq start other.path) (answer tree who start (λ row depth. true)) ≡ shown who row ∷ []
 start_row_at tree shape who start d row there on at is =
-    subst (λ s. filter (λ other. path_eq s other.path) (answer tree who s (λ row depth. true)) ≡ row ∷ []) at (start_row tree shape who d there on ∙ ap (λ r. r ∷ []) (sym is))
+    subst (λ s. filter (λ other. path_eq s other.path) (answer tree who s (λ row depth. true)) ≡ shown who row ∷ []) at (start_row tree shape who d there on ∙ ap (λ r. shown who r ∷ []) (sym is))
 
 -- the row of the directory that is found at the start
 row_found : (tree : List Directory) (who : Principal) (start : Components) (id : DirId) (row : Row) → HasTreeShape tree → resolve tree who start ≡ Found id
-    → ((d : Directory) → row ≡ dir_row (get_or tree id.0 d)) → filter (λ other. path_eq start other.path) (answer tree who start (λ row depth. true)) ≡ row ∷ []
+    → ((d : Directory) → row ≡ dir_row (get_or tree id.0 d)) → filter (λ other. path_eq start other.path) (answer tree who start (λ row depth. true)) ≡ shown who row ∷ []
 row_found tree who start id row shape found is =
     let w = found_place_of_start tree who start id shape found in
     let own = get_or tree id.0 w.dir in
@@ -72,7 +81,7 @@ stat_found tree seen who start id dir sum shape same found at is =
     let rows : List Row = answer tree who start (λ row depth. true) in
     let one = row_found tree who start id (dir_row dir) shape found (λ d. ap dir_row (at d ∙ ap (λ (ds : List Directory). get_or ds id.0 d) same)) in
     reply_found tree who start stat_ask (ap refusal_of found)
-    ∙ ap Ok (ap (flat_map (λ r. stat_text r (total rows))) one ∙ append-nil (stat_text (dir_row dir) (total rows)) ∙ ap (stat_text (dir_row dir)) (sym is))
+    ∙ ap Ok (ap (flat_map (λ r. stat_text r (total rows))) one ∙ append-nil (stat_text (shown who (dir_row dir)) (total rows)) ∙ stat_text-shown who (dir_row dir) (total rows) ∙ ap (stat_text (dir_row dir)) (sym is))
 
 -- ---- what a reply returned is the one that is given
 
@@ -93,7 +102,7 @@ unfolding answer
 answer-few tree who start asks =
     let listed = filter-few (λ row. is_listed tree who start (home row)) (all_rows tree) in
     let asked = filter-few (λ row. asks row (depth_below (length start) row)) (listed_rows tree who start) in
-    omega (arith, listed, asked)
+    omega (arith, listed, asked, length-map (filter (λ row. is_listed tree who start (home row)) (all_rows tree)) (shown who))
 
 -- what meets a question of the row alone, of all that is listed
 kept : (p : Row → Bool) (rows : List Row) → filter (λ row. p row) rows ≡ filter p (filter (λ row. true) rows)

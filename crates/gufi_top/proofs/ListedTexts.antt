@@ -4,12 +4,10 @@ use Rattle.std.specs.Prelude.{Option, Result, Ok, ok_or, filter}
 use Rattle.gufi_base.specs.declared.record.Row.{Row}
 use Rattle.gufi_base.specs.Basics.{◌>>=◌, result_map_err}
 use Rattle.gufi_base.specs.Paths.{Components}
-use Rattle.gufi_base.specs.Rows.{home}
 use Rattle.gufi_rows.specs.PathLines.{path_lines}
 use Rattle.gufi_access.specs.declared.class.Principal.{Principal}
 use Rattle.gufi_access.specs.Access.{principal}
-use Rattle.gufi_tree.specs.Tree.{Directory, all_rows}
-use Rattle.gufi_tree.specs.Listed.{is_listed}
+use Rattle.gufi_tree.specs.Tree.{Directory}
 use Rattle.gufi_tree.specs.Resolve.{resolve, is_found}
 use Rattle.gufi_snap.specs.Snap.{Snap}
 use Rattle.gufi_users.specs.Entries.{UserTables}
@@ -17,7 +15,7 @@ use Rattle.gufi_find.specs.Expressions.{Find}
 use Rattle.gufi_find.specs.declared.fault.FindError.{FindError}
 use Rattle.gufi_words.specs.declared.word.WordError.{WordError}
 use Rattle.gufi_words.specs.declared.command.Command.{Command}
-use Rattle.gufi_walk.specs.Answer.{answer}
+use Rattle.gufi_walk.specs.Answer.{answer, listed_rows}
 use Rattle.gufi_top.specs.Asks.{Ask, walk_ask, find_ask, ask_holds, ask_text}
 use Rattle.gufi_top.specs.Reasons.{Reason, word_refused, words_reason, find_reason}
 use Rattle.gufi_top.specs.Verdict.{writes_only, replied, asked, asked_if, walk_over, user_in, asked_by, index_over, ask_over, find_asking, command_over, command_in, verdict}
@@ -40,7 +38,7 @@ walk_writes words files trace uid gids delim tree are means found =
     ap (λ (r : Result Command WordError). result_map_err words_reason r >>= λ command. command_over command files) are
     ∙ ap (λ (r : Result (List Directory) Reason). r >>= λ t. asked t (principal uid gids) [] walk_ask) means
     ∙ asked_found tree (principal uid gids) [] walk_ask found
-    ∙ ap (λ rows. writes_only (path_lines rows)) (filter_all (filter (λ row. is_listed tree (principal uid gids) [] (home row)) (all_rows tree)))
+    ∙ ap (λ rows. writes_only (path_lines rows)) (filter_all (listed_rows tree (principal uid gids) []))
 
 pub find_writes : FindWritesTheListedRows
 unfolding verdict command_in command_over ask_over index_over user_in answer

@@ -5,18 +5,18 @@ use Rattle.gufi_io.specs.Files.{Files}
 use Rattle.gufi_base.specs.Basics.{is_empty}
 use Rattle.gufi_base.specs.Delimiters.{may_delimit}
 use Rattle.gufi_base.specs.Paths.{is_too_long}
-use Rattle.gufi_base.specs.Rows.{are_bytes, home, depth_below}
+use Rattle.gufi_base.specs.Rows.{are_bytes, depth_below}
 use Rattle.gufi_rows.specs.PathLines.{path_lines}
 use Rattle.gufi_access.specs.declared.class.Principal.{Principal}
 use Rattle.gufi_access.specs.Access.{principal}
-use Rattle.gufi_tree.specs.Tree.{Directory, own_rows, all_rows}
-use Rattle.gufi_tree.specs.Listed.{is_listed}
+use Rattle.gufi_tree.specs.Tree.{Directory, own_rows}
 use Rattle.gufi_tree.specs.Resolve.{resolve, is_found}
 use Rattle.gufi_snap.specs.Snap.{Snap}
 use Rattle.gufi_users.specs.Entries.{UserTables}
 use Rattle.gufi_users.specs.Users.{principal_of}
 use Rattle.gufi_find.specs.Expressions.{Find, find_holds}
 use Rattle.gufi_find.specs.Reading.{read_find}
+use Rattle.gufi_walk.specs.Answer.{listed_rows}
 use Rattle.gufi_trace.specs.TraceText.{trace_means}
 use Rattle.gufi_trace.specs.TraceTrees.{trace_root}
 use Rattle.gufi_image.specs.Image.{image_text}
@@ -31,14 +31,14 @@ use Rattle.gufi_top.specs.Verdict.{writes_only, command_over, verdict}
 abbrev pub WalkWritesTheListedRows : Type 0
 WalkWritesTheListedRows = (words : List (List ℕ)) (files : Files) (trace : List ℕ) (uid : ℕ) (gids : List ℕ) (delim : ℕ) (tree : List Directory)
     → read_words words ≡ Ok (commands.Walk trace uid gids delim) → trace_in delim trace files ≡ Ok tree → IsTrue (is_found (resolve tree (principal uid gids) []))
-    → verdict words files ≡ writes_only (path_lines (filter (λ row. is_listed tree (principal uid gids) [] (home row)) (all_rows tree)))
+    → verdict words files ≡ writes_only (path_lines (listed_rows tree (principal uid gids) []))
 
 -- `find` writes, in path order, a line for each row of the tree that its index means whose directory USER lists by walking from START and for which the expression is true.
 abbrev pub FindWritesTheListedRows : Type 0
 FindWritesTheListedRows = (words : List (List ℕ)) (files : Files) (common : Common) (now : Option ℤ) (tests : List (List ℕ)) (tables : UserTables) (snap : Snap) (who : Principal) (expression : Find)
     → read_words words ≡ Ok (commands.Find common now tests) → tables_in common.passwd common.group files ≡ Ok tables → index_in common.delim common.limit common.index files ≡ Ok snap
     → principal_of tables common.user ≡ Some who → read_find tests tables now ≡ Ok expression → IsTrue (is_found (resolve snap.tree who common.start))
-    → verdict words files ≡ writes_only (path_lines (filter (λ row. find_holds expression row (depth_below (length common.start) row)) (filter (λ row. is_listed snap.tree who common.start (home row)) (all_rows snap.tree))))
+    → verdict words files ≡ writes_only (path_lines (filter (λ row. find_holds expression row (depth_below (length common.start) row)) (listed_rows snap.tree who common.start)))
 
 -- `gen` of as many directories as its word may say, with whichever delimiter, writes their trace, or its summary.
 abbrev pub GenIsNeverRefused : Type 0

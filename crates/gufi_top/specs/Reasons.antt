@@ -124,6 +124,7 @@ trace_limit kinds.BadPath = None
 trace_limit kinds.LongName = None
 trace_limit kinds.BadType = None
 trace_limit (kinds.BadNumber field) = None
+trace_limit kinds.BadXattr = None
 trace_limit kinds.NotUnderRoot = None
 trace_limit kinds.WrongStanza = None
 trace_limit (kinds.TooMany limit) = Some limit

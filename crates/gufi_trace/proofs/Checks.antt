@@ -15,7 +15,7 @@ use Rattle.gufi_base.proofs.Texts.{slashed_text-closed}
 use Rattle.gufi_tree.specs.declared.tree.Entry.{Entry}
 use Rattle.gufi_tree.specs.Tree.{Directory, own_rows, entry_row}
 use Rattle.gufi_tree.specs.Places.{path_at}
-use Rattle.gufi_trace.specs.TraceWriting.{holds_byte, row_holds}
+use Rattle.gufi_trace.specs.TraceWriting.{holds_byte, rec_holds, row_holds}
 use Rattle.gufi_trace.specs.Writing.{directory, own_holds, own_too_long, own_text, is_over}
 use Rattle.gufi_trace.proofs.FieldsBack.{plain_apart}
 
@@ -38,22 +38,22 @@ pub text_holds : (delim : ℕ) → may_delimit delim ≡ true → (path : Compon
 text_holds delim may path = ap (λ (x : Bool). x || holds_byte delim (closed_names path)) (no_slash delim may) ∙ closed_holds delim may path
 
 abbrev pub entry_holds : ℕ → Entry → Bool
-entry_holds delim e = holds_byte delim e.name || holds_byte delim e.rec.link
+entry_holds delim e = holds_byte delim e.name || rec_holds delim e.rec
 
 entries_hold : (delim : ℕ) (path : Components) → list_any (holds_byte delim) path ≡ false → (es : List Entry) → list_any (row_holds delim) (map (entry_row path) es) ≡ list_any (entry_holds delim) es
 entries_hold delim path none [] = refl
 entries_hold delim path none (e ∷ es) =
-    ap (λ (x : Bool). (x || holds_byte delim e.rec.link) || list_any (row_holds delim) (map (entry_row path) es))
+    ap (λ (x : Bool). (x || rec_holds delim e.rec) || list_any (row_holds delim) (map (entry_row path) es))
     (list_any-append (holds_byte delim) path (e.name ∷ []) ∙ ap (λ (x : Bool). x || (holds_byte delim e.name || false)) none ∙ or_nothing (holds_byte delim e.name))
     ∙ ap (λ (x : Bool). entry_holds delim e || x) (entries_hold delim path none es)
 
 pub own_holds-parts : (delim : ℕ) (path : Components) (rec : Rec) (es : List Entry)
-    → own_holds delim (directory path rec es) ≡ (list_any (holds_byte delim) path || holds_byte delim rec.link || list_any (entry_holds delim) es)
+    → own_holds delim (directory path rec es) ≡ (list_any (holds_byte delim) path || rec_holds delim rec || list_any (entry_holds delim) es)
 own_holds-parts delim path rec es = by (list_any (holds_byte delim) path) refl
   where
-    by : (b : Bool) → list_any (holds_byte delim) path ≡ b → (b || holds_byte delim rec.link || list_any (row_holds delim) (map (entry_row path) es)) ≡ (b || holds_byte delim rec.link || list_any (entry_holds delim) es)
+    by : (b : Bool) → list_any (holds_byte delim) path ≡ b → (b || rec_holds delim rec || list_any (row_holds delim) (map (entry_row path) es)) ≡ (b || rec_holds delim rec || list_any (entry_holds delim) es)
     by true e = refl
-    by false e = ap (λ (x : Bool). holds_byte delim rec.link || x) (entries_hold delim path e es)
+    by false e = ap (λ (x : Bool). rec_holds delim rec || x) (entries_hold delim path e es)
 
 -- lengths
 too_long_is : (path : Components) → is_too_long path ≡ is_over (length path) (length (slashed_text path))

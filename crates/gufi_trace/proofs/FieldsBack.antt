@@ -61,12 +61,33 @@ unfoldable pub AreFields : ℕ → List (List ℕ) → Type 0
 AreFields delim [] = Unit {0}
 AreFields delim (field ∷ fields) = IsField delim field × AreFields delim fields
 
+-- parts that hold the byte nowhere, joined by it
+pub split_join : (s : ℕ) (part : List ℕ) (parts : List (List ℕ)) → list_all (has_no s) (part ∷ parts) ≡ true → split s (join_with_byte s (part ∷ parts)) ≡ part ∷ parts
+split_join s part [] h = split_one s part (and_parts (has_no s part) true h).0
+split_join s part (next ∷ parts) h =
+    let both = and_parts (has_no s part) (list_all (has_no s) (next ∷ parts)) h in
+    split_first s part (join_with_byte s (next ∷ parts)) both.0 ∙ ap (λ (ps : List (List ℕ)). part ∷ ps) (split_join s next parts both.1)
+
+pub all_join : (q : ℕ → Bool) (s : ℕ) → q s ≡ true → (parts : List (List ℕ)) → list_all (list_all q) parts ≡ true → list_all q (join_with_byte s parts) ≡ true
+all_join q s own [] h = refl
+all_join q s own (part ∷ []) h = (and_parts (list_all q part) true h).0
+all_join q s own (part ∷ next ∷ parts) h =
+    let both = and_parts (list_all q part) (list_all (list_all q) (next ∷ parts)) h in
+    list_all-append q part (s ∷ join_with_byte s (next ∷ parts)) ∙ and_from _ _ both.0 (and_from _ _ own (all_join q s own (next ∷ parts) both.1))
+
+all_apart : (delim : ℕ) (fields : List (List ℕ)) → AreFields delim fields → list_all (has_no delim) fields ≡ true
+unfolding AreFields
+all_apart delim [] h = refl
+all_apart delim (field ∷ fields) h = and_from _ _ h.0.apart (all_apart delim fields h.1)
+
+all_open : (delim : ℕ) (fields : List (List ℕ)) → AreFields delim fields → list_all (has_no 10) fields ≡ true
+unfolding AreFields
+all_open delim [] h = refl
+all_open delim (field ∷ fields) h = and_from _ _ h.0.line (all_open delim fields h.1)
+
 -- the fields of a line
 pub split_joined : (delim : ℕ) (field : List ℕ) (fields : List (List ℕ)) → AreFields delim (field ∷ fields) → split delim (join_with_byte delim (field ∷ fields)) ≡ field ∷ fields
-unfolding AreFields
-split_joined delim field [] h = split_one delim field h.0.apart
-split_joined delim field (next ∷ fields) h =
-    split_first delim field (join_with_byte delim (next ∷ fields)) h.0.apart ∙ ap (λ (ps : List (List ℕ)). field ∷ ps) (split_joined delim next fields h.1)
+split_joined delim field fields h = split_join delim field fields (all_apart delim (field ∷ fields) h)
 
 delim_no_newline : (delim : ℕ) → may_delimit delim ≡ true → not (eqb delim 10) ≡ true
 delim_no_newline delim may = ⊎_elim same (λ e. not_from_false _ e) (cases_Bool (eqb delim 10))
@@ -76,9 +97,4 @@ delim_no_newline delim may = ⊎_elim same (λ e. not_from_false _ e) (cases_Boo
 
 -- a line holds no newline before its end
 pub joined_line : (delim : ℕ) → may_delimit delim ≡ true → (fields : List (List ℕ)) → AreFields delim fields → has_no 10 (join_with_byte delim fields) ≡ true
-unfolding AreFields
-joined_line delim may [] h = refl
-joined_line delim may (field ∷ []) h = h.0.line
-joined_line delim may (field ∷ next ∷ fields) h =
-    list_all-append (λ x. not (eqb x 10)) field (delim ∷ join_with_byte delim (next ∷ fields))
-    ∙ and_from _ _ h.0.line (and_from _ _ (delim_no_newline delim may) (joined_line delim may (next ∷ fields) h.1))
+joined_line delim may fields h = all_join (λ x. not (eqb x 10)) delim (delim_no_newline delim may) fields (all_open delim fields h)

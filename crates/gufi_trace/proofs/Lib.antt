@@ -3,6 +3,7 @@ pub mod LineIs
 pub mod Counts
 pub mod Feeds
 pub mod FieldsBack
+pub mod AttributeNames
 pub mod NumbersBack
 pub mod PathsBack
 pub mod LinesBack

@@ -1,9 +1,9 @@
 -- A row that is written as a line is read again.
-use Rattle.std.proofs.Common.{◌≡◌, ℕ, ◌+◌, ◌^◌, ◌<◌, ◌≤◌, true, false, not, ◌&&◌, eqb, leb, List, [], ◌∷◌, ◌++◌, length, refl, ap, ◌∙◌, arith}
+use Rattle.std.proofs.Common.{◌≡◌, ℕ, ◌+◌, ◌^◌, ◌<◌, ◌≤◌, true, false, ◌&&◌, leb, List, [], ◌∷◌, ◌++◌, length, refl, ap, ◌∙◌, arith}
 use Rattle.std.specs.Prelude.{Some, None, Ok, ok_or, decimal}
 use Rattle.std.specs.Fmt.{signed_decimal}
 use Rattle.std.specs.List.{list_all, list_any, join_with_byte}
-use Rattle.std.proofs.lemmas.Bool.{and_parts, and_from, or_from, leb-true, ltb-true, le-ltb, cond-true, not-true}
+use Rattle.std.proofs.lemmas.Bool.{and_parts, and_from, or_parts, leb-true, ltb-true, le-ltb, cond-true}
 use Rattle.std.proofs.lemmas.Slice.Eq.{bytes_eq-Decides}
 use Rattle.std.proofs.Math.Seq.{drop-append_seam}
 use Rattle.std.proofs.Math.Nat.{mod-eq_of_lt}
@@ -13,30 +13,33 @@ use Rattle.gufi_base.specs.declared.record.Meta.{Meta}
 use Rattle.gufi_base.specs.declared.record.Rec.{Rec}
 use Rattle.gufi_base.specs.declared.record.Row.{Row}
 use Rattle.gufi_base.specs.declared.record.Line.{Line}
-use Rattle.gufi_base.specs.Basics.{◌>>=◌}
+use Rattle.gufi_base.specs.Basics.{◌>>=◌, part_at}
 use Rattle.gufi_base.specs.Limits.{max_link}
 use Rattle.gufi_base.specs.Names.{is_path_byte, is_name}
 use Rattle.gufi_base.specs.Paths.{Components, read_path, path_text, is_prefix, is_too_long}
 use Rattle.gufi_base.specs.Kinds.{kind_letter, read_kind}
 use Rattle.gufi_base.specs.Rows.{is_well_formed, fits_i64, fits_types}
-use Rattle.gufi_base.specs.TraceRows.{row_fields}
+use Rattle.gufi_base.specs.TraceRows.{row_fields, xattrs_fields}
+use Rattle.gufi_base.specs.Xattrs.{mark, are_xattrs}
 use Rattle.gufi_base.specs.Delimiters.{may_delimit}
 use Rattle.gufi_trace.specs.declared.fault.TraceKind.TheVariants.{Short}
 use Rattle.gufi_trace.specs.TraceText.{read_line}
-use Rattle.gufi_trace.specs.TraceWriting.{holds_byte}
+use Rattle.gufi_trace.specs.TraceWriting.{holds_byte, rec_holds}
+use Rattle.gufi_trace.specs.AttributeField.{xattrs_of}
 use Rattle.gufi_trace.specs.Fields.{Texts, fields_of}
 use Rattle.gufi_trace.specs.Lines.{path_with_link, meta_in, place_fault, below_root, line_in}
 use Rattle.gufi_trace.proofs.LineIs.{line_is}
-use Rattle.gufi_trace.proofs.FieldsBack.{is_plain, IsField, AreFields, plain_field, split_joined}
+use Rattle.gufi_trace.proofs.FieldsBack.{is_plain, IsField, AreFields, plain_field, field_append, split_joined}
+use Rattle.gufi_trace.proofs.AttributeNames.{xattrs_back}
 use Rattle.gufi_trace.proofs.NumbersBack.{read_below-decimal, read_i64-signed_decimal, decimal_plain, signed_plain}
-use Rattle.gufi_trace.proofs.PathsBack.{read_path-path_text, path_field, absent, no_newline}
+use Rattle.gufi_trace.proofs.PathsBack.{read_path-path_text, path_field, absent, no_newline, no_zero}
 
 -- a row that is written so that it can be read
 pub record IsWritable (root : Components) (delim : ℕ) (row : Row) : Type 0 where
   pub named : list_all is_name (root ++ row.path) ≡ true
   pub apart : list_any (holds_byte delim) (root ++ row.path) ≡ false
   pub short : is_too_long (root ++ row.path) ≡ false
-  pub link_apart : holds_byte delim row.rec.link ≡ false
+  pub rec_apart : rec_holds delim row.rec ≡ false
   pub sound : is_well_formed row.rec ≡ true
   pub fits : fits_types row.rec ≡ true
 
@@ -55,7 +58,8 @@ record Bounds (m : Meta) : Type 0 where
 
 bounds : (rec : Rec) → fits_types rec ≡ true → Bounds rec.meta
 bounds rec h =
-    let l = and_parts _ _ h in
+    let x = and_parts _ _ h in
+    let l = and_parts _ _ x.0 in
     let c = and_parts _ _ l.0 in
     let m = and_parts _ _ c.0 in
     let a = and_parts _ _ m.0 in
@@ -84,12 +88,14 @@ record Sound (rec : Rec) : Type 0 where
   mode : rec.meta.mode ≤ 4095
   short : length rec.link ≤ max_link
   bytes : list_all is_path_byte rec.link ≡ true
+  names : are_xattrs rec.xattrs ≡ true
 
 sound_parts : (rec : Rec) → is_well_formed rec ≡ true → Sound rec
 sound_parts rec h =
-    let outer = and_parts (leb rec.meta.mode 4095 && leb (length rec.link) max_link) (list_all is_path_byte rec.link) h in
+    let whole = and_parts (leb rec.meta.mode 4095 && leb (length rec.link) max_link && list_all is_path_byte rec.link) (are_xattrs rec.xattrs) h in
+    let outer = and_parts (leb rec.meta.mode 4095 && leb (length rec.link) max_link) (list_all is_path_byte rec.link) whole.0 in
     let inner = and_parts (leb rec.meta.mode 4095) (leb (length rec.link) max_link) outer.0 in
-    record { mode = leb-true _ _ inner.0; short = leb-true _ _ inner.1; bytes = outer.1 }
+    record { mode = leb-true _ _ inner.0; short = leb-true _ _ inner.1; bytes = outer.1; names = whole.1 }
 
 letter_plain : (kind : Kind) → list_all is_plain (kind_letter kind ∷ []) ≡ true
 letter_plain Block = refl
@@ -109,6 +115,13 @@ read_kind-letter Fifo = refl
 read_kind-letter File = refl
 read_kind-letter Socket = refl
 
+xattrs_field : (delim : ℕ) (names : List ℕ) → may_delimit delim ≡ true → holds_byte delim names ≡ false → are_xattrs names ≡ true → AreFields delim (xattrs_fields names)
+unfolding AreFields
+xattrs_field delim [] may apart sound = tt
+xattrs_field delim (b ∷ names) may apart sound =
+    let bytes = (and_parts _ _ (and_parts _ _ sound).0).1 in
+    (field_append delim mark (b ∷ names) (plain_field delim may mark refl) (record { apart = absent delim (b ∷ names) apart; line = no_newline (b ∷ names) bytes }), tt)
+
 pub are_fields : (root : Components) (delim : ℕ) (row : Row) → may_delimit delim ≡ true → IsWritable root delim row → AreFields delim (row_fields root row)
 unfolding AreFields
 are_fields root delim row may h =
@@ -116,7 +129,9 @@ are_fields root delim row may h =
     let plain = plain_field delim may in
     let number : (n : ℕ) → n < 2 ^ 64 → IsField delim (decimal n) = λ n small. plain (decimal n) (decimal_plain n small) in
     let m = row.rec.meta in
-    let link : IsField delim row.rec.link = record { apart = absent delim row.rec.link h.link_apart; line = no_newline row.rec.link (sound_parts row.rec h.sound).bytes } in (
+    let s = sound_parts row.rec h.sound in
+    let apart = or_parts (holds_byte delim row.rec.link) (holds_byte delim row.rec.xattrs) h.rec_apart in
+    let link : IsField delim row.rec.link = record { apart = absent delim row.rec.link apart.0; line = no_newline row.rec.link s.bytes } in (
       path_field delim may (root ++ row.path) h.named h.apart,
       (
         plain (kind_letter m.kind ∷ []) (letter_plain m.kind),
@@ -142,7 +157,7 @@ are_fields root delim row may h =
                             plain (signed_decimal m.mtime) (signed_plain m.mtime b.mtime),
                             (
                               plain (signed_decimal m.ctime) (signed_plain m.ctime b.ctime),
-                              (link, tt),
+                              (link, xattrs_field delim row.rec.xattrs may apart.1 s.names),
                             ),
                           ),
                         ),
@@ -174,13 +189,8 @@ row_texts root row =
       mtime = signed_decimal m.mtime;
       ctime = signed_decimal m.ctime;
       link = row.rec.link;
+      xattrs = part_at (xattrs_fields row.rec.xattrs) 1;
     }
-
-no_zero : (bytes : List ℕ) → list_all is_path_byte bytes ≡ true → list_any (λ b. eqb b 0) bytes ≡ false
-no_zero [] h = refl
-no_zero (b ∷ bytes) h =
-    let both = and_parts (is_path_byte b) (list_all is_path_byte bytes) h in
-    or_from _ _ (not-true _ (and_parts (not (eqb b 0)) (not (eqb b 10)) both.0).0) (no_zero bytes both.1)
 
 path_back : (root : Components) (delim : ℕ) (row : Row) → IsWritable root delim row → path_with_link (read_path (path_text (root ++ row.path))) row.rec.link ≡ Ok (root ++ row.path)
 path_back root delim row h =
@@ -220,10 +230,10 @@ below_back root path = cond-true (is_prefix root (root ++ path)) _ _ (prefix_app
 abbrev pub line_at : List Line → Row → Line
 line_at earlier row = record { number = length earlier + 1; path = row.path; rec = row.rec }
 
-line_from : (root : Components) (earlier : List Line) (f : Texts) (path full : Components) (meta : Meta) → path_with_link (read_path f.path) f.link ≡ Ok full → meta_in f ≡ Ok meta → below_root root full ≡ Ok path → place_fault earlier meta.kind path ≡ None
-    → line_in root earlier f ≡ Ok (record { number = length earlier + 1; path = path; rec = record { meta = meta; link = f.link } })
+line_from : (root : Components) (earlier : List Line) (f : Texts) (path full : Components) (meta : Meta) (names : List ℕ) → path_with_link (read_path f.path) f.link ≡ Ok full → meta_in f ≡ Ok meta → xattrs_of f.xattrs ≡ Ok names → below_root root full ≡ Ok path → place_fault earlier meta.kind path ≡ None
+    → line_in root earlier f ≡ Ok (record { number = length earlier + 1; path = path; rec = record { meta = meta; link = f.link; xattrs = names } })
 unfolding line_in
-line_from root earlier f path full meta a b c d = rw (a, b, c, d) refl
+line_from root earlier f path full meta names a b c d e = rw (a, b, c, d, e) refl
 
 pub line_back : (root : Components) (delim : ℕ) (earlier : List Line) (row : Row) → may_delimit delim ≡ true → IsWritable root delim row → place_fault earlier row.rec.meta.kind row.path ≡ None
     → read_line delim root earlier (join_with_byte delim (row_fields root row)) ≡ Ok (line_at earlier row)
@@ -231,4 +241,4 @@ unfolding fields_of
 line_back root delim earlier row may h placed =
     line_is delim root earlier (join_with_byte delim (row_fields root row))
     ∙ ap (λ (parts : List (List ℕ)). ok_or (fields_of parts) Short >>= line_in root earlier) (split_joined delim _ _ (are_fields root delim row may h))
-    ∙ line_from root earlier (row_texts root row) row.path (root ++ row.path) row.rec.meta (path_back root delim row h) (meta_back root row h.sound h.fits) (below_back root row.path) placed
+    ∙ line_from root earlier (row_texts root row) row.path (root ++ row.path) row.rec.meta row.rec.xattrs (path_back root delim row h) (meta_back root row h.sound h.fits) (xattrs_back row.rec.xattrs (sound_parts row.rec h.sound).names) (below_back root row.path) placed

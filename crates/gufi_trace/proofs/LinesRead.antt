@@ -11,9 +11,9 @@ use Rattle.gufi_base.specs.declared.record.Line.{Line}
 use Rattle.gufi_base.specs.declared.record.Meta.{Meta}
 use Rattle.gufi_base.specs.declared.path.PathFault.{PathFault}
 use Rattle.gufi_base.specs.Limits.{max_dirs, max_entries, max_link, max_path, max_components}
-use Rattle.gufi_base.specs.Basics.{split, result_map_err}
+use Rattle.gufi_base.specs.Basics.{split, part_at, result_map_err}
 use Rattle.gufi_base.proofs.Parts.{has_no}
-use Rattle.gufi_base.specs.Names.{is_name, is_path_byte}
+use Rattle.gufi_base.specs.Names.{is_name}
 use Rattle.gufi_base.specs.Paths.{Components, read_path, is_prefix, path_text}
 use Rattle.gufi_base.specs.Rows.{are_bytes, is_well_formed, row_fits_types}
 use Rattle.gufi_tree.specs.Build.{is_dir_line}
@@ -24,11 +24,13 @@ use Rattle.gufi_tree.proofs.RowHomes.{Has-IsPermutation}
 use Rattle.gufi_trace.specs.declared.fault.TraceKind.{TraceKind}
 use Rattle.gufi_trace.specs.declared.fault.TraceKind.TheVariants.{BadPath, LongName, NotUnderRoot, Short}
 use Rattle.gufi_trace.specs.TraceText.{is_bad_path, read_line, read_lines, fault_at}
+use Rattle.gufi_trace.specs.AttributeField.{xattrs_of}
 use Rattle.gufi_trace.specs.Fields.{Texts, fields_of, fields_in}
 use Rattle.gufi_trace.specs.Lines.{path_with_link, meta_in, dirs_of, entries_of, place_fault, unless_fault, below_root, line_in}
+use Rattle.gufi_trace.proofs.AttributeNames.{AreReadNames, names_read}
 use Rattle.gufi_trace.proofs.Counts.{dir_room, entry_room, count_yes, count_no, count_reversed}
 use Rattle.gufi_trace.proofs.LineIs.{line_is}
-use Rattle.gufi_trace.proofs.PathsRead.{size, slashed_size, split_all, at_all, path_read, IsReadPath}
+use Rattle.gufi_trace.proofs.PathsRead.{size, slashed_size, split_all, at_all, path_bytes, path_read, IsReadPath}
 use Rattle.gufi_trace.proofs.MetaRead.{bound, passed, some_given, IsReadMeta, meta_read}
 
 -- ---- the fields
@@ -36,8 +38,8 @@ use Rattle.gufi_trace.proofs.MetaRead.{bound, passed, some_given, IsReadMeta, me
 some_same : (x y : Texts) → Some x ≡ Some y → x ≡ y
 some_same x y e = cc
 
--- what holds of all parts holds of two fields
-fields_hold : (q : List ℕ → Bool) → q [] ≡ true → (parts : List (List ℕ)) (f : Texts) → fields_of parts ≡ Some f → list_all q parts ≡ true → (q f.path ≡ true) × (q f.link ≡ true)
+-- what holds of all parts and of nothing holds of three fields
+fields_hold : (q : List ℕ → Bool) → q [] ≡ true → (parts : List (List ℕ)) (f : Texts) → fields_of parts ≡ Some f → list_all q parts ≡ true → (q f.path ≡ true) × (q f.link ≡ true) × (q f.xattrs ≡ true)
 unfolding fields_of
 fields_hold q none [] f e h = absurd cc
 fields_hold q none (a ∷ []) f e h = absurd cc
@@ -55,8 +57,8 @@ fields_hold q none (a ∷ b ∷ c ∷ d ∷ g ∷ i ∷ j ∷ k ∷ l ∷ m ∷ 
 fields_hold q none (a ∷ b ∷ c ∷ d ∷ g ∷ i ∷ j ∷ k ∷ l ∷ m ∷ n ∷ o ∷ p ∷ []) f e h = absurd cc
 fields_hold q none (a ∷ b ∷ c ∷ d ∷ g ∷ i ∷ j ∷ k ∷ l ∷ m ∷ n ∷ o ∷ p ∷ r ∷ more) f e h =
     let parts : List (List ℕ) = a ∷ b ∷ c ∷ d ∷ g ∷ i ∷ j ∷ k ∷ l ∷ m ∷ n ∷ o ∷ p ∷ r ∷ more in
-    let own : (q a ≡ true) × (q r ≡ true) = (at_all q parts 0 [] h none, at_all q parts 13 [] h none) in
-    subst (λ (v : Texts). (q v.path ≡ true) × (q v.link ≡ true)) (some_same _ f e) own
+    let own : (q a ≡ true) × (q r ≡ true) × (q (part_at more 1) ≡ true) = (at_all q parts 0 [] h none, at_all q parts 13 [] h none, at_all q parts 14 [] h none) in
+    subst (λ (v : Texts). (q v.path ≡ true) × (q v.link ≡ true) × (q v.xattrs ≡ true)) (some_same _ f e) own
 
 -- ---- a path and a link
 
@@ -76,13 +78,6 @@ path_linked r link path e =
     let long = or_parts (is_err r) (nat_lt max_link (length link)) second.0 in
     let same : result_unwrap_or r [] ≡ path = cc (second.1) in
     (read_whole r long.0 path same, record { short = ltb-false _ _ long.1; no_zero = bad.1 })
-
-path_bytes : (link : List ℕ) → list_any (λ b. b == 0) link ≡ false → has_no 10 link ≡ true → list_all is_path_byte link ≡ true
-path_bytes [] zero line = refl
-path_bytes (b ∷ link) zero line =
-    let z = or_parts (b == 0) (list_any (λ c. c == 0) link) zero in
-    let n = and_parts (not (b == 10)) (has_no 10 link) line in
-    and_from _ _ (and_from _ _ (not_from_false _ z.0) n.0) (path_bytes link z.1 n.1)
 
 -- ---- a line
 
@@ -125,9 +120,9 @@ some_size [] some = absurd (some refl)
 some_size (name ∷ root) some = omega arith
 
 -- a path below the root
-below_read : (bytes : List ℕ) (root below : Components) (meta : Meta) (link : List ℕ) (n : ℕ) → IsReadPath bytes (root ++ below) → are_bytes bytes ≡ true → IsReadMeta meta → IsReadLink link → are_bytes link ≡ true → has_no 10 link ≡ true
-    → IsReadLine root (record { number = n; path = below; rec = record { meta = meta; link = link } })
-below_read bytes root below meta link n path bytes_fit m l link_fits link_open =
+below_read : (bytes : List ℕ) (root below : Components) (meta : Meta) (link names : List ℕ) (n : ℕ) → IsReadPath bytes (root ++ below) → are_bytes bytes ≡ true → IsReadMeta meta → IsReadLink link → are_bytes link ≡ true → has_no 10 link ≡ true → AreReadNames names
+    → IsReadLine root (record { number = n; path = below; rec = record { meta = meta; link = link; xattrs = names } })
+below_read bytes root below meta link attributes n path bytes_fit m l link_fits link_open x =
     let named = and_parts (list_all is_name root) (list_all is_name below) (sym (list_all-append is_name root below) ∙ path.named) in
     let fits = and_parts (list_all are_bytes root) (list_all are_bytes below) (sym (list_all-append are_bytes root below) ∙ path.fits bytes_fit) in
     let names = length-append root below in
@@ -136,8 +131,8 @@ below_read bytes root below meta link n path bytes_fit m l link_fits link_open =
     let close = path.close in
     record {
       named = named.1;
-      sound = and_from _ _ (and_from _ _ m.mode (le-leb _ _ l.short)) (path_bytes link l.no_zero link_open);
-      fits = and_from _ _ fits.1 (m.fits link link_fits);
+      sound = and_from _ _ (and_from _ _ (and_from _ _ m.mode (le-leb _ _ l.short)) (path_bytes link l.no_zero link_open)) x.sound;
+      fits = and_from _ _ fits.1 (m.fits link attributes link_fits x.bytes);
       few = omega arith;
       close = text_size below (max_path + 1) (omega arith) (omega arith);
       short = λ some. let room = some_size root some in text_size below max_path (omega arith) (omega arith);
@@ -153,15 +148,16 @@ line_read delim root earlier text line t e =
     let whole_fields = fields_hold (has_no 10) refl (split delim text) f given (split_all (λ b. not (b == 10)) delim text t.whole) in
     let path = bound (path_with_link (read_path f.path) f.link) _ line fields.2 in
     let meta = bound (meta_in f) _ line path.2 in
-    let below = bound (below_root root path.0) _ line meta.2 in
+    let names = bound (xattrs_of f.xattrs) _ line meta.2 in
+    let below = bound (below_root root path.0) _ line names.2 in
     let linked = path_linked (read_path f.path) f.link path.0 path.1 in
     let under = below_parts (is_prefix root path.0) (length root) path.0 below.0 below.1 in
     let rest = is_prefix-rest root path.0 under.0 in
     let same : rest.0 ≡ below.0 = sym (drop-append_seam root rest.0) ∙ ap (drop (length root)) (sym rest.1) ∙ under.1 in
     let whole : path.0 ≡ root ++ below.0 = rest.1 ∙ ap (λ (p : Components). root ++ p) same in
-    let placed = no_fault (place_fault earlier meta.0.kind below.0) (record { number = length earlier + 1; path = below.0; rec = record { meta = meta.0; link = f.link } }) line below.2 in
+    let placed = no_fault (place_fault earlier meta.0.kind below.0) (record { number = length earlier + 1; path = below.0; rec = record { meta = meta.0; link = f.link; xattrs = names.0 } }) line below.2 in
     subst (IsNextLine root earlier) placed.1 (record {
-      sound = below_read f.path root below.0 meta.0 f.link (length earlier + 1) (subst (IsReadPath f.path) whole (path_read f.path path.0 linked.0)) fit.0 (meta_read f meta.0 meta.1) linked.1 fit.1 whole_fields.1;
+      sound = below_read f.path root below.0 meta.0 f.link names.0 (length earlier + 1) (subst (IsReadPath f.path) whole (path_read f.path path.0 linked.0)) fit.0 (meta_read f meta.0 meta.1) linked.1 fit.1 whole_fields.1 (names_read f.xattrs names.0 names.1 fit.2 whole_fields.2);
       place = placed.0;
     })
 

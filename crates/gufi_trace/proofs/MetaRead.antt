@@ -64,7 +64,7 @@ signed_fits bytes z e = by (starts_with_minus bytes) e where
 
 pub record IsReadMeta (meta : Meta) : Type 0 where
   pub mode : nat_le meta.mode 4095 ≡ true
-  pub fits : (link : List ℕ) → are_bytes link ≡ true → fits_types (record { meta = meta; link = link }) ≡ true
+  pub fits : (link names : List ℕ) → are_bytes link ≡ true → are_bytes names ≡ true → fits_types (record { meta = meta; link = link; xattrs = names }) ≡ true
 
 mode_fits : (m : ℕ) → nat_lt (m % 4096) (2 ^ 16) ≡ true
 mode_fits m = lt-ltb _ _ (omega arith)
@@ -100,9 +100,9 @@ meta_read f meta e =
     let same : made ≡ meta = meta_same (Ok made) made meta refl ctime.2 in
     subst IsReadMeta same (record {
       mode = mode_small mode.0;
-      fits = λ link bytes.
-          and_from _ _ (and_from _ _ (and_from _ _ (and_from _ _ (and_from _ _ (and_from _ _ (and_from _ _ (and_from _ _ (and_from _ _ (and_from _ _ (and_from _ _
+      fits = λ link names bytes names_bytes.
+          and_from _ _ (and_from _ _ (and_from _ _ (and_from _ _ (and_from _ _ (and_from _ _ (and_from _ _ (and_from _ _ (and_from _ _ (and_from _ _ (and_from _ _ (and_from _ _
           (u64 f.inode inode.0 (some_given _ _ _ inode.1)) (mode_fits mode.0)) (u64 f.nlink nlink.0 (some_given _ _ _ nlink.1))) (u32 f.uid uid.0 (some_given _ _ _ uid.1))) (u32 f.gid gid.0 (some_given _ _ _ gid.1)))
           (u64 f.size size.0 (some_given _ _ _ size.1))) (u64 f.blksize blksize.0 (some_given _ _ _ blksize.1))) (u64 f.blocks blocks.0 (some_given _ _ _ blocks.1)))
-          (signed_fits f.atime atime.0 (some_given _ _ _ atime.1))) (signed_fits f.mtime mtime.0 (some_given _ _ _ mtime.1))) (signed_fits f.ctime ctime.0 (some_given _ _ _ ctime.1))) bytes;
+          (signed_fits f.atime atime.0 (some_given _ _ _ atime.1))) (signed_fits f.mtime mtime.0 (some_given _ _ _ mtime.1))) (signed_fits f.ctime ctime.0 (some_given _ _ _ ctime.1))) bytes) names_bytes;
     })

@@ -103,6 +103,12 @@ absent delim (b ∷ bytes) h =
     let both = or_parts (eqb b delim) (holds_byte delim bytes) h in
     and_from _ _ (not_from_false _ both.0) (absent delim bytes both.1)
 
+pub no_zero : (bytes : List ℕ) → list_all is_path_byte bytes ≡ true → list_any (λ b. eqb b 0) bytes ≡ false
+no_zero [] h = refl
+no_zero (b ∷ bytes) h =
+    let both = and_parts (is_path_byte b) (list_all is_path_byte bytes) h in
+    or_from _ _ (not-true _ (and_parts (not (eqb b 0)) (not (eqb b 10)) both.0).0) (no_zero bytes both.1)
+
 pub no_newline : (bytes : List ℕ) → list_all is_path_byte bytes ≡ true → has_no 10 bytes ≡ true
 no_newline [] h = refl
 no_newline (b ∷ bytes) h =

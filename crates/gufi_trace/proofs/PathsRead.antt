@@ -1,6 +1,6 @@
 -- What is known of a path that is read from bytes, and of the parts of bytes.
 use Rattle.std.proofs.Common.{◌≡◌, ℕ, zero, suc, ◌+◌, ◌≤◌, Bool, true, false, not, ◌||◌, cond, eqb, List, [], ◌∷◌, length, refl, ◌∙◌, subst, arith, length-append}
-use Rattle.std.specs.Prelude.{nat_lt, filter, bytes_eq, slice_index_or, Ok, Err}
+use Rattle.std.specs.Prelude.{nat_lt, filter, bytes_eq, slice_index_or, Ok, Err, ◌==◌}
 use Rattle.std.specs.List.{onto_first, list_all, list_any}
 use Rattle.std.proofs.lemmas.Bool.{and_parts, and_from, or_parts, not_from_false, ltb-false}
 use Rattle.gufi_base.specs.declared.path.PathFault.TheVariants.{DotDot, BadByte, LongName}
@@ -26,14 +26,14 @@ onto_size : (b : ℕ) (parts : List (List ℕ)) (n : ℕ) → size parts ≡ n +
 onto_size b [] n e = absurd (omega arith)
 onto_size b (part ∷ parts) n e = omega arith
 
-split_size : (s : ℕ) (bytes : List ℕ) → size (split s bytes) ≡ length bytes + 1
+pub split_size : (s : ℕ) (bytes : List ℕ) → size (split s bytes) ≡ length bytes + 1
 split_size s [] = refl
 split_size s (b ∷ bytes) = by (eqb b s) (split_size s bytes) where
   by : (t : Bool) → size (split s bytes) ≡ length bytes + 1 → size (cond t ([] ∷ split s bytes) (onto_first b (split s bytes))) ≡ length (b ∷ bytes) + 1
   by true e = omega arith
   by false e = onto_size b (split s bytes) (length bytes) e ∙ omega arith
 
-filter_size : (p : List ℕ → Bool) (parts : List (List ℕ)) → size (filter p parts) ≤ size parts
+pub filter_size : (p : List ℕ → Bool) (parts : List (List ℕ)) → size (filter p parts) ≤ size parts
 filter_size p [] = omega arith
 filter_size p (part ∷ parts) = by (p part) (filter_size p parts) where
   by : (t : Bool) → size (filter p parts) ≤ size parts → size (cond t (part ∷ filter p parts) (filter p parts)) ≤ 1 + length part + size parts
@@ -87,6 +87,13 @@ module _ {X : Type 0} (q : X → Bool) where
   at_all [] k d h e = e
   at_all (x ∷ xs) zero d h e = (and_parts (q x) (list_all q xs) h).0
   at_all (x ∷ xs) (suc k) d h e = at_all xs k d (and_parts (q x) (list_all q xs) h).1 e
+
+pub path_bytes : (bytes : List ℕ) → list_any (λ b. b == 0) bytes ≡ false → has_no 10 bytes ≡ true → list_all is_path_byte bytes ≡ true
+path_bytes [] zeros whole = refl
+path_bytes (b ∷ bytes) zeros whole =
+    let z = or_parts (b == 0) (list_any (λ c. c == 0) bytes) zeros in
+    let n = and_parts (not (b == 10)) (has_no 10 bytes) whole in
+    and_from _ _ (and_from _ _ (not_from_false _ z.0) n.0) (path_bytes bytes z.1 n.1)
 
 -- ---- a path that is read
 

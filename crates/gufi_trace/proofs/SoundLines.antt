@@ -8,7 +8,7 @@ use Rattle.std.proofs.Math.Seq.{drop-append_seam}
 use Rattle.gufi_base.specs.declared.record.Kind.{Kind}
 use Rattle.gufi_base.specs.declared.record.Line.{Line}
 use Rattle.gufi_base.specs.Limits.{max_dirs, max_entries, max_link}
-use Rattle.gufi_base.specs.Basics.{split, ◌>>=◌, ◌>>◌, refuse}
+use Rattle.gufi_base.specs.Basics.{split, part_at, ◌>>=◌, ◌>>◌, refuse}
 use Rattle.gufi_base.specs.Numbers.{read_i64}
 use Rattle.gufi_base.specs.Kinds.{is_dir}
 use Rattle.gufi_base.specs.Paths.{Components, read_path, is_prefix}
@@ -21,6 +21,7 @@ use Rattle.gufi_trace.specs.declared.quick.Content.{Content}
 use Rattle.gufi_trace.specs.declared.quick.Owner.{Owner}
 use Rattle.gufi_trace.specs.declared.quick.Sizes.{Sizes}
 use Rattle.gufi_trace.specs.declared.lines.Progress.{Progress}
+use Rattle.gufi_trace.specs.AttributeField.{xattrs_of}
 use Rattle.gufi_trace.specs.Fields.{Texts, fields_of}
 use Rattle.gufi_trace.specs.Lines.{dirs_of, entries_of, place_fault, path_with_link, below_root, unless_fault, meta_in, line_in}
 use Rattle.gufi_trace.specs.Progress.{root_behind}
@@ -73,6 +74,7 @@ taken_meta p q r s t u owner sizes atime mtime ctime o z a m c =
         mtime = m.field;
         ctime = c.field;
         link = [];
+        xattrs = [];
       };
       is = behind _ _ _ _ o.kind.is (behind _ _ _ _ o.inode.is (behind _ _ _ _ o.mode.is (behind _ _ _ _ o.nlink.is (behind _ _ _ _ o.uid.is (behind _ _ _ _ o.gid.is
           (behind _ _ _ _ z.size.is (behind _ _ _ _ z.blksize.is (behind _ _ _ _ z.blocks.is (behind _ _ _ _ a.is (behind _ _ _ _ m.is c.is))))))))));
@@ -80,18 +82,19 @@ taken_meta p q r s t u owner sizes atime mtime ctime o z a m c =
           (step _ _ _ _ _ z.size.reads (step _ _ _ _ _ z.blksize.reads (step _ _ _ _ _ z.blocks.reads (step _ _ _ _ _ a.reads (step _ _ _ _ _ m.reads (step _ _ _ _ _ c.reads refl)))))))))));
     }
 
--- the path, the record and the link of a line's parts
-pub taken_content : (p0 p1 p2 p3 : List (List ℕ)) (content : Content) → p0 ≡ content.path.now ∷ p1 → TakesMeta p1 p2 content.meta → p2 ≡ content.link.now ∷ p3 → list_any (λ b. b == 0) content.link.now ≡ false → length content.link.now ≤ max_link → TakesContent p0 content
+-- the path, the record, the link and the names of extended attributes of a line's parts
+pub taken_content : (p0 p1 p2 p3 : List (List ℕ)) (content : Content) → p0 ≡ content.path.now ∷ p1 → TakesMeta p1 p2 content.meta → p2 ≡ content.link.now ∷ p3 → list_any (λ b. b == 0) content.link.now ≡ false → length content.link.now ≤ max_link → xattrs_of (part_at p3 1) ≡ Ok content.xattrs.now → TakesContent p0 content
 unfolding fields_of meta_in
-taken_content p0 p1 p2 p3 content e m h no_zero short =
+taken_content p0 p1 p2 p3 content e m h no_zero short names =
     record {
-      f = record m.f { path = content.path.now; link = content.link.now };
+      f = record m.f { path = content.path.now; link = content.link.now; xattrs = part_at p3 1 };
       fields = ap fields_of (e ∙ ap (λ (ps : List (List ℕ)). content.path.now ∷ ps) m.is ∙ ap (λ (ps : List (List ℕ)). content.path.now ∷ m.f.kind ∷ m.f.inode ∷ m.f.mode ∷ m.f.nlink ∷ m.f.uid ∷ m.f.gid ∷ m.f.size ∷ m.f.blksize ∷ m.f.blocks ∷ m.f.atime ∷ m.f.mtime ∷ m.f.ctime ∷ ps) h);
       path = refl;
       link = refl;
       meta = m.reads;
       no_zero = no_zero;
       short = short;
+      xattrs = names;
     }
 
 refuse_no : {A : Type 0} (b : Bool) (kind : TraceKind) (next out : Result A TraceKind) → b ≡ false → next ≡ out → (refuse b kind >> next) ≡ out
@@ -109,24 +112,25 @@ root_off : (root path : Components) → below_root root (root ++ path) ≡ Ok pa
 root_off root path = cond-true (is_prefix root (root ++ path)) _ _ (is_prefix-append root path) ∙ ap Ok (drop-append_seam root path)
 
 sound_fields : (root : Components) (earlier : List Line) (f : Texts) (content : Content) (path : Components) (link : List ℕ) → f.path ≡ content.path.now → f.link ≡ content.link.now → meta_in f ≡ Ok content.meta
-    → list_any (λ b. b == 0) content.link.now ≡ false → length content.link.now ≤ max_link → IsPlaced root earlier content.meta.kind content.path.now path → link ≡ content.link.now
-    → line_in root earlier f ≡ Ok (record { number = length earlier + 1; path = path; rec = record { meta = content.meta; link = link } })
+    → list_any (λ b. b == 0) content.link.now ≡ false → length content.link.now ≤ max_link → xattrs_of f.xattrs ≡ Ok content.xattrs.now → IsPlaced root earlier content.meta.kind content.path.now path → link ≡ content.link.now
+    → line_in root earlier f ≡ Ok (record { number = length earlier + 1; path = path; rec = record { meta = content.meta; link = link; xattrs = content.xattrs.now } })
 unfolding line_in
-sound_fields root earlier f content path link p l meta no_zero short placed is =
+sound_fields root earlier f content path link p l meta no_zero short names placed is =
     bind_ok _ _ _ _ (path_read f.path f.link (root ++ path) (ap read_path p ∙ placed.reads) (ap (list_any (λ b. b == 0)) l ∙ no_zero) (subst (λ (t : List ℕ). length t ≤ max_link) (sym l) short))
     (bind_ok _ _ _ _ meta
+    (bind_ok _ _ _ _ names
     (bind_ok _ _ _ _ (root_off root path)
-    (ap (λ (o : Option TraceKind). unless_fault o (line_as f.link)) placed.place ∙ ap (λ (t : List ℕ). Ok (line_as t)) (l ∙ sym is))))
+    (ap (λ (o : Option TraceKind). unless_fault o (line_as f.link)) placed.place ∙ ap (λ (t : List ℕ). Ok (line_as t)) (l ∙ sym is)))))
   where
     line_as : List ℕ → Line
-    line_as t = record { number = length earlier + 1; path = path; rec = record { meta = content.meta; link = t } }
+    line_as t = record { number = length earlier + 1; path = path; rec = record { meta = content.meta; link = t; xattrs = content.xattrs.now } }
 
 -- the line of such parts, at its place
 pub sound_line : (delim : ℕ) (root : Components) (earlier : List Line) (text : List ℕ) (parts : List (List ℕ)) (content : Content) (path : Components) → parts ≡ split delim text → TakesContent parts content → IsPlaced root earlier content.meta.kind content.path.now path
     → 0 < length earlier → IsSoundBehind delim root earlier text (line_with earlier content path)
 sound_line delim root earlier text parts content path e taken placed some =
     record {
-      reads = ap (λ (ps : List (List ℕ)). ok_or (fields_of ps) Short >>= line_in root earlier) (sym e) ∙ step _ _ _ _ _ taken.fields (sound_fields root earlier taken.f content path content.link.now taken.path taken.link taken.meta taken.no_zero taken.short placed refl);
+      reads = ap (λ (ps : List (List ℕ)). ok_or (fields_of ps) Short >>= line_in root earlier) (sym e) ∙ step _ _ _ _ _ taken.fields (sound_fields root earlier taken.f content path content.link.now taken.path taken.link taken.meta taken.no_zero taken.short taken.xattrs placed refl);
       behind = some;
     }
 

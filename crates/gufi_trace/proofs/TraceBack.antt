@@ -21,7 +21,7 @@ use Rattle.gufi_base.proofs.Parts.{closed_by, front_closed, last_closed}
 use Rattle.gufi_tree.specs.Tree.{Directory, own_rows, dir_row, entry_row, is_tree, entry_count, is_directory_of}
 use Rattle.gufi_trace.specs.declared.writer.WriteTraceFault.TheVariants.{DelimUsed, TooLong}
 use Rattle.gufi_trace.specs.TraceText.{whole_lines, cut_line, root_of, read_lines, lines_so_far, trace_lines, trace_means, of_tree}
-use Rattle.gufi_trace.specs.TraceWriting.{trace_text, holds_byte, row_holds, TraceReadsBack}
+use Rattle.gufi_trace.specs.TraceWriting.{trace_text, holds_byte, rec_holds, row_holds, TraceReadsBack}
 use Rattle.gufi_trace.proofs.FieldsBack.{split_joined}
 use Rattle.gufi_trace.proofs.PathsBack.{read_path-path_text}
 use Rattle.gufi_trace.proofs.LinesBack.{IsWritable, are_fields}
@@ -50,7 +50,7 @@ writable : (root : Components) (delim : ℕ) → list_all is_name root ≡ true 
 writable root delim named apart [] holds long fits sound = tt
 writable root delim named apart (row ∷ rows) holds long fits sound =
     let h = or_parts (row_holds delim row) (list_any (row_holds delim) rows) holds in
-    let own = or_parts (list_any (holds_byte delim) row.path) (holds_byte delim row.rec.link) h.0 in
+    let own = or_parts (list_any (holds_byte delim) row.path) (rec_holds delim row.rec) h.0 in
     let l = or_parts (is_too_long (root ++ row.path)) (list_any (λ (r : Row). is_too_long (root ++ r.path)) rows) long in
     let f = and_parts (row_fits_types row) (list_all row_fits_types rows) fits in
     let s = and_parts (is_sound row) (list_all is_sound rows) sound in
@@ -59,7 +59,7 @@ writable root delim named apart (row ∷ rows) holds long fits sound =
         named = list_all-append is_name root row.path ∙ and_from _ _ named parts.0;
         apart = list_any-append (holds_byte delim) root row.path ∙ or_from _ _ apart own.0;
         short = l.0;
-        link_apart = own.1;
+        rec_apart = own.1;
         sound = parts.1;
         fits = (and_parts (list_all are_bytes row.path) (fits_types row.rec) f.0).1;
       },

@@ -2,13 +2,15 @@
 use Rattle.std.proofs.Common.{◌≡◌, ℕ, List, [], ◌∷◌, ◌++◌, Result, Ok, Err, refl, sym, ap, ◌∙◌, append_assoc}
 use Rattle.std.specs.Prelude.{OnOk, decimal}
 use Rattle.std.specs.Fmt.{signed_decimal}
+use Rattle.std.specs.List.{join_with_byte}
 use Rattle.std.proofs.lemmas.List.{append-nil}
 use Rattle.std.proofs.lemmas.List.Concat.{flat_map-append}
 use Rattle.gufi_base.specs.declared.record.Row.{Row}
 use Rattle.gufi_base.specs.Paths.{Components, path_text, slashed_text}
 use Rattle.gufi_base.specs.Kinds.{kind_letter}
-use Rattle.gufi_base.specs.TraceRows.{row_line}
-use Rattle.gufi_trace.specs.Writing.{rec_text}
+use Rattle.gufi_base.specs.TraceRows.{row_line, xattrs_fields}
+use Rattle.gufi_base.specs.Xattrs.{mark}
+use Rattle.gufi_trace.specs.Writing.{xattrs_text, rec_text}
 
 -- what two calls append
 pub append_ok : {E : Type 0} (r : Result (Unit {0}) E) (old mid new z y x : List ℕ) → mid ≡ old ++ z → OnOk r (new ≡ mid ++ y) → x ≡ z ++ y → OnOk r (new ≡ old ++ x)
@@ -28,10 +30,14 @@ entry_path_text root path name =
     ∙ ap (λ (t : List ℕ). slashed_text root ++ t) (flat_map-append (λ (n : List ℕ). 47 ∷ n) path (name ∷ []) ∙ ap (λ (t : List ℕ). slashed_text path ++ 47 ∷ t) (append-nil name))
 
 -- texts put together in one way and in another
-regrouped : (delim letter : ℕ) (p i m n u g s bs bl at mt ct link : List ℕ)
-    → (p ++ (delim ∷ letter ∷ delim ∷ (i ++ (delim ∷ (m ++ (delim ∷ (n ++ (delim ∷ (u ++ (delim ∷ (g ++ (delim ∷ (s ++ (delim ∷ (bs ++ (delim ∷ (bl ++ (delim ∷ (at ++ (delim ∷ (mt ++ (delim ∷ (ct ++ (delim ∷ link)))))))))))))))))))))))) ++ 10 ∷ []
-    ≡ p ++ ((delim ∷ letter ∷ delim ∷ (i ++ (delim ∷ (m ++ (delim ∷ (n ++ (delim ∷ (u ++ (delim ∷ g))))))))) ++ ((delim ∷ (s ++ (delim ∷ (bs ++ (delim ∷ bl))))) ++ ((delim ∷ (at ++ (delim ∷ (mt ++ (delim ∷ ct))))) ++ (delim ∷ (link ++ 10 ∷ [])))))
-regrouped delim letter p i m n u g s bs bl at mt ct link = simp append_assoc
+regrouped : (delim letter : ℕ) (p i m n u g s bs bl at mt ct last end : List ℕ) → last ++ 10 ∷ [] ≡ end
+    → (p ++ (delim ∷ letter ∷ delim ∷ (i ++ (delim ∷ (m ++ (delim ∷ (n ++ (delim ∷ (u ++ (delim ∷ (g ++ (delim ∷ (s ++ (delim ∷ (bs ++ (delim ∷ (bl ++ (delim ∷ (at ++ (delim ∷ (mt ++ (delim ∷ (ct ++ (delim ∷ last)))))))))))))))))))))))) ++ 10 ∷ []
+    ≡ p ++ ((delim ∷ letter ∷ delim ∷ (i ++ (delim ∷ (m ++ (delim ∷ (n ++ (delim ∷ (u ++ (delim ∷ g))))))))) ++ ((delim ∷ (s ++ (delim ∷ (bs ++ (delim ∷ bl))))) ++ ((delim ∷ (at ++ (delim ∷ (mt ++ (delim ∷ ct))))) ++ (delim ∷ end))))
+regrouped delim letter p i m n u g s bs bl at mt ct last end e = simp (append_assoc, e)
+
+last_text : (delim : ℕ) (link names : List ℕ) → join_with_byte delim (link ∷ xattrs_fields names) ++ 10 ∷ [] ≡ link ++ (xattrs_text delim names ++ 10 ∷ [])
+last_text delim link [] = refl
+last_text delim link (b ∷ names) = append_assoc link (delim ∷ mark ++ b ∷ names) (10 ∷ [])
 
 -- a line is its path and what follows it
 pub line_text : (delim : ℕ) (root : Components) (row : Row) → row_line delim root row ≡ path_text (root ++ row.path) ++ rec_text delim row.rec
@@ -39,4 +45,4 @@ unfolding rec_text
 line_text delim root row =
     let m = row.rec.meta in
     regrouped delim (kind_letter m.kind) (path_text (root ++ row.path)) (decimal m.inode) (decimal m.mode) (decimal m.nlink) (decimal m.uid) (decimal m.gid) (decimal m.size) (decimal m.blksize) (decimal m.blocks)
-    (signed_decimal m.atime) (signed_decimal m.mtime) (signed_decimal m.ctime) row.rec.link
+    (signed_decimal m.atime) (signed_decimal m.mtime) (signed_decimal m.ctime) _ _ (last_text delim row.rec.link row.rec.xattrs)

@@ -1,6 +1,6 @@
 -- The fields of a line.
 use Rattle.std.specs.Prelude.{ℕ, List, ◌∷◌, Option, Some, None, ok_or, Result}
-use Rattle.gufi_base.specs.Basics.{split}
+use Rattle.gufi_base.specs.Basics.{split, part_at}
 use Rattle.gufi_trace.specs.declared.fault.TraceKind.{TraceKind}
 use Rattle.gufi_trace.specs.declared.fault.TraceKind.TheVariants.{Short}
 use Rattle.gufi_trace.specs.declared.fields.Fields.{Fields}
@@ -20,6 +20,7 @@ pub record Texts : Type 0 where
   pub mtime : List ℕ
   pub ctime : List ℕ
   pub link : List ℕ
+  pub xattrs : List ℕ
 
 -- what the fields of the code point to
 abbrev pub texts : Fields → Texts
@@ -38,9 +39,10 @@ texts f = record {
   mtime = f.mtime.now;
   ctime = f.ctime.now;
   link = f.link.now;
+  xattrs = f.xattrs.now;
 }
 
--- the first fourteen parts, where there are so many; the others are skipped unread
+-- the first fourteen parts, where there are so many, and the fifteenth, or nothing; the others are skipped unread
 unfoldable pub fields_of : List (List ℕ) → Option Texts
 fields_of (path ∷ kind ∷ inode ∷ mode ∷ nlink ∷ uid ∷ gid ∷ size ∷ blksize ∷ blocks ∷ atime ∷ mtime ∷ ctime ∷ link ∷ more) =
     Some (record {
@@ -58,6 +60,7 @@ fields_of (path ∷ kind ∷ inode ∷ mode ∷ nlink ∷ uid ∷ gid ∷ size �
       mtime = mtime;
       ctime = ctime;
       link = link;
+      xattrs = part_at more 1;
     })
 fields_of _ = None
 

@@ -13,6 +13,7 @@ use Rattle.gufi_base.specs.Paths.{Components, read_path}
 use Rattle.gufi_trace.specs.declared.quick.Content.{Content}
 use Rattle.gufi_trace.specs.declared.quick.Owner.{Owner}
 use Rattle.gufi_trace.specs.declared.quick.Sizes.{Sizes}
+use Rattle.gufi_trace.specs.AttributeField.{xattrs_of}
 use Rattle.gufi_trace.specs.Fields.{Texts, fields_of}
 use Rattle.gufi_trace.specs.Lines.{meta_in, place_fault, line_of}
 
@@ -63,7 +64,7 @@ pub record TakesMeta (old new : List (List ℕ)) (meta : Meta) : Type 0 where
   pub is : old ≡ f.kind ∷ f.inode ∷ f.mode ∷ f.nlink ∷ f.uid ∷ f.gid ∷ f.size ∷ f.blksize ∷ f.blocks ∷ f.atime ∷ f.mtime ∷ f.ctime ∷ new
   pub reads : meta_in f ≡ Ok meta
 
--- the fields of a line whose parts these are, with a sound link
+-- the fields of a line whose parts these are, with a sound link and sound names of extended attributes
 pub record TakesContent (parts : List (List ℕ)) (content : Content) : Type 0 where
   pub f : Texts
   pub fields : fields_of parts ≡ Some f
@@ -72,6 +73,7 @@ pub record TakesContent (parts : List (List ℕ)) (content : Content) : Type 0 w
   pub meta : meta_in f ≡ Ok content.meta
   pub no_zero : list_any (λ b. b == 0) content.link.now ≡ false
   pub short : length content.link.now ≤ max_link
+  pub xattrs : xattrs_of f.xattrs ≡ Ok content.xattrs.now
 
 -- bytes that spell a path below the root, which stands at its place
 pub record IsPlaced (root : Components) (earlier : List Line) (kind : Kind) (bytes : List ℕ) (path : Components) : Type 0 where
@@ -80,7 +82,7 @@ pub record IsPlaced (root : Components) (earlier : List Line) (kind : Kind) (byt
 
 -- the line that such content makes behind others, at a path
 abbrev pub line_with : List Line → Content → Components → Line
-line_with earlier content path = record { number = length earlier + 1; path = path; rec = record { meta = content.meta; link = content.link.now } }
+line_with earlier content path = record { number = length earlier + 1; path = path; rec = record { meta = content.meta; link = content.link.now; xattrs = content.xattrs.now } }
 
 -- whether content was taken: then its line has come to the others, at its place; else they are as they were
 abbrev pub Adds : Bool → Components → Content → List Line → List Line → Type 0

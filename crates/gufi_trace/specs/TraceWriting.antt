@@ -3,6 +3,7 @@ use Rattle.std.specs.Prelude.{◌≡◌, IsTrue, not, ℕ, Bool, ◌==◌, ◌||
 use Rattle.std.specs.List.{flat_map, list_any, list_all}
 use Rattle.gufi_base.specs.Paths.{Components, is_too_long}
 use Rattle.gufi_base.specs.TraceRows.{row_line}
+use Rattle.gufi_base.specs.declared.record.Rec.{Rec}
 use Rattle.gufi_base.specs.declared.record.Row.{Row}
 use Rattle.gufi_base.specs.Basics.{◌>>◌, refuse}
 use Rattle.gufi_tree.specs.Tree.{is_too_large}
@@ -16,12 +17,15 @@ use Rattle.gufi_trace.specs.TraceText.{trace_means}
 abbrev pub trace_text : List Directory → Components → ℕ → List ℕ
 trace_text tree root delim = flat_map (λ dir. flat_map (row_line delim root) (own_rows dir)) tree
 
--- a name of the tree or the root, or a link, holds the delimiter
+-- a name of the tree or the root, a link, or the names of extended attributes hold the delimiter
 abbrev pub holds_byte : ℕ → List ℕ → Bool
 holds_byte delim bytes = list_any (λ b. b == delim) bytes
 
+abbrev pub rec_holds : ℕ → Rec → Bool
+rec_holds delim rec = holds_byte delim rec.link || holds_byte delim rec.xattrs
+
 abbrev pub row_holds : ℕ → Row → Bool
-row_holds delim row = list_any (holds_byte delim) row.path || holds_byte delim row.rec.link
+row_holds delim row = list_any (holds_byte delim) row.path || rec_holds delim row.rec
 
 abbrev pub written_trace : List Directory → Components → ℕ → Result (List ℕ) WriteTraceFault
 written_trace tree root delim =

@@ -1,11 +1,13 @@
 -- The parts of a written line.
-use Rattle.std.specs.Prelude.{◌≡◌, ◌≢◌, ℕ, Bool, ◌||◌, List, [], ◌∷◌, ◌++◌, decimal, nat_lt, Result, Ok, Err, ℤ}
+use Rattle.std.specs.Prelude.{◌≡◌, ◌≢◌, ℕ, Bool, ◌||◌, List, [], ◌∷◌, ◌++◌, decimal, nat_lt, Result, Ok, Err, ℤ, if◌then◌else◌}
 use Rattle.std.specs.Fmt.{signed_decimal}
 use Rattle.std.specs.Global.{Vec}
 use Rattle.std.specs.List.{flat_map, list_any}
 use Rattle.gufi_base.specs.declared.record.Meta.{Meta}
 use Rattle.gufi_base.specs.declared.record.Rec.{Rec}
+use Rattle.gufi_base.specs.Basics.{is_empty}
 use Rattle.gufi_base.specs.Kinds.{kind_letter}
+use Rattle.gufi_base.specs.Xattrs.{mark}
 use Rattle.gufi_base.specs.Paths.{Components, is_too_long}
 use Rattle.gufi_base.specs.TraceRows.{row_line}
 use Rattle.gufi_tree.specs.declared.tree.Entry.{Entry}
@@ -31,13 +33,17 @@ size_text delim m = number_text delim m.size ++ (number_text delim m.blksize ++ 
 abbrev pub times_text : ℕ → Meta → List ℕ
 times_text delim m = signed_text delim m.atime ++ (signed_text delim m.mtime ++ signed_text delim m.ctime)
 
--- the link and the line's end
-abbrev pub end_text : ℕ → List ℕ → List ℕ
-end_text delim link = delim ∷ link ++ 10 ∷ []
+-- the names of extended attributes, where there are some
+abbrev pub xattrs_text : ℕ → List ℕ → List ℕ
+xattrs_text delim names = if is_empty names then [] else delim ∷ mark ++ names
+
+-- the link, the names and the line's end
+abbrev pub end_text : ℕ → List ℕ → List ℕ → List ℕ
+end_text delim link names = delim ∷ link ++ (xattrs_text delim names ++ 10 ∷ [])
 
 -- what follows the path in a line
 unfoldable pub rec_text : ℕ → Rec → List ℕ
-rec_text delim rec = owner_text delim rec.meta ++ (size_text delim rec.meta ++ (times_text delim rec.meta ++ end_text delim rec.link))
+rec_text delim rec = owner_text delim rec.meta ++ (size_text delim rec.meta ++ (times_text delim rec.meta ++ end_text delim rec.link rec.xattrs))
 
 -- the directory of these parts
 abbrev pub directory : Components → Rec → List Entry → Directory

@@ -21,6 +21,8 @@ pub enum TraceKind {
     BadType,
     #[error("BadNumber {field}")]
     BadNumber { field: u32 },
+    #[error("BadXattr")]
+    BadXattr,
     #[error("NotUnderRoot")]
     NotUnderRoot,
     #[error("WrongStanza")]

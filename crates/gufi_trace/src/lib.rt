@@ -4,6 +4,7 @@
 //! It stands on `gufi_base` and `gufi_tree`; the top call and sessions stand on it.
 #![tactic(auto)]
 
+mod attributes;
 mod content;
 mod digits;
 mod fault;

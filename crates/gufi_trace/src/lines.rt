@@ -13,6 +13,7 @@ ghost use Rattle.gufi_trace.specs.Lines.{dirs_of, entries_of, place_fault, line_
 ghost use Rattle.gufi_trace.specs.Reading.{Gives};
 ghost use Rattle.gufi_trace.specs.Progress.{root_behind, lines_from, Stops};
 
+use crate::attributes::read_xattrs;
 use crate::content::{read_meta, read_path};
 use crate::digits::DigitPairs;
 use crate::fault::{Refused, TraceError, TraceFault, TraceKind};
@@ -182,6 +183,7 @@ fn read_line(
     let fields = read_fields(text, delim)?;
     let path = read_path(alloc, fields.path, fields.link)?;
     let meta = read_meta(&fields)?;
+    let xattrs = read_xattrs(alloc, fields.xattrs)?;
     let Some(path) = path.below(root) else {
         return Err(Refused::Fault(TraceKind::NotUnderRoot));
     };
@@ -192,7 +194,7 @@ fn read_line(
     Ok(Line {
         number: lines.len() as u32 + 1,
         path,
-        rec: Rec { meta, link },
+        rec: Rec { meta, link, xattrs },
     })
 }
 

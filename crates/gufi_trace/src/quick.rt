@@ -1,15 +1,18 @@
 //! Lines that are seen to be sound in one pass: nearly all are. What is told nothing here, the exact readers read.
 
-ghost use Rattle.std.specs.Prelude.{◌≡◌, ℕ, ℤ, true, false, IfOk, IfSome};
+ghost use Rattle.std.specs.Prelude.{◌≡◌, ℕ, ℤ, true, false, Ok, IfOk, IfSome};
+ghost use Rattle.gufi_base.specs.Basics.{part_at};
 ghost use Rattle.gufi_base.specs.Kinds.{is_dir};
 ghost use Rattle.gufi_base.specs.Numbers.{read_u32, read_u64, read_i64};
+ghost use Rattle.gufi_trace.specs.AttributeField.{xattrs_of};
 ghost use Rattle.gufi_trace.specs.Taken.{Takes, TakesOwner, TakesSizes, TakesMeta, TakesContent, Adds, AddsNext};
 
+use crate::attributes::behind_mark;
 use crate::content::{MAX_LINK, MODES, has_zero};
 use crate::digits::DigitPairs;
 use crate::fields::Parts;
 use crate::lines::Lines;
-use gufi_base::{Bytes, Kind, Meta, Path, Rec, RecRef};
+use gufi_base::{Bytes, Kind, Meta, Path, Rec, RecRef, are_xattrs};
 use std::alloc::{AllocError, Global};
 
 #[inline(always)]
@@ -117,12 +120,28 @@ fn next_meta(parts: &mut Parts<'_>, pairs: &DigitPairs) -> Option<Meta>
     })
 }
 
-/// What a line holds, its path and link as they stand in it.
+/// What a line holds, its path, its link and the names of extended attributes as they stand in it.
 #[derive(Clone, Copy)]
 pub(crate) struct Content<'a> {
     pub path: &'a [u8],
     pub meta: Meta,
     pub link: &'a [u8],
+    pub xattrs: &'a [u8],
+}
+
+/// The names of extended attributes behind the link, where they stand there as they are read; most lines have none.
+#[inline(always)]
+fn next_xattrs<'a>(parts: &mut Parts<'a>) -> Option<&'a [u8]>
+    ensures { IfSome result (λ names. xattrs_of (part_at parts.old 1) ≡ Ok names.now) }
+{
+    let Some(field) = parts.next_part() else {
+        return Some(b"");
+    };
+    match behind_mark(field) {
+        None => Some(b""),
+        Some(names) if are_xattrs(names) => Some(names),
+        Some(_) => None,
+    }
 }
 
 fn content_of<'a>(parts: &mut Parts<'a>, pairs: &DigitPairs) -> Option<Content<'a>>
@@ -134,18 +153,24 @@ fn content_of<'a>(parts: &mut Parts<'a>, pairs: &DigitPairs) -> Option<Content<'
     if link.len() > MAX_LINK || has_zero(link) {
         return None;
     }
-    Some(Content { path, meta, link })
+    let xattrs = next_xattrs(parts)?;
+    Some(Content {
+        path,
+        meta,
+        link,
+        xattrs,
+    })
 }
 
-/// The bytes of a link; most lines have none.
+/// The bytes of a link or of names; most lines have none.
 #[inline(always)]
-fn copy_link(alloc: Global, link: &[u8]) -> Result<Bytes, AllocError>
-    ensures { IfOk result (λ copy. copy ≡ link.now) }
+fn copy_bytes(alloc: Global, bytes: &[u8]) -> Result<Bytes, AllocError>
+    ensures { IfOk result (λ copy. copy ≡ bytes.now) }
 {
-    if link.is_empty() {
+    if bytes.is_empty() {
         return Ok(Bytes::of(Vec::new(alloc)));
     }
-    Bytes::from_slice(alloc, link)
+    Bytes::from_slice(alloc, bytes)
 }
 
 /// Takes a directory's line, where its path is plain and it stands at its place.
@@ -165,9 +190,10 @@ fn add_directory(
         return Ok(false);
     };
     let path = Path::of_names(alloc, names)?;
-    let link = copy_link(alloc, content.link)?;
+    let link = copy_bytes(alloc, content.link)?;
+    let xattrs = copy_bytes(alloc, content.xattrs)?;
     let meta = content.meta;
-    lines.push_dir(alloc, path, Rec { meta, link })?;
+    lines.push_dir(alloc, path, Rec { meta, link, xattrs })?;
     Ok(true)
 }
 
@@ -190,7 +216,7 @@ fn add_entry(
     let Some(name) = parent.child_name(root, content.path) else {
         return Ok(false);
     };
-    let rec = RecRef::of(&content.meta, content.link);
+    let rec = RecRef::of(&content.meta, content.link, content.xattrs);
     lines.push_entry(alloc, name, &rec)?;
     Ok(true)
 }

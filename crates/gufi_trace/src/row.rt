@@ -5,7 +5,7 @@ ghost use Rattle.std.specs.Fmt.{signed_decimal};
 ghost use Rattle.gufi_base.specs.declared.record.Row.{Row};
 ghost use Rattle.gufi_base.specs.Paths.{path_text, slashed_text};
 ghost use Rattle.gufi_base.specs.TraceRows.{row_line};
-ghost use Rattle.gufi_trace.specs.Writing.{number_text, signed_text, owner_text, size_text, times_text, end_text, rec_text};
+ghost use Rattle.gufi_trace.specs.Writing.{number_text, signed_text, owner_text, size_text, times_text, xattrs_text, end_text, rec_text};
 
 use gufi_base::{Memory, Meta, PathRef, RecRef, put, put_i64, put_u64};
 
@@ -50,23 +50,41 @@ fn put_times(out: &mut Vec<u8>, delim: u8, meta: &Meta) -> Result<(), Memory>
     put_signed(out, delim, meta.ctime)
 }
 
-fn put_end(out: &mut Vec<u8>, delim: u8, link: &[u8]) -> Result<(), Memory>
-    ensures { OnOk result (out.new.items ≡ out.old.items ++ end_text delim link.now) }
+fn put_xattrs(out: &mut Vec<u8>, delim: u8, names: &[u8]) -> Result<(), Memory>
+    ensures { OnOk result (out.new.items ≡ out.old.items ++ xattrs_text delim names.now) }
+{
+    if names.is_empty() {
+        return Ok(());
+    }
+    put(out, &[delim])?;
+    put(out, b"xattrs/")?;
+    put(out, names)
+}
+
+fn put_end(out: &mut Vec<u8>, delim: u8, link: &[u8], names: &[u8]) -> Result<(), Memory>
+    ensures { OnOk result (out.new.items ≡ out.old.items ++ end_text delim link.now names.now) }
 {
     put(out, &[delim])?;
     put(out, link)?;
+    put_xattrs(out, delim, names)?;
     put(out, b"\n")
 }
 
-/// Appends what follows the path in the line of a record with this link.
+/// Appends what follows the path in the line of a record with this link and these names of extended attributes.
 #[tactic(auto, unfolding(crate::specs::Writing::rec_text))]
-pub fn put_record(out: &mut Vec<u8>, delim: u8, meta: &Meta, link: &[u8]) -> Result<(), Memory>
-    ensures { OnOk result (out.new.items ≡ out.old.items ++ rec_text delim (record { meta = meta.now; link = link.now })) }
+pub fn put_record(
+    out: &mut Vec<u8>,
+    delim: u8,
+    meta: &Meta,
+    link: &[u8],
+    xattrs: &[u8],
+) -> Result<(), Memory>
+    ensures { OnOk result (out.new.items ≡ out.old.items ++ rec_text delim (record { meta = meta.now; link = link.now; xattrs = xattrs.now })) }
 {
     put_owner(out, delim, meta)?;
     put_size(out, delim, meta)?;
     put_times(out, delim, meta)?;
-    put_end(out, delim, link)
+    put_end(out, delim, link, xattrs)
 }
 
 fn put_slashed(out: &mut Vec<u8>, path: &PathRef<'_>) -> Result<(), Memory>
@@ -113,7 +131,7 @@ pub(crate) fn put_directory(
     ensures { OnOk result (out.new.items ≡ out.old.items ++ row_line delim root.now (record { path = path.now; rec = rec.now })) }
 {
     put_path(out, root, path)?;
-    put_record(out, delim, rec.meta(), rec.link())
+    put_record(out, delim, rec.meta(), rec.link(), rec.xattrs())
 }
 
 /// The line of an entry of a directory.
@@ -128,5 +146,5 @@ pub(crate) fn put_entry(
     ensures { OnOk result (out.new.items ≡ out.old.items ++ row_line delim root.now (record { path = path.now ++ name.now ∷ []; rec = rec.now })) }
 {
     put_entry_path(out, root, path, name)?;
-    put_record(out, delim, rec.meta(), rec.link())
+    put_record(out, delim, rec.meta(), rec.link(), rec.xattrs())
 }

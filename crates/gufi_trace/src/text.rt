@@ -18,6 +18,7 @@ impl TraceKind {
             TraceKind::LongName => put(out, b"LongName"),
             TraceKind::BadType => put(out, b"BadType"),
             TraceKind::BadNumber { field } => put_named(out, b"BadNumber ", u64::from(field)),
+            TraceKind::BadXattr => put(out, b"BadXattr"),
             TraceKind::NotUnderRoot => put(out, b"NotUnderRoot"),
             TraceKind::WrongStanza => put(out, b"WrongStanza"),
             TraceKind::TooMany { limit } => put_named(out, b"TooMany ", u64::from(limit)),

@@ -6,7 +6,7 @@ ghost use Rattle.gufi_base.specs.declared.record.Rec.{Rec};
 ghost use Rattle.gufi_base.specs.Delimiters.{may_delimit};
 ghost use Rattle.gufi_base.specs.Paths.{is_too_long};
 ghost use Rattle.gufi_tree.specs.Tree.{own_rows};
-ghost use Rattle.gufi_trace.specs.TraceWriting.{holds_byte, row_holds, trace_text, written_trace, TraceReadsBack};
+ghost use Rattle.gufi_trace.specs.TraceWriting.{holds_byte, rec_holds as of_rec, row_holds, trace_text, written_trace, TraceReadsBack};
 ghost use Rattle.gufi_trace.specs.Writing.{directory, own_holds, own_too_long, own_text, is_over as passes_limits, GivesText};
 
 use crate::row::{put_directory, put_entry};
@@ -18,7 +18,7 @@ use thiserror::Error;
 /// Why a tree isn't written as a trace.
 #[derive(Clone, Copy, Debug, PartialEq, Eq, Error)]
 pub enum WriteTraceFault {
-    #[error("a name or a link holds the delimiter")]
+    #[error("a name, a link or the names of extended attributes hold the delimiter")]
     DelimUsed,
     #[error("a path is too long")]
     TooLong,
@@ -39,14 +39,21 @@ fn path_holds(path: &PathRef<'_>, delim: u8) -> bool
     holds(path.text(), delim)
 }
 
-fn entry_holds(entry: &EntryRef<'_>, delim: u8) -> bool
-    ensures { result ≡ (holds_byte delim entry.now.name || holds_byte delim entry.now.rec.link) }
+/// Whether the link or the names of extended attributes hold the delimiter.
+fn rec_holds(rec: &RecRef<'_>, delim: u8) -> bool
+    ensures { result ≡ of_rec delim rec.now }
 {
-    holds(entry.name(), delim) || holds(entry.rec().link(), delim)
+    holds(rec.link(), delim) || holds(rec.xattrs(), delim)
+}
+
+fn entry_holds(entry: &EntryRef<'_>, delim: u8) -> bool
+    ensures { result ≡ (holds_byte delim entry.now.name || of_rec delim entry.now.rec) }
+{
+    holds(entry.name(), delim) || rec_holds(&entry.rec(), delim)
 }
 
 fn any_entry_holds(entries: &EntriesRef<'_>, delim: u8) -> bool
-    ensures { result ≡ list_any (λ entry. holds_byte delim entry.name || holds_byte delim entry.rec.link) entries.now }
+    ensures { result ≡ list_any (λ entry. holds_byte delim entry.name || of_rec delim entry.rec) entries.now }
 {
     for place in 0..entries.len() {
         if entry_holds(&entries.at(place), delim) {
@@ -67,9 +74,9 @@ fn directory_holds(
     ensures { result ≡ own_holds delim (directory path.now rec.now entries.now) }
 {
     let in_path = path_holds(path, delim);
-    let in_link = holds(rec.link(), delim);
+    let in_rec = rec_holds(rec, delim);
     let in_entry = any_entry_holds(entries, delim);
-    in_path || in_link || in_entry
+    in_path || in_rec || in_entry
 }
 
 fn is_over(names: u128, bytes: u128) -> bool
@@ -178,8 +185,8 @@ fn put_tree(out: &mut Vec<u8>, tree: &Tree, root: &PathRef<'_>, delim: u8) -> Re
 
 /// The trace of a tree: a stanza for each directory, in path order, with the root's names before each path.
 ///
-/// `DelimUsed` where a name of the tree or the root, or a link, holds the delimiter; else `TooLong` where a path so
-/// written has more than 256 names or 4,096 bytes.
+/// `DelimUsed` where a name of the tree or the root, a link, or the names of extended attributes hold the delimiter; else
+/// `TooLong` where a path so written has more than 256 names or 4,096 bytes.
 pub fn write_trace(
     alloc: Global,
     tree: &Tree,

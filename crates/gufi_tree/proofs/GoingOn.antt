@@ -1,12 +1,14 @@
 -- What is packed goes on to mean the same when more is packed behind it.
 use Rattle.std.proofs.Common.{◌≡◌, ◌∙◌, ℕ, ◌+◌, ◌≤◌, List, [], ◌∷◌, ◌++◌, length, map, suc, take, drop, refl, sym, ap, subst, append_assoc, arith}
-use Rattle.std.specs.Prelude.{All, IsTrue, true}
+use Rattle.std.specs.Prelude.{All, Bool, IsTrue, true}
 use Rattle.std.specs.List.{list_all}
 use Rattle.std.proofs.lemmas.List.{append-nil, drop-append-le, drop_at, drop-map, length-append, length-drop, length-map, take-append-le, take-map, take_all}
 use Rattle.std.proofs.lemmas.List.Elements.{All-drop, All-push, All-take, All-weaker}
 use Rattle.gufi_base.specs.Names.{is_name}
 use Rattle.gufi_base.specs.PathTexts.{kept_text, names, IsText}
+use Rattle.gufi_base.specs.Xattrs.{kept_names, AreKept}
 use Rattle.gufi_base.proofs.Names.{names-kept_text, IsText-kept_text}
+use Rattle.gufi_base.proofs.KeptXattrs.{kept_names-more, kept_size-more}
 use Rattle.gufi_tree.specs.declared.tree.Entry.{Entry}
 use Rattle.gufi_tree.specs.declared.bundle.Packed.{Packed}
 use Rattle.gufi_tree.specs.declared.bundle.Head.{Head}
@@ -24,15 +26,19 @@ part-more : {X : Type 0} (xs more : List X) (at count : ℕ) → at + count ≤ 
 part-more xs more at count within =
     ap (take count) (drop-append-le at xs more (omega (arith, within))) ∙ take-append-le count (drop at xs) more (omega (arith, within, length-drop at xs))
 
+AreKept-more : (text more : List ℕ) (at : ℕ) (some : Bool) → AreKept text at some → AreKept (text ++ more) at some
+AreKept-more text more at some kept = omega (arith, kept, length-append text more, kept_size-more text more at some kept)
+
 pub entry_in-more : (text more : List ℕ) (p : Packed) → IsPacked text p → entry_in (text ++ more) p ≡ entry_in text p
 entry_in-more text more p is =
     let name : name_in (text ++ more) p ≡ name_in text p = part-more text more p.at p.name (omega (arith, is.within)) in
-    let link : bytes_at (text ++ more) (p.at + p.name) p.link ≡ bytes_at text (p.at + p.name) p.link = part-more text more (p.at + p.name) p.link is.within in
-    λ i. record { name = name i; rec = record { link = link i; meta = p.meta } }
+    let link : bytes_at (text ++ more) (p.at + p.name) p.link ≡ bytes_at text (p.at + p.name) p.link = part-more text more (p.at + p.name) p.link (omega (arith, is.within)) in
+    let xattrs : kept_names (text ++ more) (p.at + p.name + p.link) p.has_xattrs ≡ kept_names text (p.at + p.name + p.link) p.has_xattrs = kept_names-more text more (p.at + p.name + p.link) p.has_xattrs is.within in
+    λ i. record { name = name i; rec = record { link = link i; xattrs = xattrs i; meta = p.meta } }
 
 pub IsPacked-more : (text more : List ℕ) (p : Packed) → IsPacked text p → IsPacked (text ++ more) p
 IsPacked-more text more p is = record {
-  within = omega (arith, is.within, length-append text more);
+  within = AreKept-more text more (p.at + p.name + p.link) p.has_xattrs is.within;
   name = subst (λ n. IsTrue (is_name n)) (sym (part-more text more p.at p.name (omega (arith, is.within)))) is.name;
 }
 
@@ -60,7 +66,7 @@ GoesOn-start text rows all = record { bytes = ([], sym (append-nil text)); entri
 module _ (text next : List ℕ) (rows after : List Packed) (goes : GoesOn text next rows after) (all : All (IsPacked text) rows) where
   IsHead-more : (h : Head) → IsHead text rows h → IsHead next after h
   IsHead-more h is = record {
-    within = omega (arith, is.within, ap length goes.bytes.1, length-append text goes.bytes.0);
+    within = subst (λ t. AreKept t (h.at + h.path + h.link) h.has_xattrs) (sym goes.bytes.1) (AreKept-more text goes.bytes.0 (h.at + h.path + h.link) h.has_xattrs is.within);
     path = subst IsText (sym (ap (λ t. path_in t h) goes.bytes.1 ∙ part-more text goes.bytes.0 h.at h.path (omega (arith, is.within)))) is.path;
     entries = omega (arith, is.entries, ap length goes.entries.1, length-append rows goes.entries.0);
   }
@@ -69,12 +75,14 @@ module _ (text next : List ℕ) (rows after : List Packed) (goes : GoesOn text n
   directory_in-more h is =
       let path : path_in next h ≡ path_in text h = ap (λ t. path_in t h) goes.bytes.1 ∙ part-more text goes.bytes.0 h.at h.path (omega (arith, is.within)) in
       let link : bytes_at next (h.at + h.path) h.link ≡ bytes_at text (h.at + h.path) h.link =
-      ap (λ t. bytes_at t (h.at + h.path) h.link) goes.bytes.1 ∙ part-more text goes.bytes.0 (h.at + h.path) h.link is.within in
+      ap (λ t. bytes_at t (h.at + h.path) h.link) goes.bytes.1 ∙ part-more text goes.bytes.0 (h.at + h.path) h.link (omega (arith, is.within)) in
+      let xattrs : kept_names next (h.at + h.path + h.link) h.has_xattrs ≡ kept_names text (h.at + h.path + h.link) h.has_xattrs =
+      ap (λ t. kept_names t (h.at + h.path + h.link) h.has_xattrs) goes.bytes.1 ∙ kept_names-more text goes.bytes.0 (h.at + h.path + h.link) h.has_xattrs is.within in
       let own : List Packed = take h.count (drop h.first rows) in
       let entries : entries_in next (take h.count (drop h.first after)) ≡ entries_in text own =
       ap (λ rs. entries_in next (take h.count (drop h.first rs))) goes.entries.1 ∙ ap (entries_in next) (part-more rows goes.entries.0 h.first h.count is.entries)
       ∙ entries_in-goes_on text next own goes.bytes (All-take (IsPacked text) h.count (drop h.first rows) (All-drop (IsPacked text) h.first rows all)) in
-      λ i. record { path = names (path i); rec = record { link = link i; meta = h.meta }; entries = entries i }
+      λ i. record { path = names (path i); rec = record { link = link i; xattrs = xattrs i; meta = h.meta }; entries = entries i }
 
   pub directories-goes_on : (heads : List Head) → All (IsHead text rows) heads → map (directory_in next after) heads ≡ map (directory_in text rows) heads
   directories-goes_on heads each = map-same (directory_in next after) (directory_in text rows) heads (All-weaker (IsHead text rows) _ directory_in-more heads each)
@@ -99,26 +107,31 @@ module _ (text next : List ℕ) (rows after : List Packed) (entries : List Entry
       sym (ap (take count) (drop-map (entry_in next) first after) ∙ take-map (entry_in next) count (drop first after)) ∙ ap (λ es. take count (drop first es)) is
       ∙ ap (take count) (drop_at (entries_in text rows) entries first (omega (arith, f, length-map rows (entry_in text)))) ∙ take_all count entries (omega (arith, c))
 
--- a directory whose path and link were put behind the text of its entries
+-- a directory whose path, link and names of extended attributes were put behind the text of its entries
 module _ (text mid next : List ℕ) (rows after : List Packed) (h : Head) (dir : Directory) (kept link : List ℕ) (is : entries_in mid after ≡ entries_in text rows ++ dir.entries)
-    (more : (bytes : List ℕ) × (next ≡ mid ++ bytes)) (within : h.at + length kept + length link ≤ length next) (first : h.first ≡ length rows) (count : h.count ≡ length dir.entries)
+    (more : (bytes : List ℕ) × (next ≡ mid ++ bytes)) (within : AreKept next (h.at + length kept + length link) h.has_xattrs) (first : h.first ≡ length rows) (count : h.count ≡ length dir.entries)
     (path : h.path ≡ length kept) (target : h.link ≡ length link) (of : kept ≡ kept_text dir.path) (put : bytes_at next h.at (length kept) ≡ kept) (named : list_all is_name dir.path ≡ true) where
   kept_there : path_in next h ≡ kept_text dir.path
   kept_there = ap (bytes_at next h.at) path ∙ put ∙ of
 
+  behind_link : h.at + length kept + length link ≡ h.at + h.path + h.link
+  behind_link = omega (arith, path, target)
+
   pub IsHead-put : IsHead next after h
   IsHead-put = record {
-    within = omega (arith, within, path, target);
+    within = subst (λ n. AreKept next n h.has_xattrs) behind_link within;
     path = subst IsText (sym kept_there) (IsText-kept_text dir.path named);
     entries = omega (arith, first, count, length-last text mid rows after dir.entries is);
   }
 
-  pub directory_in-put : h.meta ≡ dir.rec.meta → link ≡ dir.rec.link → bytes_at next (h.at + length kept) (length link) ≡ link → All (IsPacked mid) after → directory_in next after h ≡ dir
-  directory_in-put meta l there packed =
+  pub directory_in-put : h.meta ≡ dir.rec.meta → link ≡ dir.rec.link → bytes_at next (h.at + length kept) (length link) ≡ link
+      → kept_names next (h.at + length kept + length link) h.has_xattrs ≡ dir.rec.xattrs → All (IsPacked mid) after → directory_in next after h ≡ dir
+  directory_in-put meta l there own_xattrs packed =
       let own : List Packed = take h.count (drop h.first after) in
       let names_there : names (path_in next h) ≡ dir.path = ap names kept_there ∙ names-kept_text dir.path named in
       let link_there : bytes_at next (h.at + h.path) h.link ≡ dir.rec.link = ap (λ n. bytes_at next (h.at + n) h.link) path ∙ ap (bytes_at next (h.at + length kept)) target ∙ there ∙ l in
+      let xattrs_there : kept_names next (h.at + h.path + h.link) h.has_xattrs ≡ dir.rec.xattrs = ap (λ n. kept_names next n h.has_xattrs) (sym behind_link) ∙ own_xattrs in
       let entries : entries_in next own ≡ dir.entries =
       entries_in-goes_on mid next own more (All-take (IsPacked mid) h.count (drop h.first after) (All-drop (IsPacked mid) h.first after packed))
       ∙ entries_in-last text mid rows after dir.entries is h.first h.count first count in
-      λ i. record { path = names_there i; rec = record { link = link_there i; meta = meta i }; entries = entries i }
+      λ i. record { path = names_there i; rec = record { link = link_there i; xattrs = xattrs_there i; meta = meta i }; entries = entries i }

@@ -7,7 +7,7 @@ ghost use Rattle.gufi_tree.specs.declared.tree.Entry.{Entry as SeenEntry};
 ghost use Rattle.gufi_tree.specs.Bundles.{bytes_at, directory_in, entry_in, entries_in, IsHead, IsPacked};
 
 use crate::bundle::{Head, Packed};
-use gufi_base::{Meta, PathRef, RecRef};
+use gufi_base::{Meta, PathRef, RecRef, xattrs_at};
 use std::marker::Model;
 
 /// So many bytes of a text from a place on.
@@ -25,6 +25,7 @@ pub struct EntryRef<'a> {
     name: &'a [u8],
     meta: &'a Meta,
     link: &'a [u8],
+    xattrs: &'a [u8],
 }
 
 impl<'a> Model for EntryRef<'a> {
@@ -35,7 +36,7 @@ impl<'a> Model for EntryRef<'a> {
     ghost use Rattle.std.specs.Prelude.{IsTrue};
     ghost use Rattle.gufi_base.specs.Names.{is_name};
 
-    ghost view = { λ e. record { name = e.name.now; rec = record { link = e.link.now; meta = e.meta.now } } };
+    ghost view = { λ e. record { name = e.name.now; rec = record { link = e.link.now; xattrs = e.xattrs.now; meta = e.meta.now } } };
 
     ghost invariant = { λ e. IsTrue (is_name e.name.now) };
 }
@@ -53,6 +54,7 @@ impl<'a> EntryRef<'a> {
             name: bytes_at(text, at, name),
             meta: &packed.meta,
             link: bytes_at(text, at + name, packed.link as usize),
+            xattrs: xattrs_at(text, at + name + packed.link as usize, packed.has_xattrs),
         }
     }
 
@@ -69,7 +71,7 @@ impl<'a> EntryRef<'a> {
     pub fn rec(&self) -> RecRef<'a>
         ensures { result ≡ self.now.rec }
     {
-        RecRef::of(self.meta, self.link)
+        RecRef::of(self.meta, self.link, self.xattrs)
     }
 }
 
@@ -175,7 +177,12 @@ impl<'a> DirRef<'a> {
     {
         let head = self.head;
         let at = head.at as usize + head.path as usize;
-        RecRef::of(&head.meta, bytes_at(self.text, at, head.link as usize))
+        let link = head.link as usize;
+        RecRef::of(
+            &head.meta,
+            bytes_at(self.text, at, link),
+            xattrs_at(self.text, at + link, head.has_xattrs),
+        )
     }
 
     /// Its entries, in the order in which they are kept.

@@ -2,6 +2,7 @@
 
 ghost use Rattle.std.specs.Prelude.{◌≡◌, ℕ, ◌+◌, ◌<◌, ◌≤◌, ◌^◌, ◌++◌, ◌∷◌, [], List, length, map, take, slice_index_or, All, IsTrue, IfOk, OnOk, OnErr};
 ghost use Rattle.gufi_base.specs.Names.{is_name};
+ghost use Rattle.gufi_base.specs.Xattrs.{kept_names, AreKept};
 ghost use Rattle.gufi_tree.specs.Tree.{Directory};
 ghost use Rattle.gufi_tree.specs.Bundles.{bytes_at, directory_in, entry_in, entries_in, IsHead, IsPacked, IsShort};
 ghost use Rattle.gufi_tree.specs.GoingOn.{GoesOn};
@@ -9,21 +10,23 @@ ghost use Rattle.gufi_tree.specs.Packs.{entries_of, shifted, shifted_row, IsNear
 
 use crate::borrowed::DirRef;
 use crate::pending::{Pending, PlacedRow};
-use gufi_base::{Meta, PathRef, RecRef, u16_of, u32_of};
+use gufi_base::{Meta, PathRef, RecRef, put_xattrs, u16_of, u32_of};
 use std::alloc::{AllocError, Global};
 use std::marker::Model;
 
-/// An entry: its record, and where its name and behind it its link stand in a text, by their lengths in bytes. It has 88 bytes.
+/// An entry: its record, and where its name and behind it its link stand in a text, by their lengths in bytes. Where there are names of
+/// extended attributes, these stand behind the link. It has 88 bytes.
 #[derive(Clone, Copy)]
 pub(crate) struct Packed {
     pub(crate) meta: Meta,
     pub(crate) at: u32,
     pub(crate) link: u16,
     pub(crate) name: u8,
+    pub(crate) has_xattrs: bool,
 }
 
 /// A directory: its record, where the kept text of its path and behind it its link stand in a text, by their lengths in bytes, and
-/// which entries are its own. It has 96 bytes.
+/// which entries are its own. Where there are names of extended attributes, these stand behind the link. It has 104 bytes.
 #[derive(Clone, Copy)]
 pub(crate) struct Head {
     pub(crate) meta: Meta,
@@ -32,6 +35,7 @@ pub(crate) struct Head {
     pub(crate) link: u16,
     pub(crate) first: u32,
     pub(crate) count: u32,
+    pub(crate) has_xattrs: bool,
 }
 
 /// Directories with their entries, in memory that they share: three arrays. The text has less than 4 GiB.
@@ -56,17 +60,24 @@ impl Model for Bundle {
     ghost invariant = { λ b. IsBundle b.text.items b.rows.items b.heads.items b.longest };
 }
 
-/// Puts some bytes and a link behind a text, and tells where they begin.
-fn put_bytes(text: &mut Vec<u8>, bytes: &[u8], link: &[u8]) -> Result<u32, AllocError>
+/// Puts some bytes, a link and names of extended attributes behind a text, and tells where they begin and whether there are names.
+fn put_bytes(
+    text: &mut Vec<u8>,
+    bytes: &[u8],
+    link: &[u8],
+    xattrs: &[u8],
+) -> Result<(u32, bool), AllocError>
     ensures grown { (more : List ℕ) × (text.new.items ≡ text.old.items ++ more) }
-    ensures within { IfOk result (λ at. at + length bytes.now + length link.now ≤ length text.new.items) }
-    ensures bytes { IfOk result (λ at. bytes_at text.new.items at (length bytes.now) ≡ bytes.now) }
-    ensures link { IfOk result (λ at. bytes_at text.new.items (at + length bytes.now) (length link.now) ≡ link.now) }
+    ensures within { IfOk result (λ put. AreKept text.new.items (put.0 + length bytes.now + length link.now) put.1) }
+    ensures bytes { IfOk result (λ put. bytes_at text.new.items put.0 (length bytes.now) ≡ bytes.now) }
+    ensures link { IfOk result (λ put. bytes_at text.new.items (put.0 + length bytes.now) (length link.now) ≡ link.now) }
+    ensures xattrs { IfOk result (λ put. kept_names text.new.items (put.0 + length bytes.now + length link.now) put.1 ≡ xattrs.now) }
 {
     let at = u32_of(text.len())?;
     text.extend_from_slice(bytes)?;
     text.extend_from_slice(link)?;
-    Ok(at)
+    let has_xattrs = put_xattrs(text, xattrs)?;
+    Ok((at, has_xattrs))
 }
 
 /// Puts the bytes of an entry behind a text.
@@ -82,13 +93,14 @@ pub(crate) fn pack_entry(
 {
     let target = rec.link();
     let link = u16_of(target.len())?;
-    let at = put_bytes(text, name, target)?;
+    let (at, has_xattrs) = put_bytes(text, name, target, rec.xattrs())?;
     let meta = *rec.meta();
     Ok(Packed {
         meta,
         at,
         link,
         name: name.len() as u8,
+        has_xattrs,
     })
 }
 
@@ -132,7 +144,7 @@ fn push_entries(
     push_rows(rows, entries.rows.as_slice(), base)
 }
 
-/// Packs a directory's entries behind others, and puts its path and its link behind the text.
+/// Packs a directory's entries behind others, and puts its path, its link and its names of extended attributes behind the text.
 fn pack_directory(
     text: &mut Vec<u8>,
     rows: &mut Vec<Packed>,
@@ -152,7 +164,7 @@ fn pack_directory(
     let target = rec.link();
     let length = u16_of(kept.len())?;
     let link = u16_of(target.len())?;
-    let at = put_bytes(text, kept, target)?;
+    let (at, has_xattrs) = put_bytes(text, kept, target, rec.xattrs())?;
     let meta = *rec.meta();
     Ok(Head {
         meta,
@@ -161,6 +173,7 @@ fn pack_directory(
         link,
         first,
         count,
+        has_xattrs,
     })
 }
 
@@ -211,7 +224,8 @@ impl Bundle {
 
     /// Packs a directory with these entries behind the others, in time in proportion to its bytes.
     ///
-    /// What doesn't fit is answered as want of memory: a path or a link of more than 65,535 bytes, or bytes behind the first 4 GiB.
+    /// What doesn't fit is answered as want of memory: a path, a link or names of extended attributes of more than 65,535 bytes, or bytes
+    /// behind the first 4 GiB.
     pub(crate) fn push(
         &mut self,
         path: &PathRef<'_>,

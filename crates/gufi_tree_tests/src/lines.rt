@@ -22,11 +22,12 @@ pub(crate) fn meta(kind: Kind, guard: Guard) -> Meta {
     }
 }
 
-/// A row with a record and no target.
+/// A row with a record, no target and no names of extended attributes.
 pub(crate) fn row_of(alloc: Global, path: &[u8], meta: Meta) -> Result<Row, Fail> {
     let link = Bytes::of(Vec::new(alloc));
+    let xattrs = Bytes::of(Vec::new(alloc));
     let path = Path::read(alloc, path)?;
-    let rec = Rec { meta, link };
+    let rec = Rec { meta, link, xattrs };
     Ok(Row { path, rec })
 }
 

@@ -12,17 +12,18 @@ fn link_meta() -> Meta {
     meta(Kind::Link, Guard { uid, gid, mode })
 }
 
-fn link_row(alloc: Global, path: &[u8], target: &[u8]) -> Result<Row, Fail> {
+fn link_row(alloc: Global, path: &[u8], target: &[u8], names: &[u8]) -> Result<Row, Fail> {
     let path = Path::read(alloc, path)?;
     let link = Bytes::from_slice(alloc, target)?;
+    let xattrs = Bytes::from_slice(alloc, names)?;
     let meta = link_meta();
     Ok(Row {
         path,
-        rec: Rec { meta, link },
+        rec: Rec { meta, link, xattrs },
     })
 }
 
-/// So many rows: of each the stem, the base name and the link, with a blank between two.
+/// So many rows: of each the stem, the base name, the link and the names of extended attributes, with a blank between two.
 fn printed(alloc: Global, mut cursor: Cursor<'_>, count: u32) -> Result<Vec<u8>, Memory> {
     let mut text = Vec::new(alloc);
     for _ in 0..count {
@@ -32,6 +33,8 @@ fn printed(alloc: Global, mut cursor: Cursor<'_>, count: u32) -> Result<Vec<u8>,
             text.extend_from_slice(row.base)?;
             text.push(b' ')?;
             text.extend_from_slice(row.link)?;
+            text.push(b' ')?;
+            text.extend_from_slice(row.xattrs)?;
             text.push(b'\n')?;
         }
     }
@@ -39,21 +42,24 @@ fn printed(alloc: Global, mut cursor: Cursor<'_>, count: u32) -> Result<Vec<u8>,
 }
 
 #[test]
-fn the_longest_name_and_link_come_back(rt: HostRuntime) -> Result<(), Fail> {
+fn the_longest_names_and_link_come_back(rt: HostRuntime) -> Result<(), Fail> {
     let alloc = rt.alloc();
     let name = [b'n'; 255];
     let target = [b't'; 4096];
+    let names = [b'x'; 4096];
     let rows = vec![in alloc;
-        link_row(alloc, name.as_slice(), b"")?,
-        link_row(alloc, b"/p", target.as_slice())?,
+        link_row(alloc, name.as_slice(), b"", b"user.a,user.b")?,
+        link_row(alloc, b"/p", target.as_slice(), names.as_slice())?,
     ]?;
     let page = pack(alloc, rows.as_slice())?;
     let mut expected = Vec::new(alloc);
     for part in [
         b"/ ".as_slice(),
         name.as_slice(),
-        b" \n/ p ",
+        b"  user.a,user.b\n/ p ",
         target.as_slice(),
+        b" ",
+        names.as_slice(),
         b"\n",
     ] {
         expected.extend_from_slice(part)?;
@@ -87,11 +93,11 @@ fn a_range_has_the_stems_of_its_rows(rt: HostRuntime) -> Result<(), Fail> {
     assert_eq!(rt; page.len(), 6);
     assert_eq!(rt;
         printed(alloc, page.range(1, 4), 9)?.as_slice(),
-        b"/ e /e/\n/d/ a /d/a/\n/d/ b /d/b/\n/d/b/ c /d/b/c/\n".as_slice()
+        b"/ e /e/ e\n/d/ a /d/a/ a\n/d/ b /d/b/ b\n/d/b/ c /d/b/c/ c\n".as_slice()
     );
     assert_eq!(rt;
         printed(alloc, page.range(4, 2), 9)?.as_slice(),
-        b"/d/b/ c /d/b/c/\n/e/ a /e/a/\n".as_slice()
+        b"/d/b/ c /d/b/c/ c\n/e/ a /e/a/ a\n".as_slice()
     );
     Ok(())
 }

@@ -9,7 +9,7 @@ use gufi_rows::{PathList, RowList};
 use std::alloc::Global;
 use std::test::Fail;
 
-/// The row of a path, whose link is the path's kept text.
+/// The row of a path, whose link is the path's kept text and whose names of extended attributes are its base name.
 pub(crate) fn row_of<'a>(path: &'a Path, meta: &'a Meta) -> RowRef<'a>
     ensures { StandsForSome result }
 {
@@ -18,6 +18,7 @@ pub(crate) fn row_of<'a>(path: &'a Path, meta: &'a Meta) -> RowRef<'a>
         base: path.base_name(),
         meta,
         link: path.text(),
+        xattrs: path.base_name(),
     }
 }
 
@@ -59,6 +60,8 @@ fn printed(alloc: Global, rows: &[Row]) -> Result<Vec<u8>, Memory> {
         text.extend_from_slice(row.path.printed())?;
         text.push(b' ')?;
         text.extend_from_slice(row.rec.link.as_slice())?;
+        text.push(b' ')?;
+        text.extend_from_slice(row.rec.xattrs.as_slice())?;
         text.push(b'\n')?;
     }
     Ok(text)
@@ -86,7 +89,7 @@ fn walked_rows_come_in_path_order(rt: HostRuntime) -> Result<(), Fail> {
     let rows = list.sorted(alloc)?;
     assert_eq!(rt;
         printed(alloc, rows.as_slice())?.as_slice(),
-        b"/d /d/\n/d/m /d/m/\n/d/m/b /d/m/b/\n/d/m/c /d/m/c/\n/d/m/c/a /d/m/c/a/\n/d/z /d/z/\n".as_slice()
+        b"/d /d/ d\n/d/m /d/m/ m\n/d/m/b /d/m/b/ b\n/d/m/c /d/m/c/ c\n/d/m/c/a /d/m/c/a/ a\n/d/z /d/z/ z\n".as_slice()
     );
     Ok(())
 }

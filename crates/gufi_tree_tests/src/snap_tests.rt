@@ -2,7 +2,7 @@ ghost use Rattle.std.specs.Prelude.{◌≡◌, ◌<◌};
 
 use crate::lines::{line_of, meta};
 use gufi_access::Guard;
-use gufi_base::{Always, Kind, Line, Memory, Meta, Steps};
+use gufi_base::{Always, AsItIs, Kind, Line, Memory, Meta, Steps};
 use gufi_snap::Snapshot;
 use gufi_sums::Summary;
 use gufi_tree::{DirId, build};
@@ -37,7 +37,7 @@ fn scanned<L: Ledger>(
     }
     let mut steps = Steps::<L>::new(blank);
     let mut sum = Summary::empty();
-    snap.scan_piece(alloc, id, &mut Always, 0, &mut sum, &mut steps)?;
+    snap.scan_piece(alloc, id, &mut Always, &AsItIs, 0, &mut sum, &mut steps)?;
     Ok(sum)
 }
 

@@ -3,7 +3,7 @@ ghost use Rattle.std.specs.Prelude.{◌≡◌, ◌<◌, ◌^◌, length, IfOk};
 ghost use Rattle.gufi_tree.specs.Tree.{own_rows};
 
 use crate::lines::line;
-use gufi_base::{Always, Kind, Memory, Row, Steps, Yield};
+use gufi_base::{Always, AsItIs, Kind, Memory, Row, Steps, Yield};
 use gufi_rows::{PathList, RowList};
 use gufi_store::DirStore;
 use gufi_tree::{DirId, DirRef, Tree, build};
@@ -20,7 +20,7 @@ fn scanned<Y: Yield, L: Ledger>(
     requires { length (own_rows store.now) < 2 ^ 39 }
 {
     let mut all = Y::none(alloc)?;
-    store.scan(alloc, &mut Always, 0, &mut all, steps)?;
+    store.scan(alloc, &mut Always, &AsItIs, 0, &mut all, steps)?;
     Ok(all)
 }
 

@@ -28,7 +28,11 @@ use Rattle.gufi_tree.proofs.Ranges.{own_prefix}
 use Rattle.gufi_roll.specs.CanRoll.{can_roll, is_under_fold}
 use Rattle.gufi_roll.proofs.Tops.{prefix_trans}
 use Rattle.gufi_snap.specs.Pieces.{front, piece, tree_sum}
-use Rattle.gufi_walk.specs.Walk.{kid_ids, meets, lies_within, no_deeper, not_passed, next_ids, is_whole, task_dirs}
+use Rattle.gufi_walk.specs.Answer.{shown}
+use Rattle.gufi_walk.specs.Shown.{shown-path}
+use Rattle.gufi_walk.specs.Walk.{kid_ids, meets, lies_within, no_deeper, not_passed, next_ids, is_whole, task_dirs, shown_piece}
+use Rattle.gufi_walk.proofs.Showing.{shown-total}
+use Rattle.gufi_walk.proofs.Pieces.{Has-map}
 use Rattle.gufi_walk.proofs.Passed.{IsOfParts, IsTest, piece_passed}
 use Rattle.gufi_walk.proofs.Walked.{All-append, All-front, All-reverse, filter-all, IsOpen, IsWalk, IsWalk-more, fronts_at, kids_long, kids_open, next_split, walk_deep}
 
@@ -102,29 +106,32 @@ module _ (tree : List Directory) (limit : ℕ) where
         let w = Has-filter (λ (r : Row). path_eq path (home r)) (all_rows tree) row h in
         omega (arith, home_few row, ap length ((path_eq-Decides path (home row)).0 w.1))
 
-  module _ (met : Row → Bool) where
-    none_of_all : (paths : List Components) → AllByRecursion (λ path. filter met (piece tree path limit) ≡ []) paths → filter met (flat_map (λ p. piece tree p limit) paths) ≡ []
+  module _ (who : Principal) (met : Row → Bool) where
+    none_of_all : (paths : List Components) → AllByRecursion (λ path. filter met (shown_piece tree who limit path) ≡ []) paths → filter met (flat_map (shown_piece tree who limit) paths) ≡ []
     none_of_all [] all = refl
-    none_of_all (p ∷ ps) all = filter-append met (piece tree p limit) (flat_map (λ p. piece tree p limit) ps) ∙ (λ i. all.0 i ++ none_of_all ps all.1 i)
+    none_of_all (p ∷ ps) all = filter-append met (shown_piece tree who limit p) (flat_map (shown_piece tree who limit) ps) ∙ (λ i. all.0 i ++ none_of_all ps all.1 i)
 
-  module _ (skips : Summary → Bool) (deepest : Option ℕ) (above : ℕ) (asks : Row → ℕ → Bool) (test : IsTest skips deepest asks) where
-    none_meets : (path : Components) → lies_within deepest above path ≡ false → filter (meets asks above) (piece tree path limit) ≡ []
-    none_meets path deep = filter-none (meets asks above) (piece tree path limit) (λ row h. false_from_ne_true _ (λ met.
-        let few = piece_deep path row h in
-        let far = deeper deepest (length path - above) (depth_below above row) deep (omega arith) in
+  module _ (who : Principal) (skips : Summary → Bool) (deepest : Option ℕ) (above : ℕ) (asks : Row → ℕ → Bool) (test : IsTest skips deepest asks) where
+    none_meets : (path : Components) → lies_within deepest above path ≡ false → filter (meets asks above) (shown_piece tree who limit path) ≡ []
+    none_meets path deep = filter-none (meets asks above) (shown_piece tree who limit path) (λ row h. false_from_ne_true _ (λ met.
+        let w = Has-map (shown who) (piece tree path limit) row h in
+        let few = piece_deep path w.0 w.1 in
+        let same = ap length (sym (shown-path who w.0) ∙ ap (λ (r : Row). r.path) w.2) in
+        let far = deeper deepest (length path - above) (depth_below above row) deep (omega (arith, few, same)) in
         false≢true (sym far ∙ within_from deepest (depth_below above row) (λ most is. test.bounds most is row (depth_below above row) met))))
 
     -- the pieces of directories that lie too deep have no row that meets the question
-    pub all_too_deep : (paths : List Components) → AllByRecursion (λ path. lies_within deepest above path ≡ false) paths → filter (meets asks above) (flat_map (λ p. piece tree p limit) paths) ≡ []
+    pub all_too_deep : (paths : List Components) → AllByRecursion (λ path. lies_within deepest above path ≡ false) paths → filter (meets asks above) (flat_map (shown_piece tree who limit) paths) ≡ []
     all_too_deep paths all =
-        none_of_all (meets asks above) paths
-        (All-weaken (λ path. lies_within deepest above path ≡ false) (λ path. filter (meets asks above) (piece tree path limit) ≡ []) none_meets paths all)
+        none_of_all who (meets asks above) paths
+        (All-weaken (λ path. lies_within deepest above path ≡ false) (λ path. filter (meets asks above) (shown_piece tree who limit path) ≡ []) none_meets paths all)
 
     -- nor do pieces that are passed over
-    pub all_passed : (paths : List Components) → AllByRecursion (λ path. skips (total (piece tree path limit)) ≡ true) paths → filter (meets asks above) (flat_map (λ p. piece tree p limit) paths) ≡ []
+    pub all_passed : (paths : List Components) → AllByRecursion (λ path. skips (total (piece tree path limit)) ≡ true) paths → filter (meets asks above) (flat_map (shown_piece tree who limit) paths) ≡ []
     all_passed paths all =
-        none_of_all (meets asks above) paths
-        (All-weaken (λ path. skips (total (piece tree path limit)) ≡ true) (λ path. filter (meets asks above) (piece tree path limit) ≡ []) (λ path. test.none above (piece tree path limit)) paths all)
+        none_of_all who (meets asks above) paths
+        (All-weaken (λ path. skips (total (piece tree path limit)) ≡ true) (λ path. filter (meets asks above) (shown_piece tree who limit path) ≡ [])
+        (λ path h. test.none above (shown_piece tree who limit path) (ap skips (shown-total who (piece tree path limit)) ∙ h)) paths all)
 
   -- ---- fronts
 
@@ -171,7 +178,7 @@ module _ (tree : List Directory) (limit : ℕ) where
     pub record IsNext (skips : Summary → Bool) (deepest : Option ℕ) (above : ℕ) (start : Components) (done : List Components) (id : DirId) (asks : Row → ℕ → Bool) (all : List Components) (more : List DirId) : Type 0 where
       pub walk : IsWalk tree who limit start all more
       pub within : AllByRecursion (λ (id : DirId). lies_within deepest above (path_at tree id.0) ≡ true) more
-      pub rows : filter (meets asks above) (flat_map (λ p. piece tree p limit) all) ≡ filter (meets asks above) (flat_map (λ p. piece tree p limit) (done ++ path_at tree id.0 ∷ []))
+      pub rows : filter (meets asks above) (flat_map (shown_piece tree who limit) all) ≡ filter (meets asks above) (flat_map (shown_piece tree who limit) (done ++ path_at tree id.0 ∷ []))
       pub count : length (ticked skips tree limit deepest above all) ≡ length (ticked skips tree limit deepest above done) + length (not_passed skips tree limit (path_at tree id.0 ∷ []))
       pub longer : length done + 1 ≤ length all
 
@@ -230,7 +237,7 @@ module _ (tree : List Directory) (limit : ℕ) where
 
           -- what lies below has no row that meets the question, and no tick
           record IsLeftOut : Type 0 where
-            rows : filter (meets asks above) (flat_map (λ p. piece tree p limit) out) ≡ []
+            rows : filter (meets asks above) (flat_map (shown_piece tree who limit) out) ≡ []
             count : inner out ≡ []
 
           left_deep : goes_below deepest (length (path_at tree id.0) - above) ≡ false → IsLeftOut
@@ -240,7 +247,7 @@ module _ (tree : List Directory) (limit : ℕ) where
               All-weaken (λ (q : Components). length p + 1 ≤ length q) (λ q. lies_within deepest above q ≡ false) (λ q le. below_bound deepest (length p - above) (length q - above) off (omega (arith, here))) out
               (fronts_deep (length p + 1) below (All-weaken (λ (k : DirId). length (path_at tree k.0) ≡ length p + 1) (λ (k : DirId). length p + 1 ≤ length (path_at tree k.0)) (λ k is. omega (arith, is)) _ long)) in
               record {
-                rows = all_too_deep skips deepest above asks test out too_deep;
+                rows = all_too_deep who skips deepest above asks test out too_deep;
                 count = ap (not_passed skips tree limit) (filter-none (lies_within deepest above) out (λ q h. All-Has (λ q. lies_within deepest above q ≡ false) out q too_deep h));
               }
 
@@ -252,7 +259,7 @@ module _ (tree : List Directory) (limit : ℕ) where
               let all : AllByRecursion (λ q. skips (total (piece tree q limit)) ≡ true) out =
               All-weaken (λ q. is_prefix p q ≡ true) (λ q. skips (total (piece tree q limit)) ≡ true) (λ q leads. piece_passed skips test.parts tree limit p q leads passed) out (fronts_below p below leads) in
               record {
-                rows = all_passed skips deepest above asks test out all;
+                rows = all_passed who skips deepest above asks test out all;
                 count = filter-none (λ path. not (skips (total (piece tree path limit)))) (filter (lies_within deepest above) out) (λ q h.
                     ap not (All-Has (λ q. skips (total (piece tree q limit)) ≡ true) out q all (Has-filter (lies_within deepest above) out q h).0));
               }
@@ -275,7 +282,7 @@ module _ (tree : List Directory) (limit : ℕ) where
           stop : IsLeftOut → (more : List DirId) → more ≡ rest ++ [] → (all : List Components) × IsNext skips deepest above start done id asks all more
           stop left more e =
               let p : Components = path_at tree id.0 in
-              let P : Components → List Row = λ q. piece tree q limit in
+              let P : Components → List Row = shown_piece tree who limit in
               let met = meets asks above in
               let same : more ≡ rest = e ∙ append-nil rest in (
                 (done ++ p ∷ []) ++ out,

@@ -13,11 +13,10 @@ use Rattle.gufi_tree.specs.Listed.{is_listed}
 use Rattle.gufi_tree.proofs.Built.{Has}
 use Rattle.gufi_tree.proofs.FoundStart.{found_place_of_start}
 use Rattle.gufi_roll.specs.CanRoll.{is_under_fold}
-use Rattle.gufi_snap.specs.Pieces.{front, piece, kids}
-use Rattle.gufi_walk.specs.Answer.{listed_rows}
+use Rattle.gufi_snap.specs.Pieces.{front, kids}
 use Rattle.gufi_walk.specs.Folds.{reached, FoldsHoldTheRows, KidsReachTheFront}
-use Rattle.gufi_walk.proofs.Pieces.{front-step, kid_there, flat_map-moved, part_of_flat_map, listed_rows-by_front}
-use Rattle.gufi_walk.proofs.Walked.{filtered_fewer}
+use Rattle.gufi_walk.proofs.Pieces.{front-step, kid_there, flat_map-moved, part_of_flat_map}
+use Rattle.gufi_walk.proofs.Walked.{filtered_fewer, shown_at_top}
 
 module _ (tree : List Directory) (limit : ℕ) (who : Principal) (shape : HasTreeShape tree) where
   -- as many steps as the front has further members reach all of it
@@ -46,8 +45,7 @@ front-few tree who start limit =
 pub folds_hold : FoldsHoldTheRows
 folds_hold tree who start id limit shape found =
     let f = found_place_of_start tree who start id shape found in
-    let P : Components → Type 0 = λ p. IsPermutation (flat_map (λ path. piece tree path limit) (front tree who p limit)) (listed_rows tree who p) in
-    subst P f.at (IsPermutation-sym _ _ (listed_rows-by_front tree limit who shape f.dir f.there f.on))
+    IsPermutation-sym _ _ (shown_at_top tree who shape limit start (record { dir = f.dir; there = f.there; on = f.on; path = f.at }))
 
 pub kids_reach : KidsReachTheFront
 kids_reach tree who start id limit steps shape found enough =

@@ -1,3 +1,4 @@
+pub mod Showing
 pub mod Bounded
 pub mod Folds
 pub mod Isolation

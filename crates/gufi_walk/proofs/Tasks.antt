@@ -34,10 +34,10 @@ use Rattle.gufi_tree.specs.Listed.{is_listed}
 use Rattle.gufi_base.specs.Rows.{home}
 use Rattle.gufi_base.proofs.Permutations.{IsPermutation-flat_map}
 use Rattle.gufi_walk.specs.Answer.{answer}
-use Rattle.gufi_walk.specs.Walk.{meets, lists_at, open_ids, kid_ids, is_whole, task_dirs, task_kids, open_places, task_rows}
+use Rattle.gufi_walk.specs.Walk.{meets, lists_at, open_ids, kid_ids, is_whole, task_dirs, task_kids, open_places, shown_piece, task_rows}
 use Rattle.gufi_walk.proofs.Pieces.{Has-map, front-step}
 use Rattle.gufi_walk.proofs.Weights.{weigh_alike, sum_by-map, sum_by-flat}
-use Rattle.gufi_walk.proofs.Walked.{IsOpen, IsOpen-start, at_place, fronts_at, fronts-kids, kids_open, ids_children, filtered_fewer, listed_at_top, IsOpenTop-at, answer-by_pieces}
+use Rattle.gufi_walk.proofs.Walked.{IsOpen, IsOpen-start, at_place, fronts_at, fronts-kids, kids_open, ids_children, filtered_fewer, listed_at_top, IsOpenTop-at, shown_as_many, answer-by_pieces}
 
 -- ---- elements
 
@@ -305,10 +305,10 @@ module _ (tree : List Directory) (who : Principal) (shape : HasTreeShape tree) w
 
 -- the rows of all tasks
 pub tasks_rows : (skips : Summary → Bool) (tree : List Directory) (who : Principal) (limit grain : ℕ) (met : Row → Bool) (tasks : List ℕ)
-    → flat_map (task_rows skips tree who limit grain met) tasks ≡ filter met (flat_map (λ p. piece tree p limit) (flat_map (λ k. task_dirs skips tree who limit grain (path_at tree k)) tasks))
+    → flat_map (task_rows skips tree who limit grain met) tasks ≡ filter met (flat_map (shown_piece tree who limit) (flat_map (λ k. task_dirs skips tree who limit grain (path_at tree k)) tasks))
 tasks_rows skips tree who limit grain met [] = refl
 tasks_rows skips tree who limit grain met (t ∷ ts) =
-    let P : Components → List Row = λ p. piece tree p limit in
+    let P : Components → List Row = shown_piece tree who limit in
     let D : ℕ → List Components = λ k. task_dirs skips tree who limit grain (path_at tree k) in
     ap (λ l. filter met (flat_map P (D t)) ++ l) (tasks_rows skips tree who limit grain met ts)
     ∙ sym (ap (filter met) (flat_map-append P (D t) (flat_map D ts)) ∙ filter-append met (flat_map P (D t)) (flat_map P (flat_map D ts)))
@@ -349,7 +349,8 @@ module _ (tree : List Directory) (who : Principal) (shape : HasTreeShape tree) (
       omega (
         arith,
         ap length (tasks_rows skips tree who limit grain met tasks),
-        filtered_fewer met (flat_map P all_dirs),
+        filtered_fewer met (flat_map (shown_piece tree who limit) all_dirs),
+        shown_as_many tree who limit all_dirs,
         length_permutation _ _ (IsPermutation-flat_map P _ _ (tasks_front tree who shape skips limit grain start tasks may balanced)),
         length_permutation _ _ (listed_at_top tree who shape limit (path_at tree start) (IsOpenTop-at tree who shape start within on)),
         filtered_fewer (λ row. is_listed tree who (path_at tree start) (home row)) (all_rows tree),

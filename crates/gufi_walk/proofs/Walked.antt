@@ -8,9 +8,9 @@ use Rattle.std.proofs.lemmas.Bool.{false≢true, false_from_ne_true}
 use Rattle.std.proofs.lemmas.Grind.{flat_map-append, reverse_onto}
 use Rattle.std.proofs.lemmas.List.Elements.{filter-append, All-from_recursion, recursion_from_All}
 use Rattle.std.proofs.lemmas.List.Sums.{length-filter, count_by-le-length}
-use Rattle.std.proofs.lemmas.List.{append-nil}
+use Rattle.std.proofs.lemmas.List.{append-nil, length-map}
 use Rattle.std.proofs.lemmas.List.Folds.{flat_map-map}
-use Rattle.std.proofs.lemmas.List.Sorted.{IsPermutation-refl, IsPermutation-trans, IsPermutation-sym, IsPermutation-cons, IsPermutation-middle, IsPermutation-reverse, IsPermutation-append_right, length_permutation}
+use Rattle.std.proofs.lemmas.List.Sorted.{IsPermutation-refl, IsPermutation-trans, IsPermutation-sym, IsPermutation-cons, IsPermutation-map, IsPermutation-middle, IsPermutation-reverse, IsPermutation-append_right, length_permutation}
 use Rattle.gufi_base.specs.declared.record.Row.{Row}
 use Rattle.gufi_base.specs.Paths.{Components, is_prefix, is_child_of}
 use Rattle.gufi_base.specs.Rows.{depth_below, home}
@@ -35,9 +35,10 @@ use Rattle.gufi_sums.specs.Total.{total, NoneMeets}
 use Rattle.gufi_sums.specs.Laws.{total-IsPermutation}
 use Rattle.gufi_roll.specs.CanRoll.{can_roll}
 use Rattle.gufi_snap.specs.Pieces.{front, piece, kids}
-use Rattle.gufi_walk.specs.Answer.{listed_rows, answer}
-use Rattle.gufi_walk.specs.Walk.{lists_at, open_ids, kid_ids, meets}
-use Rattle.gufi_walk.proofs.Pieces.{front-step, listed_rows-by_front}
+use Rattle.gufi_walk.specs.Answer.{shown, listed_rows, answer}
+use Rattle.gufi_walk.specs.Walk.{lists_at, open_ids, kid_ids, meets, shown_piece}
+use Rattle.gufi_walk.proofs.Showing.{shown-total}
+use Rattle.gufi_walk.proofs.Pieces.{map-flat_map, plain_rows, front-step, plain_rows-by_front}
 
 Has-get_or : {X : Type 0} (xs : List X) (i : ℕ) (d : X) → i < length xs → Has xs (get_or xs i d)
 Has-get_or [] i d h = absurd (omega arith)
@@ -140,12 +141,19 @@ pieces-more tree limit done path =
     let P : Components → List Row = λ p. piece tree p limit in
     flat_map-append P done (path ∷ []) ∙ ap (λ l. flat_map P done ++ l) (append-nil (P path))
 
--- those of them that meet a question
-pub rows-more : (tree : List Directory) (limit : ℕ) (met : Row → Bool) (done : List Components) (path : Components)
-    → filter met (flat_map (λ p. piece tree p limit) (done ++ path ∷ [])) ≡ filter met (flat_map (λ p. piece tree p limit) done) ++ filter met (piece tree path limit)
-rows-more tree limit met done path =
-    let P : Components → List Row = λ p. piece tree p limit in
-    ap (filter met) (pieces-more tree limit done path) ∙ filter-append met (flat_map P done) (P path)
+-- those of them that meet a question, as they are shown
+pub rows-more : (tree : List Directory) (who : Principal) (limit : ℕ) (met : Row → Bool) (done : List Components) (path : Components)
+    → filter met (flat_map (shown_piece tree who limit) (done ++ path ∷ [])) ≡ filter met (flat_map (shown_piece tree who limit) done) ++ filter met (shown_piece tree who limit path)
+rows-more tree who limit met done path =
+    let P : Components → List Row = shown_piece tree who limit in
+    ap (filter met) (flat_map-append P done (path ∷ []) ∙ ap (λ l. flat_map P done ++ l) (append-nil (P path))) ∙ filter-append met (flat_map P done) (P path)
+
+-- pieces as they are shown are their rows as they are shown
+pub shown_pieces : (tree : List Directory) (who : Principal) (limit : ℕ) (paths : List Components) → map (shown who) (flat_map (λ p. piece tree p limit) paths) ≡ flat_map (shown_piece tree who limit) paths
+shown_pieces tree who limit paths = map-flat_map (λ (p : Components). piece tree p limit) (shown who) paths
+
+pub shown_as_many : (tree : List Directory) (who : Principal) (limit : ℕ) (paths : List Components) → length (flat_map (shown_piece tree who limit) paths) ≡ length (flat_map (λ p. piece tree p limit) paths)
+shown_as_many tree who limit paths = ap length (sym (shown_pieces tree who limit paths)) ∙ length-map (flat_map (λ p. piece tree p limit) paths) (shown who)
 
 -- a test that all pass leaves out none
 pub filter-all : {X : Type 0} (xs : List X) → filter (λ x. true) xs ≡ xs
@@ -182,10 +190,10 @@ module _ (tree : List Directory) (who : Principal) (shape : HasTreeShape tree) w
   pub found_listed : (start : Components) (id : DirId) → IsFoundPlace tree who start id → lists_at tree who (path_at tree id.0) ≡ true
   found_listed start id f = ap (lists_at tree who) (f.path ∙ sym f.at) ∙ lists_at-own tree who (λ p. false) shape f.dir f.there ∙ f.on
 
-  pub listed_at_top : (limit : ℕ) (start : Components) → IsOpenTop tree who start → IsPermutation (listed_rows tree who start) (flat_map (λ p. piece tree p limit) (front tree who start limit))
+  pub listed_at_top : (limit : ℕ) (start : Components) → IsOpenTop tree who start → IsPermutation (plain_rows tree who start) (flat_map (λ p. piece tree p limit) (front tree who start limit))
   listed_at_top limit start top =
-      let P : Components → Type 0 = λ q. IsPermutation (listed_rows tree who q) (flat_map (λ p. piece tree p limit) (front tree who q limit)) in
-      subst P top.path (listed_rows-by_front tree limit who shape top.dir top.there top.on)
+      let P : Components → Type 0 = λ q. IsPermutation (plain_rows tree who q) (flat_map (λ p. piece tree p limit) (front tree who q limit)) in
+      subst P top.path (plain_rows-by_front tree limit who shape top.dir top.there top.on)
 
   -- nothing is left to do
   pub IsWalk-all : (limit : ℕ) (start : Components) (done : List Components) (todo : List DirId) → IsWalk tree who limit start done todo → length todo ≡ 0 → IsPermutation (front tree who start limit) done
@@ -194,20 +202,24 @@ module _ (tree : List Directory) (who : Principal) (shape : HasTreeShape tree) w
       let split : IsPermutation (front tree who start limit) (done ++ fronts_at tree who limit []) = subst (λ l. IsPermutation (front tree who start limit) (done ++ fronts_at tree who limit l)) none walk.split in
       subst (λ l. IsPermutation (front tree who start limit) l) (append-nil done) split
 
+  -- and as they are shown
+  pub shown_at_top : (limit : ℕ) (start : Components) → IsOpenTop tree who start → IsPermutation (listed_rows tree who start) (flat_map (shown_piece tree who limit) (front tree who start limit))
+  shown_at_top limit start top = subst (IsPermutation (listed_rows tree who start)) (shown_pieces tree who limit (front tree who start limit)) (IsPermutation-map (shown who) _ _ (listed_at_top limit start top))
+
   -- the rows of all pieces of the front, in whatever order, are the answer
   pub answer-by_pieces : (limit : ℕ) (start : Components) → IsOpenTop tree who start → (done : List Components) → IsPermutation (front tree who start limit) done
-      → (asks : Row → ℕ → Bool) → IsPermutation (filter (meets asks (length start)) (flat_map (λ p. piece tree p limit) done)) (answer tree who start asks)
+      → (asks : Row → ℕ → Bool) → IsPermutation (filter (meets asks (length start)) (flat_map (shown_piece tree who limit) done)) (answer tree who start asks)
   unfolding answer
   answer-by_pieces limit start top done all asks =
-      let P : Components → List Row = λ p. piece tree p limit in
       IsPermutation-filter (meets asks (length start)) _ _
-      (IsPermutation-trans _ _ _ (IsPermutation-flat_map P _ _ (IsPermutation-sym _ _ all)) (IsPermutation-sym _ _ (listed_at_top limit start top)))
+      (IsPermutation-trans _ _ _ (IsPermutation-flat_map (shown_piece tree who limit) _ _ (IsPermutation-sym _ _ all)) (IsPermutation-sym _ _ (shown_at_top limit start top)))
 
   -- and all listed rows have their sum
   pub total-by_pieces : (limit : ℕ) (start : Components) → IsOpenTop tree who start → (done : List Components) → IsPermutation (front tree who start limit) done
       → total (flat_map (λ p. piece tree p limit) done) ≡ total (answer tree who start (λ row depth. true))
   total-by_pieces limit start top done all =
-      ap total (sym (filter-all (flat_map (λ p. piece tree p limit) done))) ∙ total-IsPermutation _ _ (answer-by_pieces limit start top done all (λ row depth. true))
+      sym (shown-total who (flat_map (λ p. piece tree p limit) done)) ∙ ap total (shown_pieces tree who limit done ∙ sym (filter-all (flat_map (shown_piece tree who limit) done)))
+      ∙ total-IsPermutation _ _ (answer-by_pieces limit start top done all (λ row depth. true))
 
   module _ (limit : ℕ) where
     pub IsOpen-start : (k : ℕ) → k < length tree → lists_at tree who (path_at tree k) ≡ true → IsOpen tree who (path_at tree k) (dir_id k)

@@ -1,4 +1,5 @@
 pub mod Answer
+pub mod Shown
 pub mod Folds
 pub mod Walk
 pub mod Chunks

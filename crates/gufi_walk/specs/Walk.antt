@@ -13,6 +13,7 @@ use Rattle.gufi_tree.specs.Tree.{Directory, may_list}
 use Rattle.gufi_tree.specs.Places.{path_at, child_ids}
 use Rattle.gufi_roll.specs.CanRoll.{can_roll}
 use Rattle.gufi_snap.specs.Pieces.{front, piece, tree_sum}
+use Rattle.gufi_walk.specs.Answer.{shown}
 
 -- the directory of the path may be listed
 abbrev pub lists_at : List Directory → Principal → Components → Bool
@@ -67,9 +68,13 @@ task_kids skips tree who limit grain k = if is_whole skips tree grain (path_at t
 abbrev pub open_places : List Directory → Principal → Components → List ℕ
 open_places tree who start = filter (λ k. is_prefix start (path_at tree k) && lists_at tree who (path_at tree k)) (range_with_len 0 (length tree))
 
+-- the rows of a piece as they are shown
+abbrev pub shown_piece : List Directory → Principal → ℕ → Components → List Row
+shown_piece tree who limit path = map (shown who) (piece tree path limit)
+
 -- the rows that one task adds
 abbrev pub task_rows : (Summary → Bool) → List Directory → Principal → ℕ → ℕ → (Row → Bool) → ℕ → List Row
-task_rows skips tree who limit grain met k = filter met (flat_map (λ path. piece tree path limit) (task_dirs skips tree who limit grain (path_at tree k)))
+task_rows skips tree who limit grain met k = filter met (flat_map (shown_piece tree who limit) (task_dirs skips tree who limit grain (path_at tree k)))
 
 -- the row meets the question at its depth
 abbrev pub meets : (Row → ℕ → Bool) → ℕ → Row → Bool

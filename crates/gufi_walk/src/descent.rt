@@ -11,9 +11,10 @@ ghost use Rattle.gufi_sums.specs.Depths.{goes_below};
 ghost use Rattle.gufi_sums.specs.Total.{IsTotal, total};
 ghost use Rattle.gufi_snap.specs.Pieces.{front, piece, tree_sum};
 ghost use Rattle.gufi_walk.specs.Answer.{answer, refusal_of};
-ghost use Rattle.gufi_walk.specs.Walk.{lists_at, open_ids, kid_ids, next_ids, lies_within, no_deeper, not_passed, front_met, meets};
+ghost use Rattle.gufi_walk.specs.Walk.{lists_at, open_ids, kid_ids, next_ids, lies_within, no_deeper, not_passed, front_met, meets, shown_piece};
 
 use crate::refusal::Refusal;
+use crate::shown::Shown;
 use crate::start::found_start;
 use gufi_access::{Principal, lists};
 use gufi_base::{Memory, Path, Pred, Steps, Tester, Yield};
@@ -87,11 +88,12 @@ pub(crate) fn sum_of_piece(snap: &Snapshot, id: DirId) -> &Summary
     }
 }
 
-/// Adds the rows of a piece that meet the question, unless its sum shows that there are none. It answers whether the piece was
-/// so passed over.
+/// Adds the rows of a piece as they are shown, those that meet the question so, unless its sum shows that there are none. It
+/// answers whether the piece was so passed over.
 pub(crate) fn visit<T: Tester, Y: Yield, S: Skip, G: Gate, L: Ledger>(
     alloc: Global,
     snap: &Snapshot,
+    who: &Principal,
     id: DirId,
     tester: &mut T,
     skip: &S,
@@ -106,7 +108,7 @@ pub(crate) fn visit<T: Tester, Y: Yield, S: Skip, G: Gate, L: Ledger>(
     requires rows { (rows : List Row) × Y.stands_for out.old rows }
     requires query { (row : Row) (depth : ℕ) → T.meets tester.old row depth ≡ true → S.query skip.now row depth ≡ true }
     ensures rows { OnOk result ((rows : List Row) → Y.stands_for out.old rows →
-        Y.stands_for out.new (rows ++ filter (meets (T.meets tester.old) above) (piece snap.now.tree (path_at snap.now.tree id.0) snap.now.limit))) }
+        Y.stands_for out.new (rows ++ filter (meets (T.meets tester.old) above) (shown_piece snap.now.tree who.now snap.now.limit (path_at snap.now.tree id.0)))) }
     ensures same { T.meets tester.new ≡ T.meets tester.old }
     ensures passed { IfOk result (λ passed. passed ≡ S.skips skip.now (total (piece snap.now.tree (path_at snap.now.tree id.0) snap.now.limit))) }
     ensures exact { steps.new ≡ steps.old + length (not_passed (S.skips skip.now) snap.now.tree snap.now.limit (path_at snap.now.tree id.0 ∷ [])) }
@@ -115,7 +117,7 @@ pub(crate) fn visit<T: Tester, Y: Yield, S: Skip, G: Gate, L: Ledger>(
         return Ok(true);
     }
     gate.begin(GateKind::Store, id.0);
-    snap.scan_piece(alloc, id, tester, above, out, steps)?;
+    snap.scan_piece(alloc, id, tester, &Shown { who }, above, out, steps)?;
     Ok(false)
 }
 
@@ -192,7 +194,7 @@ fn tell<G: Gate>(gate: &G, id: DirId, first: DirId) {
     }
 }
 
-/// The rows of the pieces at and below a directory that meet the question. It takes the directories in path order, but none that
+/// The rows of the pieces at and below a directory as they are shown, those that meet the question so. It takes the directories in path order, but none that
 /// lies too deep for a row that meets the query, and none below a directory where the sum of all rows shows that none does.
 pub(crate) fn rows_below<T: Tester, Y: Yield, S: Skip, G: Gate, L: Ledger>(
     alloc: Global,
@@ -211,7 +213,7 @@ pub(crate) fn rows_below<T: Tester, Y: Yield, S: Skip, G: Gate, L: Ledger>(
     requires query { (row : Row) (depth : ℕ) → T.meets tester.old row depth ≡ true → S.query skip.now row depth ≡ true }
     requires within { lies_within (S.deepest skip.now) above (path_at snap.now.tree start.0) ≡ true }
     ensures rows { IfOk result (λ y. Y.stands_for y (filter (meets (T.meets tester.old) above)
-        (flat_map (λ path. piece snap.now.tree path snap.now.limit) (front snap.now.tree who.now (path_at snap.now.tree start.0) snap.now.limit)))) }
+        (flat_map (shown_piece snap.now.tree who.now snap.now.limit) (front snap.now.tree who.now (path_at snap.now.tree start.0) snap.now.limit)))) }
     ensures at_most { steps.new ≤ steps.old + length (not_passed (S.skips skip.now) snap.now.tree snap.now.limit
         (no_deeper (S.deepest skip.now) above (front snap.now.tree who.now (path_at snap.now.tree start.0) snap.now.limit))) }
     ensures exact { OnOk result (steps.new ≡ steps.old + length (not_passed (S.skips skip.now) snap.now.tree snap.now.limit
@@ -223,7 +225,9 @@ pub(crate) fn rows_below<T: Tester, Y: Yield, S: Skip, G: Gate, L: Ledger>(
     let mut todo = list_of(alloc, start)?;
     while let Some(id) = todo.pop() {
         tell(gate, id, start);
-        let passed = visit(alloc, snap, id, tester, skip, above, gate, &mut out, steps)?;
+        let passed = visit(
+            alloc, snap, who, id, tester, skip, above, gate, &mut out, steps,
+        )?;
         push_next(&mut todo, snap, who, id, skip, above, passed)?;
     }
     Ok(out)

@@ -1,6 +1,6 @@
 //! Queries over one snapshot: what a principal gets who walks from a start, or why there is nothing.
 //!
-//! The answer is a filter of all rows of the tree, in path order; refusals are those of resolving the start. One thread
+//! The answer is a filter of all rows of the tree as they are shown, in path order; refusals are those of resolving the start. One thread
 //! gives it, counting its steps, or as many walkers as are asked for, who share the directories as tasks.
 //! It stands on snapshots and on the pool that runs the tasks; the calls of the program stand on it.
 #![tactic(auto)]
@@ -10,6 +10,7 @@ mod descent;
 mod laws;
 mod refusal;
 mod reply;
+mod shown;
 mod start;
 mod task;
 mod total;

@@ -146,6 +146,7 @@ impl<P: Pred, Y: Yield, S: Skip> Walk<'_, P, Y, S> {
         visit(
             alloc,
             self.snap,
+            self.who,
             id,
             &mut tester,
             self.skip,

@@ -7,5 +7,5 @@ abbrev pub invariant-loop-place : goal.invariant-loop-place
 invariant-loop-place g l = record {
   same : g.T.Tester.meets l.tester ≡ g.T.Tester.meets l.fn.tester;
   rows : (rows : List Row) → g.Y.Yield.stands_for l.fn.out rows
-      → g.Y.Yield.stands_for l.out (rows ++ rows_met_in l.above (g.T.Tester.meets l.fn.tester) (take l.place l.stores));
+      → g.Y.Yield.stands_for l.out (rows ++ rows_met_in l.above (g.T.Tester.meets l.fn.tester) (g.V.View.shows l.view) (take l.place l.stores));
 }

@@ -5,9 +5,9 @@ use Rattle.std.proofs.lemmas.Result.{IfOk-weaker}
 use Rattle.gufi_base.specs.Paths.{Components}
 use Rattle.gufi_tree.specs.Tree.{Directory}
 use Rattle.gufi_tree.specs.Places.{path_at}
-use Rattle.gufi_snap.specs.Pieces.{front, piece}
+use Rattle.gufi_snap.specs.Pieces.{front}
 use Rattle.gufi_walk.specs.Answer.{answer}
-use Rattle.gufi_walk.specs.Walk.{meets}
+use Rattle.gufi_walk.specs.Walk.{meets, shown_piece}
 use Rattle.gufi_walk.proofs.Bounded.{start_within}
 use Rattle.gufi_walk.proofs.Walked.{IsOpenTop-at, answer-by_pieces}
 use Rattle.gufi_walk.proofs.descent.answer_from.Goals as goal
@@ -31,7 +31,7 @@ returns-clause-rows g c =
     let deep : c.depth_of-above.result ≡ length start = c.depth_of-above.ensures ∙ ap (λ (ds : List Directory). length (path_at ds c.args.start.0)) c.tree.ensures.tree in
     let all : List Components = front snap.tree c.args.who.now start snap.limit in
     IfOk-weaker c.rows_below.result _ _
-    (λ y rows. law y (filter (meets sat (length start)) (flat_map (λ p. piece snap.tree p snap.limit) all)) (answer snap.tree c.args.who.now start sat)
+    (λ y rows. law y (filter (meets sat (length start)) (flat_map (shown_piece snap.tree c.args.who.now snap.limit) all)) (answer snap.tree c.args.who.now start sat)
     (answer-by_pieces snap.tree c.args.who.now c.tree.ensures.shape snap.limit start top all (IsPermutation-refl all) sat)
-    (subst (λ n. g.Y.Yield.stands_for y (filter (meets sat n) (flat_map (λ p. piece snap.tree p snap.limit) all))) deep (rw c.in_ok-tester.ensures at rows)))
+    (subst (λ n. g.Y.Yield.stands_for y (filter (meets sat n) (flat_map (shown_piece snap.tree c.args.who.now snap.limit) all))) deep (rw c.in_ok-tester.ensures at rows)))
     c.rows_below.ensures.rows

@@ -3,11 +3,11 @@ use Rattle.std.specs.List.{AllByRecursion, flat_map}
 use Rattle.gufi_base.specs.declared.record.Row.{Row}
 use Rattle.gufi_base.specs.Paths.{Components}
 use Rattle.gufi_tree.specs.Places.{path_at}
-use Rattle.gufi_snap.specs.Pieces.{front, piece}
-use Rattle.gufi_walk.specs.Walk.{lies_within, meets}
+use Rattle.gufi_snap.specs.Pieces.{front}
+use Rattle.gufi_walk.specs.Walk.{lies_within, meets, shown_piece}
 use Rattle.gufi_walk.proofs.Bounded.{walk_next, next_less, walk_left_within, ticked_all}
 use Rattle.gufi_walk.proofs.Passed.{IsTest, test_of_query}
-use Rattle.gufi_walk.proofs.Walked.{IsWalk, IsWalk-start, IsWalk-all, IsOpenTop-at, walk_last, walk_deep, walk_room, rows-more, rows_of_all, filtered_fewer}
+use Rattle.gufi_walk.proofs.Walked.{IsWalk, IsWalk-start, IsWalk-all, IsOpenTop-at, walk_last, walk_deep, walk_room, rows-more, shown_as_many, rows_of_all, filtered_fewer}
 use Rattle.gufi_walk.proofs.descent.rows_below.Goals as goal
 
 pub loop-id-init : goal.loop-id-init
@@ -41,7 +41,8 @@ visit-requires-clause-room g c =
     omega (
       arith,
       law _ _ c.loop-id.invariant.1.rows,
-      filtered_fewer (meets (g.T.Tester.meets c.args.tester.now) c.args.above) (flat_map (λ p. piece snap.tree p snap.limit) done),
+      filtered_fewer (meets (g.T.Tester.meets c.args.tester.now) c.args.above) (flat_map (shown_piece snap.tree c.args.who.now snap.limit) done),
+      shown_as_many snap.tree c.args.who.now snap.limit done,
       walk_room snap.tree c.args.who.now c.tree-tree.ensures.shape snap.limit _ _ _ _ _ c.loop-id.invariant.1.walk c.in-Some.ensures.items top,
       c.tree-tree.ensures.few,
     )
@@ -74,7 +75,7 @@ loop-id-preserved g c =
     let path : Components = path_at snap.tree c.in-Some.id.0 in
     let sat = g.T.Tester.meets c.args.tester.now in
     let met = meets sat c.args.above in
-    let old : List Row = filter met (flat_map (λ p. piece snap.tree p snap.limit) done) in
+    let old : List Row = filter met (flat_map (shown_piece snap.tree c.args.who.now snap.limit) done) in
     let skip = c.args.skip.now in
     let skips = g.S.Skip.skips skip in
     let deepest = g.S.Skip.deepest skip in
@@ -85,7 +86,7 @@ loop-id-preserved g c =
         same = c.in_ok-passed.ensures.same ∙ inv.same;
         walk = next.1.walk;
         within = next.1.within;
-        rows = subst (λ rows. g.Y.Yield.stands_for c.visit.new.out rows) (sym (next.1.rows ∙ rows-more snap.tree snap.limit met done path)) (rw inv.same at c.in_ok-passed.ensures.rows old inv.rows);
+        rows = subst (λ rows. g.Y.Yield.stands_for c.visit.new.out rows) (sym (next.1.rows ∙ rows-more snap.tree c.args.who.now snap.limit met done path)) (rw inv.same at c.in_ok-passed.ensures.rows old inv.rows);
         exact = omega (arith, c.in_ok-passed.ensures.exact, inv.exact, next.1.count);
       },
     )
@@ -98,8 +99,8 @@ returns-clause-rows g c =
     let done : List Components = c.loop-id.invariant.0 in
     let law = g.met.Y.Yield.reordered in
     let all = IsWalk-all snap.tree c.args.who.now c.tree-tree.ensures.shape snap.limit start done c.loop-id.todo.items c.loop-id.invariant.1.walk (omega (arith, c.loop-id.todo.ok.0, c.in_default.ensures.cases)) in
-    law c.loop-id.out (filter (meets sat c.args.above) (flat_map (λ p. piece snap.tree p snap.limit) done)) (filter (meets sat c.args.above) (flat_map (λ p. piece snap.tree p snap.limit) (front snap.tree c.args.who.now start snap.limit)))
-    (rows_of_all (meets sat c.args.above) (λ p. piece snap.tree p snap.limit) done (front snap.tree c.args.who.now start snap.limit) all) c.loop-id.invariant.1.rows
+    law c.loop-id.out (filter (meets sat c.args.above) (flat_map (shown_piece snap.tree c.args.who.now snap.limit) done)) (filter (meets sat c.args.above) (flat_map (shown_piece snap.tree c.args.who.now snap.limit) (front snap.tree c.args.who.now start snap.limit)))
+    (rows_of_all (meets sat c.args.above) (shown_piece snap.tree c.args.who.now snap.limit) done (front snap.tree c.args.who.now start snap.limit) all) c.loop-id.invariant.1.rows
 
 pub returns-clause-at_most : goal.returns-clause-at_most
 returns-clause-at_most g c =

@@ -1,7 +1,7 @@
 use Rattle.std.proofs.Common.{◌<◌, ◌∙◌, [], arith, sym, ap, subst, refl, length, get_or}
 use Rattle.gufi_base.specs.Rows.{Stands}
 use Rattle.gufi_rows.specs.PathLists.{IsSpan, bytes_in}
-use Rattle.gufi_rows.specs.RowLists.{no_row, rec_in}
+use Rattle.gufi_rows.specs.RowLists.{IsKept, no_row, rec_in}
 use Rattle.gufi_rows.proofs.RowLists.{length-rows_in, row_in, Stands-row}
 use Rattle.gufi_rows.proofs.row_list.RowList.row_at.Goals as goal
 
@@ -16,7 +16,15 @@ bytes_at-requires c =
     let kept = c.index-kept.result.now in
     let within : c.args.place < length s.records.items =
     omega (arith, c.requires, length-rows_in s.links.items s.paths s.records.items c.self.invariant.alike, ap length c.self.view_is) in
-    subst (λ t. IsSpan t kept.link) (sym c.as_slice.ensures.value) (subst (λ k. IsSpan s.links.items k.link) (sym c.index-kept.ensures) (c.self.invariant.each c.args.place kept within))
+    subst (λ t. IsSpan t kept.link) (sym c.as_slice.ensures.value) (subst (IsKept s.links.items) (sym c.index-kept.ensures) (c.self.invariant.each c.args.place kept within)).0
+
+pub bytes_at-requires-2 : goal.bytes_at-requires-2
+bytes_at-requires-2 c =
+    let s = c.self.inside in
+    let kept = c.index-kept.result.now in
+    let within : c.args.place < length s.records.items =
+    omega (arith, c.requires, length-rows_in s.links.items s.paths s.records.items c.self.invariant.alike, ap length c.self.view_is) in
+    subst (λ t. IsSpan t kept.xattrs) (sym c.as_slice-2.ensures.value) (subst (IsKept s.links.items) (sym c.index-kept.ensures) (c.self.invariant.each c.args.place kept within)).1
 
 pub returns : goal.returns
 returns c =
@@ -27,4 +35,5 @@ returns c =
     omega (arith, c.requires, length-rows_in s.links.items s.paths s.records.items c.self.invariant.alike, ap length c.self.view_is) in
     let at = row_in s.links.items s.paths s.records.items place kept c.self.invariant.alike within c.index-kept.ensures in
     subst (Stands _) (sym (ap (λ rows. get_or rows place no_row) (sym c.self.view_is) ∙ at))
-    (Stands-row _ (get_or s.paths place []) (rec_in s.links.items kept) c.parts_at-parts.ensures refl (c.bytes_at.ensures ∙ ap (λ t. bytes_in t kept.link) c.as_slice.ensures.value))
+    (Stands-row _ (get_or s.paths place []) (rec_in s.links.items kept) c.parts_at-parts.ensures refl (c.bytes_at.ensures ∙ ap (λ t. bytes_in t kept.link) c.as_slice.ensures.value)
+    (c.bytes_at-2.ensures ∙ ap (λ t. bytes_in t kept.xattrs) c.as_slice-2.ensures.value))

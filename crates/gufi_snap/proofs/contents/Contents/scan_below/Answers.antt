@@ -1,4 +1,4 @@
-use Rattle.std.proofs.Common.{Bool, ◌+◌, ◌<◌, ◌^◌, List, ◌++◌, length, sym, ap, ◌∙◌, subst}
+use Rattle.std.proofs.Common.{Bool, ◌+◌, ◌<◌, ◌^◌, List, ◌++◌, map, length, sym, ap, ◌∙◌, subst}
 use Rattle.std.specs.Prelude.{filter}
 use Rattle.std.specs.List.{flat_map}
 use Rattle.gufi_base.specs.declared.record.Row.{Row}
@@ -18,8 +18,9 @@ pub returns-clause-rows : goal.returns-clause-rows
 returns-clause-rows g c =
     let tree = c.args.self.now in
     let met : Row → Bool = is_met c.args.above (g.T.Tester.meets c.args.tester.now) in
+    let shows : Row → Row = g.V.View.shows c.args.view.now in
     let law = g.met.Y.Yield.reordered in
     on_ok c.scan_fold.result _ _
-    (λ given rows stands. law _ _ _ (under-met tree c.stores_below.ensures.shape (path_at tree c.args.id.0) met rows)
-    (subst (λ (ds : List Directory). g.Y.Yield.stands_for c.scan_fold.new.out (rows ++ filter met (flat_map own_rows ds))) c.stores_below.ensures.dirs (given rows stands)))
+    (λ given rows stands. law _ _ _ (under-met tree c.stores_below.ensures.shape (path_at tree c.args.id.0) met shows rows)
+    (subst (λ (ds : List Directory). g.Y.Yield.stands_for c.scan_fold.new.out (rows ++ filter met (map shows (flat_map own_rows ds)))) c.stores_below.ensures.dirs (given rows stands)))
     c.scan_fold.ensures.rows

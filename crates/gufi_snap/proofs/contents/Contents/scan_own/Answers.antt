@@ -1,4 +1,4 @@
-use Rattle.std.proofs.Common.{◌≡◌, Bool, ◌+◌, ◌<◌, ◌≤◌, ◌^◌, List, ◌++◌, length, get_or, sym, ap, ◌∙◌, subst}
+use Rattle.std.proofs.Common.{◌≡◌, Bool, ◌+◌, ◌<◌, ◌≤◌, ◌^◌, List, ◌++◌, map, length, get_or, sym, ap, ◌∙◌, subst}
 use Rattle.std.specs.Prelude.{filter}
 use Rattle.gufi_base.specs.declared.record.Row.{Row}
 use Rattle.gufi_base.specs.Paths.{Components}
@@ -34,7 +34,8 @@ returns-clause-rows g c =
     let shape : HasTreeShape tree = subst HasTreeShape c.self.view_is c.self.invariant.shape in
     let own : x ≡ get_or tree k x = c.again.ensures ∙ c.dir.ensures.value x ∙ ap (λ (ds : List Directory). get_or ds k x) c.self.view_is in
     let met : Row → Bool = is_met c.args.above (g.T.Tester.meets c.args.tester.now) in
+    let shows : Row → Row = g.V.View.shows c.args.view.now in
     let law = g.met.Y.Yield.reordered in
     on_ok c.scan.result _ _
-    (λ given rows stands. law _ _ _ (own-met tree shape k c.requires.id x met rows) (subst (λ d. g.Y.Yield.stands_for c.scan.new.out (rows ++ filter met (own_rows d))) own (given rows stands)))
+    (λ given rows stands. law _ _ _ (own-met tree shape k c.requires.id x met shows rows) (subst (λ d. g.Y.Yield.stands_for c.scan.new.out (rows ++ filter met (map shows (own_rows d)))) own (given rows stands)))
     c.scan.ensures.rows

@@ -31,7 +31,7 @@ returns-then-not-lies_within g c =
     let test : IsTest skips deepest sat = test_of_query skips deepest (g.S.Skip.query skip) sat (g.S.Skip.bounded skip) (g.S.Skip.parts skip) (g.S.Skip.sound skip) w.query in
     let deep : lies_within deepest w.above path ≡ false = sym c.lies_within.ensures ∙ c.if-not-lies_within.true in
     let dirs : List Components = task_dirs skips tree w.who.now w.snap.now.limit w.grain path in
-    let none = all_too_deep tree w.snap.now.limit skips deepest w.above sat test dirs (task_too_deep tree w.snap.now.limit w.who.now skips deepest w.above w.grain path deep) in
+    let none = all_too_deep tree w.snap.now.limit w.who.now skips deepest w.above sat test dirs (task_too_deep tree w.snap.now.limit w.who.now skips deepest w.above w.grain path deep) in
     IfOk-weaker c.none.result _ _ (λ y h. subst (g.Y.Yield.stands_for y) (sym none) h) c.none.ensures
 
 pub passes_below-requires : goal.passes_below-requires
@@ -52,7 +52,7 @@ returns-then-passes_below g c =
     let test : IsTest skips deepest sat = test_of_query skips deepest (g.S.Skip.query skip) sat (g.S.Skip.bounded skip) (g.S.Skip.parts skip) (g.S.Skip.sound skip) w.query in
     let dirs : List Components = task_dirs skips tree w.who.now w.snap.now.limit w.grain path in
     let passed = task_passed tree w.snap.now.limit w.who.now skips test.parts w.grain path (sym c.passes_below.ensures ∙ c.if-passes_below.true) in
-    let none = all_passed tree w.snap.now.limit skips deepest w.above sat test dirs passed in
+    let none = all_passed tree w.snap.now.limit w.who.now skips deepest w.above sat test dirs passed in
     IfOk-weaker c.none-then-passes_below.result _ _ (λ y h. subst (g.Y.Yield.stands_for y) (sym none) h) c.none-then-passes_below.ensures
 
 pub is_whole-requires : goal.is_whole-requires
