@@ -17,4 +17,4 @@ pub mod Sorting
 pub mod SplitParts
 pub mod TextLines
 pub mod Texts
-pub mod KeptXattrs
+pub mod KeptExtras

@@ -10,5 +10,5 @@ pub mod Numbers
 pub mod Kinds
 pub mod Rows
 pub mod Delimiters
+pub mod Extras
 pub mod Xattrs
-pub mod TraceRows

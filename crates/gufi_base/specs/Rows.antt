@@ -5,16 +5,10 @@ use Rattle.std.specs.declared.cmp.Ordering.{Ordering}
 use Rattle.gufi_base.specs.declared.record.Rec.{Rec}
 use Rattle.gufi_base.specs.declared.record.Row.{Row}
 use Rattle.gufi_base.specs.declared.record.RowRef.{RowRef}
-use Rattle.gufi_base.specs.Limits.{max_link}
-use Rattle.gufi_base.specs.Xattrs.{are_xattrs}
 pub use Rattle.gufi_base.specs.Kinds.{kind_letter, kind_of_letter, read_kind, is_dir, is_file, is_link}
 use Rattle.gufi_base.specs.Basics.{sort_by}
-use Rattle.gufi_base.specs.Names.{is_name, is_path_byte}
+use Rattle.gufi_base.specs.Names.{is_name}
 use Rattle.gufi_base.specs.Paths.{Components, path_cmp, parent_path, base_name, stem}
-
--- a mode of 12 bits, a link of at most 4,096 bytes without 0x00 and newline, and names of extended attributes
-abbrev pub is_well_formed : Rec → Bool
-is_well_formed rec = nat_le rec.meta.mode 4095 && nat_le (length rec.link) max_link && list_all is_path_byte rec.link && are_xattrs rec.xattrs
 
 -- The ranges of the types of the fields. A record of the program has them; a law over all records needs them as a premise.
 abbrev pub are_bytes : List ℕ → Bool
@@ -27,7 +21,7 @@ abbrev pub fits_types : Rec → Bool
 fits_types rec =
     let m = rec.meta in
     nat_lt m.inode (2 ^ 64) && nat_lt m.mode (2 ^ 16) && nat_lt m.nlink (2 ^ 64) && nat_lt m.uid (2 ^ 32) && nat_lt m.gid (2 ^ 32) && nat_lt m.size (2 ^ 64) && nat_lt m.blksize (2 ^ 64)
-    && nat_lt m.blocks (2 ^ 64) && fits_i64 m.atime && fits_i64 m.mtime && fits_i64 m.ctime && are_bytes rec.link && are_bytes rec.xattrs
+    && nat_lt m.blocks (2 ^ 64) && fits_i64 m.atime && fits_i64 m.mtime && fits_i64 m.ctime && are_bytes rec.link && are_bytes rec.xattrs && are_bytes rec.acl
 
 abbrev pub row_fits_types : Row → Bool
 row_fits_types row = list_all are_bytes row.path && fits_types row.rec
@@ -58,6 +52,7 @@ pub record Stands (ref : RowRef) (row : Row) : Type 0 where
   pub meta : ref.meta.now ≡ row.rec.meta
   pub link : ref.link.now ≡ row.rec.link
   pub xattrs : ref.xattrs.now ≡ row.rec.xattrs
+  pub acl : ref.acl.now ≡ row.rec.acl
 
 -- the parts of some row
 abbrev pub StandsForSome : RowRef → Type 0

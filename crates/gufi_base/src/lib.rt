@@ -4,6 +4,7 @@
 //! It stands on no crate of the index, and all others may stand on it.
 #![tactic(auto)]
 
+mod extras;
 mod front;
 mod hint;
 mod lines;
@@ -30,6 +31,7 @@ mod width;
 mod xattrs;
 mod yields;
 
+pub use extras::{Extras, acl_at, put_extras, xattrs_at};
 pub use front::{behind, split_first};
 pub use hint::Hint;
 pub use lines::lines_of;
@@ -50,7 +52,7 @@ use std::alloc::{AllocError, AllocFailed};
 pub use steps::Steps;
 pub use view::{AsItIs, View};
 pub use width::{u16_of, u32_of};
-pub use xattrs::{MAX_XATTR, MAX_XATTRS, are_xattrs, put_xattrs, xattrs_at};
+pub use xattrs::{MAX_XATTR, MAX_XATTRS, are_path_bytes, are_xattrs};
 pub use yields::Yield;
 
 /// Memory was wanted, and there was none.

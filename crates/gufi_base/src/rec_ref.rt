@@ -13,6 +13,7 @@ pub struct RecRef<'a> {
     meta: &'a Meta,
     link: &'a [u8],
     xattrs: &'a [u8],
+    acl: &'a [u8],
 }
 
 impl<'a> Model for RecRef<'a> {
@@ -20,16 +21,26 @@ impl<'a> Model for RecRef<'a> {
 
     ghost Value = { Rec };
 
-    ghost view = { λ r. record { link = r.link.now; xattrs = r.xattrs.now; meta = r.meta.now } };
+    ghost view = { λ r. record { link = r.link.now; xattrs = r.xattrs.now; acl = r.acl.now; meta = r.meta.now } };
 }
 
 impl<'a> RecRef<'a> {
     /// The record of these parts.
     #[inline]
-    pub fn of(meta: &'a Meta, link: &'a [u8], xattrs: &'a [u8]) -> RecRef<'a>
-        ensures { result ≡ record { link = link.now; xattrs = xattrs.now; meta = meta.now } }
+    pub fn of(
+        meta: &'a Meta,
+        link: &'a [u8],
+        xattrs: &'a [u8],
+        acl: &'a [u8],
+    ) -> RecRef<'a>
+        ensures { result ≡ record { link = link.now; xattrs = xattrs.now; acl = acl.now; meta = meta.now } }
     {
-        RecRef { meta, link, xattrs }
+        RecRef {
+            meta,
+            link,
+            xattrs,
+            acl,
+        }
     }
 
     #[inline]
@@ -55,13 +66,27 @@ impl<'a> RecRef<'a> {
         self.xattrs
     }
 
-    /// The same record in memory of its own. Two allocations at most.
+    /// Its access control list: entries of six bytes, or nothing.
+    #[inline]
+    pub fn acl(&self) -> &'a [u8]
+        ensures { result.now ≡ self.now.acl }
+    {
+        self.acl
+    }
+
+    /// The same record in memory of its own. Three allocations at most.
     pub fn copy(&self, alloc: Global) -> Result<Rec, AllocError>
         ensures { IfOk result (λ copy. copy ≡ self.now) }
     {
         let link = Bytes::from_slice(alloc, self.link)?;
         let xattrs = Bytes::from_slice(alloc, self.xattrs)?;
+        let acl = Bytes::from_slice(alloc, self.acl)?;
         let meta = *self.meta;
-        Ok(Rec { link, xattrs, meta })
+        Ok(Rec {
+            link,
+            xattrs,
+            acl,
+            meta,
+        })
     }
 }

@@ -77,11 +77,13 @@ pub struct Meta {
     pub blksize: u64,
 }
 
-/// The record of a file, with the target of a link, and the names of its extended attributes, joined by single commas.
+/// The record of a file, with the target of a link, the names of its extended attributes, joined by single commas, and its access
+/// control list: entries of six bytes, or nothing.
 #[derive(Drop)]
 pub struct Rec {
     pub link: Bytes,
     pub xattrs: Bytes,
+    pub acl: Bytes,
     pub meta: Meta,
 }
 
@@ -90,7 +92,12 @@ impl Rec {
     pub fn as_rec_ref(&self) -> RecRef<'_>
         ensures { result ≡ self.now }
     {
-        RecRef::of(&self.meta, self.link.as_slice(), self.xattrs.as_slice())
+        RecRef::of(
+            &self.meta,
+            self.link.as_slice(),
+            self.xattrs.as_slice(),
+            self.acl.as_slice(),
+        )
     }
 }
 
@@ -109,6 +116,7 @@ pub struct RowRef<'a> {
     pub meta: &'a Meta,
     pub link: &'a [u8],
     pub xattrs: &'a [u8],
+    pub acl: &'a [u8],
 }
 
 /// A line of a trace, with the root's components taken off its path.

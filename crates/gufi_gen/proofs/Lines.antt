@@ -6,7 +6,7 @@ use Rattle.std.proofs.lemmas.List.{append-nil}
 use Rattle.std.proofs.lemmas.List.Concat.{flat_map-append}
 use Rattle.std.proofs.lemmas.List.Folds.{flat_map-map}
 use Rattle.gufi_base.specs.Paths.{Components, slashed_text}
-use Rattle.gufi_base.specs.TraceRows.{row_line}
+use Rattle.gufi_trace.specs.TraceRows.{row_line}
 use Rattle.gufi_tree.specs.declared.tree.Entry.{Entry}
 use Rattle.gufi_tree.specs.Tree.{Directory, dir_row, entry_row, own_rows}
 use Rattle.gufi_trace.specs.Writing.{rec_text}

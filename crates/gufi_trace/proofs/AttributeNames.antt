@@ -8,7 +8,7 @@ use Rattle.gufi_base.specs.Basics.{is_empty, split, ◌>>◌, refuse, part_at}
 use Rattle.gufi_base.specs.Limits.{max_xattr, max_xattrs}
 use Rattle.gufi_base.specs.Names.{is_path_byte}
 use Rattle.gufi_base.specs.Rows.{are_bytes}
-use Rattle.gufi_base.specs.TraceRows.{xattrs_fields}
+use Rattle.gufi_trace.specs.TraceRows.{xattrs_fields}
 use Rattle.gufi_base.specs.Xattrs.{mark, is_xattr, are_xattrs}
 use Rattle.gufi_base.proofs.Parts.{has_no}
 use Rattle.gufi_trace.specs.declared.fault.TraceKind.TheVariants.{BadXattr}

@@ -9,7 +9,7 @@ use Rattle.gufi_base.specs.declared.record.Rec.{Rec}
 use Rattle.gufi_base.specs.declared.record.Row.{Row}
 use Rattle.gufi_base.specs.Delimiters.{may_delimit}
 use Rattle.gufi_base.specs.Paths.{Components, slashed_text, is_too_long}
-use Rattle.gufi_base.specs.TraceRows.{row_line}
+use Rattle.gufi_trace.specs.TraceRows.{row_line}
 use Rattle.gufi_base.specs.PathTexts.{closed_names, kept_text}
 use Rattle.gufi_base.proofs.Texts.{slashed_text-closed}
 use Rattle.gufi_tree.specs.declared.tree.Entry.{Entry}

@@ -19,7 +19,7 @@ use Rattle.gufi_base.specs.Names.{is_path_byte, is_name}
 use Rattle.gufi_base.specs.Paths.{Components, read_path, path_text, is_prefix, is_too_long}
 use Rattle.gufi_base.specs.Kinds.{kind_letter, read_kind}
 use Rattle.gufi_base.specs.Rows.{is_well_formed, fits_i64, fits_types}
-use Rattle.gufi_base.specs.TraceRows.{row_fields, xattrs_fields}
+use Rattle.gufi_trace.specs.TraceRows.{row_fields, xattrs_fields}
 use Rattle.gufi_base.specs.Xattrs.{mark, are_xattrs}
 use Rattle.gufi_base.specs.Delimiters.{may_delimit}
 use Rattle.gufi_trace.specs.declared.fault.TraceKind.TheVariants.{Short}

@@ -12,7 +12,7 @@ use Rattle.gufi_base.specs.Limits.{max_dirs, max_entries}
 use Rattle.gufi_base.specs.Basics.{is_empty}
 use Rattle.gufi_base.specs.Kinds.{is_dir}
 use Rattle.gufi_base.specs.Paths.{Components, is_child_of}
-use Rattle.gufi_base.specs.TraceRows.{row_fields}
+use Rattle.gufi_trace.specs.TraceRows.{row_fields}
 use Rattle.gufi_base.specs.Delimiters.{may_delimit}
 use Rattle.gufi_tree.specs.declared.tree.Entry.{Entry}
 use Rattle.gufi_tree.specs.Tree.{Directory, dir_row, entry_row, own_rows, entry_count}

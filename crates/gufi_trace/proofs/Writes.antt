@@ -8,7 +8,7 @@ use Rattle.std.proofs.lemmas.List.Concat.{flat_map-append}
 use Rattle.gufi_base.specs.declared.record.Row.{Row}
 use Rattle.gufi_base.specs.Paths.{Components, path_text, slashed_text}
 use Rattle.gufi_base.specs.Kinds.{kind_letter}
-use Rattle.gufi_base.specs.TraceRows.{row_line, xattrs_fields}
+use Rattle.gufi_trace.specs.TraceRows.{row_line, xattrs_fields}
 use Rattle.gufi_base.specs.Xattrs.{mark}
 use Rattle.gufi_trace.specs.Writing.{xattrs_text, rec_text}
 

@@ -2,7 +2,7 @@
 use Rattle.std.specs.Prelude.{◌≡◌, IsTrue, not, ℕ, Bool, ◌==◌, ◌||◌, List, ◌++◌, Result, Ok}
 use Rattle.std.specs.List.{flat_map, list_any, list_all}
 use Rattle.gufi_base.specs.Paths.{Components, is_too_long}
-use Rattle.gufi_base.specs.TraceRows.{row_line}
+use Rattle.gufi_trace.specs.TraceRows.{row_line}
 use Rattle.gufi_base.specs.declared.record.Rec.{Rec}
 use Rattle.gufi_base.specs.declared.record.Row.{Row}
 use Rattle.gufi_base.specs.Basics.{◌>>◌, refuse}

@@ -9,7 +9,7 @@ use Rattle.gufi_base.specs.Basics.{is_empty}
 use Rattle.gufi_base.specs.Kinds.{kind_letter}
 use Rattle.gufi_base.specs.Xattrs.{mark}
 use Rattle.gufi_base.specs.Paths.{Components, is_too_long}
-use Rattle.gufi_base.specs.TraceRows.{row_line}
+use Rattle.gufi_trace.specs.TraceRows.{row_line}
 use Rattle.gufi_tree.specs.declared.tree.Entry.{Entry}
 use Rattle.gufi_tree.specs.Tree.{Directory, own_rows}
 use Rattle.gufi_trace.specs.declared.writer.WriteTraceFault.{WriteTraceFault}

@@ -4,7 +4,7 @@ ghost use Rattle.std.specs.Prelude.{◌≡◌, ◌∷◌, [], ◌++◌, OnOk, de
 ghost use Rattle.std.specs.Fmt.{signed_decimal};
 ghost use Rattle.gufi_base.specs.declared.record.Row.{Row};
 ghost use Rattle.gufi_base.specs.Paths.{path_text, slashed_text};
-ghost use Rattle.gufi_base.specs.TraceRows.{row_line};
+ghost use Rattle.gufi_trace.specs.TraceRows.{row_line};
 ghost use Rattle.gufi_trace.specs.Writing.{number_text, signed_text, owner_text, size_text, times_text, xattrs_text, end_text, rec_text};
 
 use gufi_base::{Memory, Meta, PathRef, RecRef, put, put_i64, put_u64};
