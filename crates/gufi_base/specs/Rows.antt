@@ -1,5 +1,5 @@
 -- Records and rows: one row for each directory and each entry.
-use Rattle.std.specs.Prelude.{◌≡◌, ℕ, ◌^◌, ℤ, pos, neg_ℤ, int_lt, int_le, ◌-◌, Bool, ◌&&◌, nat_lt, nat_le, List, length, IsTrue, if◌then◌else◌}
+use Rattle.std.specs.Prelude.{◌≡◌, ℕ, ◌^◌, ℤ, pos, neg_ℤ, int_lt, int_le, ◌-◌, Bool, ◌&&◌, nat_lt, List, length, IsTrue, if◌then◌else◌}
 use Rattle.std.specs.List.{list_all}
 use Rattle.std.specs.declared.cmp.Ordering.{Ordering}
 use Rattle.gufi_base.specs.declared.record.Rec.{Rec}

@@ -1,14 +1,15 @@
 -- What is packed goes on to mean the same when more is packed behind it.
 use Rattle.std.proofs.Common.{◌≡◌, ◌∙◌, ℕ, ◌+◌, ◌≤◌, List, [], ◌∷◌, ◌++◌, length, map, suc, take, drop, refl, sym, ap, subst, append_assoc, arith}
-use Rattle.std.specs.Prelude.{All, Bool, IsTrue, true}
+use Rattle.std.specs.Prelude.{All, IsTrue, true}
 use Rattle.std.specs.List.{list_all}
 use Rattle.std.proofs.lemmas.List.{append-nil, drop-append-le, drop_at, drop-map, length-append, length-drop, length-map, take-append-le, take-map, take_all}
 use Rattle.std.proofs.lemmas.List.Elements.{All-drop, All-push, All-take, All-weaker}
 use Rattle.gufi_base.specs.Names.{is_name}
 use Rattle.gufi_base.specs.PathTexts.{kept_text, names, IsText}
-use Rattle.gufi_base.specs.Xattrs.{kept_names, AreKept}
+use Rattle.gufi_base.specs.declared.extras.Extras.{Extras}
+use Rattle.gufi_base.specs.Extras.{kept_xattrs, kept_acl, AreKept}
 use Rattle.gufi_base.proofs.Names.{names-kept_text, IsText-kept_text}
-use Rattle.gufi_base.proofs.KeptXattrs.{kept_names-more, kept_size-more}
+use Rattle.gufi_base.proofs.KeptExtras.{kept_xattrs-more, kept_acl-more, kept_size-more}
 use Rattle.gufi_tree.specs.declared.tree.Entry.{Entry}
 use Rattle.gufi_tree.specs.declared.bundle.Packed.{Packed}
 use Rattle.gufi_tree.specs.declared.bundle.Head.{Head}
@@ -26,19 +27,20 @@ part-more : {X : Type 0} (xs more : List X) (at count : ℕ) → at + count ≤ 
 part-more xs more at count within =
     ap (take count) (drop-append-le at xs more (omega (arith, within))) ∙ take-append-le count (drop at xs) more (omega (arith, within, length-drop at xs))
 
-AreKept-more : (text more : List ℕ) (at : ℕ) (some : Bool) → AreKept text at some → AreKept (text ++ more) at some
-AreKept-more text more at some kept = omega (arith, kept, length-append text more, kept_size-more text more at some kept)
+AreKept-more : (text more : List ℕ) (at : ℕ) (extras : Extras) → AreKept text at extras → AreKept (text ++ more) at extras
+AreKept-more text more at extras kept = omega (arith, kept, length-append text more, kept_size-more text more at extras kept)
 
 pub entry_in-more : (text more : List ℕ) (p : Packed) → IsPacked text p → entry_in (text ++ more) p ≡ entry_in text p
 entry_in-more text more p is =
     let name : name_in (text ++ more) p ≡ name_in text p = part-more text more p.at p.name (omega (arith, is.within)) in
     let link : bytes_at (text ++ more) (p.at + p.name) p.link ≡ bytes_at text (p.at + p.name) p.link = part-more text more (p.at + p.name) p.link (omega (arith, is.within)) in
-    let xattrs : kept_names (text ++ more) (p.at + p.name + p.link) p.has_xattrs ≡ kept_names text (p.at + p.name + p.link) p.has_xattrs = kept_names-more text more (p.at + p.name + p.link) p.has_xattrs is.within in
-    λ i. record { name = name i; rec = record { link = link i; xattrs = xattrs i; meta = p.meta } }
+    let xattrs : kept_xattrs (text ++ more) (p.at + p.name + p.link) p.extras ≡ kept_xattrs text (p.at + p.name + p.link) p.extras = kept_xattrs-more text more (p.at + p.name + p.link) p.extras is.within in
+    let acl : kept_acl (text ++ more) (p.at + p.name + p.link) p.extras ≡ kept_acl text (p.at + p.name + p.link) p.extras = kept_acl-more text more (p.at + p.name + p.link) p.extras is.within in
+    λ i. record { name = name i; rec = record { link = link i; xattrs = xattrs i; acl = acl i; meta = p.meta } }
 
 pub IsPacked-more : (text more : List ℕ) (p : Packed) → IsPacked text p → IsPacked (text ++ more) p
 IsPacked-more text more p is = record {
-  within = AreKept-more text more (p.at + p.name + p.link) p.has_xattrs is.within;
+  within = AreKept-more text more (p.at + p.name + p.link) p.extras is.within;
   name = subst (λ n. IsTrue (is_name n)) (sym (part-more text more p.at p.name (omega (arith, is.within)))) is.name;
 }
 
@@ -66,7 +68,7 @@ GoesOn-start text rows all = record { bytes = ([], sym (append-nil text)); entri
 module _ (text next : List ℕ) (rows after : List Packed) (goes : GoesOn text next rows after) (all : All (IsPacked text) rows) where
   IsHead-more : (h : Head) → IsHead text rows h → IsHead next after h
   IsHead-more h is = record {
-    within = subst (λ t. AreKept t (h.at + h.path + h.link) h.has_xattrs) (sym goes.bytes.1) (AreKept-more text goes.bytes.0 (h.at + h.path + h.link) h.has_xattrs is.within);
+    within = subst (λ t. AreKept t (h.at + h.path + h.link) h.extras) (sym goes.bytes.1) (AreKept-more text goes.bytes.0 (h.at + h.path + h.link) h.extras is.within);
     path = subst IsText (sym (ap (λ t. path_in t h) goes.bytes.1 ∙ part-more text goes.bytes.0 h.at h.path (omega (arith, is.within)))) is.path;
     entries = omega (arith, is.entries, ap length goes.entries.1, length-append rows goes.entries.0);
   }
@@ -76,13 +78,15 @@ module _ (text next : List ℕ) (rows after : List Packed) (goes : GoesOn text n
       let path : path_in next h ≡ path_in text h = ap (λ t. path_in t h) goes.bytes.1 ∙ part-more text goes.bytes.0 h.at h.path (omega (arith, is.within)) in
       let link : bytes_at next (h.at + h.path) h.link ≡ bytes_at text (h.at + h.path) h.link =
       ap (λ t. bytes_at t (h.at + h.path) h.link) goes.bytes.1 ∙ part-more text goes.bytes.0 (h.at + h.path) h.link (omega (arith, is.within)) in
-      let xattrs : kept_names next (h.at + h.path + h.link) h.has_xattrs ≡ kept_names text (h.at + h.path + h.link) h.has_xattrs =
-      ap (λ t. kept_names t (h.at + h.path + h.link) h.has_xattrs) goes.bytes.1 ∙ kept_names-more text goes.bytes.0 (h.at + h.path + h.link) h.has_xattrs is.within in
+      let xattrs : kept_xattrs next (h.at + h.path + h.link) h.extras ≡ kept_xattrs text (h.at + h.path + h.link) h.extras =
+      ap (λ t. kept_xattrs t (h.at + h.path + h.link) h.extras) goes.bytes.1 ∙ kept_xattrs-more text goes.bytes.0 (h.at + h.path + h.link) h.extras is.within in
+      let acl : kept_acl next (h.at + h.path + h.link) h.extras ≡ kept_acl text (h.at + h.path + h.link) h.extras =
+      ap (λ t. kept_acl t (h.at + h.path + h.link) h.extras) goes.bytes.1 ∙ kept_acl-more text goes.bytes.0 (h.at + h.path + h.link) h.extras is.within in
       let own : List Packed = take h.count (drop h.first rows) in
       let entries : entries_in next (take h.count (drop h.first after)) ≡ entries_in text own =
       ap (λ rs. entries_in next (take h.count (drop h.first rs))) goes.entries.1 ∙ ap (entries_in next) (part-more rows goes.entries.0 h.first h.count is.entries)
       ∙ entries_in-goes_on text next own goes.bytes (All-take (IsPacked text) h.count (drop h.first rows) (All-drop (IsPacked text) h.first rows all)) in
-      λ i. record { path = names (path i); rec = record { link = link i; xattrs = xattrs i; meta = h.meta }; entries = entries i }
+      λ i. record { path = names (path i); rec = record { link = link i; xattrs = xattrs i; acl = acl i; meta = h.meta }; entries = entries i }
 
   pub directories-goes_on : (heads : List Head) → All (IsHead text rows) heads → map (directory_in next after) heads ≡ map (directory_in text rows) heads
   directories-goes_on heads each = map-same (directory_in next after) (directory_in text rows) heads (All-weaker (IsHead text rows) _ directory_in-more heads each)
@@ -107,9 +111,9 @@ module _ (text next : List ℕ) (rows after : List Packed) (entries : List Entry
       sym (ap (take count) (drop-map (entry_in next) first after) ∙ take-map (entry_in next) count (drop first after)) ∙ ap (λ es. take count (drop first es)) is
       ∙ ap (take count) (drop_at (entries_in text rows) entries first (omega (arith, f, length-map rows (entry_in text)))) ∙ take_all count entries (omega (arith, c))
 
--- a directory whose path, link and names of extended attributes were put behind the text of its entries
+-- a directory whose path, link and what is kept behind it were put behind the text of its entries
 module _ (text mid next : List ℕ) (rows after : List Packed) (h : Head) (dir : Directory) (kept link : List ℕ) (is : entries_in mid after ≡ entries_in text rows ++ dir.entries)
-    (more : (bytes : List ℕ) × (next ≡ mid ++ bytes)) (within : AreKept next (h.at + length kept + length link) h.has_xattrs) (first : h.first ≡ length rows) (count : h.count ≡ length dir.entries)
+    (more : (bytes : List ℕ) × (next ≡ mid ++ bytes)) (within : AreKept next (h.at + length kept + length link) h.extras) (first : h.first ≡ length rows) (count : h.count ≡ length dir.entries)
     (path : h.path ≡ length kept) (target : h.link ≡ length link) (of : kept ≡ kept_text dir.path) (put : bytes_at next h.at (length kept) ≡ kept) (named : list_all is_name dir.path ≡ true) where
   kept_there : path_in next h ≡ kept_text dir.path
   kept_there = ap (bytes_at next h.at) path ∙ put ∙ of
@@ -119,19 +123,21 @@ module _ (text mid next : List ℕ) (rows after : List Packed) (h : Head) (dir :
 
   pub IsHead-put : IsHead next after h
   IsHead-put = record {
-    within = subst (λ n. AreKept next n h.has_xattrs) behind_link within;
+    within = subst (λ n. AreKept next n h.extras) behind_link within;
     path = subst IsText (sym kept_there) (IsText-kept_text dir.path named);
     entries = omega (arith, first, count, length-last text mid rows after dir.entries is);
   }
 
   pub directory_in-put : h.meta ≡ dir.rec.meta → link ≡ dir.rec.link → bytes_at next (h.at + length kept) (length link) ≡ link
-      → kept_names next (h.at + length kept + length link) h.has_xattrs ≡ dir.rec.xattrs → All (IsPacked mid) after → directory_in next after h ≡ dir
-  directory_in-put meta l there own_xattrs packed =
+      → kept_xattrs next (h.at + length kept + length link) h.extras ≡ dir.rec.xattrs → kept_acl next (h.at + length kept + length link) h.extras ≡ dir.rec.acl
+      → All (IsPacked mid) after → directory_in next after h ≡ dir
+  directory_in-put meta l there own_xattrs own_acl packed =
       let own : List Packed = take h.count (drop h.first after) in
       let names_there : names (path_in next h) ≡ dir.path = ap names kept_there ∙ names-kept_text dir.path named in
       let link_there : bytes_at next (h.at + h.path) h.link ≡ dir.rec.link = ap (λ n. bytes_at next (h.at + n) h.link) path ∙ ap (bytes_at next (h.at + length kept)) target ∙ there ∙ l in
-      let xattrs_there : kept_names next (h.at + h.path + h.link) h.has_xattrs ≡ dir.rec.xattrs = ap (λ n. kept_names next n h.has_xattrs) (sym behind_link) ∙ own_xattrs in
+      let xattrs_there : kept_xattrs next (h.at + h.path + h.link) h.extras ≡ dir.rec.xattrs = ap (λ n. kept_xattrs next n h.extras) (sym behind_link) ∙ own_xattrs in
+      let acl_there : kept_acl next (h.at + h.path + h.link) h.extras ≡ dir.rec.acl = ap (λ n. kept_acl next n h.extras) (sym behind_link) ∙ own_acl in
       let entries : entries_in next own ≡ dir.entries =
       entries_in-goes_on mid next own more (All-take (IsPacked mid) h.count (drop h.first after) (All-drop (IsPacked mid) h.first after packed))
       ∙ entries_in-last text mid rows after dir.entries is h.first h.count first count in
-      λ i. record { path = names_there i; rec = record { link = link_there i; xattrs = xattrs_there i; meta = meta i }; entries = entries i }
+      λ i. record { path = names_there i; rec = record { link = link_there i; xattrs = xattrs_there i; acl = acl_there i; meta = meta i }; entries = entries i }

@@ -1,6 +1,6 @@
 -- Entries that wait for their directory: packed one behind another, and then put behind those of a bundle.
 use Rattle.std.proofs.Common.{◌≡◌, ◌∙◌, ℕ, ◌+◌, ◌-◌, ◌<◌, ◌^◌, List, [], ◌∷◌, ◌++◌, length, map, take, drop, false, cond, refl, sym, ap, subst, arith}
-use Rattle.std.specs.Prelude.{All, Bool, IsTrue, Some, option_map, slice_get}
+use Rattle.std.specs.Prelude.{All, IsTrue, Some, option_map, slice_get}
 use Rattle.std.specs.Ordering.{is_lt}
 use Rattle.std.proofs.Math.Seq.{drop-append-add}
 use Rattle.std.proofs.lemmas.List.{length-append, length-map, map-append}
@@ -8,8 +8,9 @@ use Rattle.std.proofs.lemmas.List.Elements.{All-append, All-map, All-push, All-t
 use Rattle.std.proofs.lemmas.Option.{slice_get-map}
 use Rattle.gufi_base.specs.Basics.{ascends}
 use Rattle.gufi_base.specs.Names.{is_name}
-use Rattle.gufi_base.specs.Xattrs.{kept_names, kept_size}
-use Rattle.gufi_base.proofs.KeptXattrs.{kept_names-behind, kept_size-behind}
+use Rattle.gufi_base.specs.declared.extras.Extras.{Extras}
+use Rattle.gufi_base.specs.Extras.{kept_xattrs, kept_acl, kept_size}
+use Rattle.gufi_base.proofs.KeptExtras.{kept_xattrs-behind, kept_acl-behind, kept_size-behind}
 use Rattle.gufi_tree.specs.declared.bundle.Packed.{Packed}
 use Rattle.gufi_tree.specs.declared.pending.PlacedRow.{PlacedRow}
 use Rattle.gufi_tree.specs.declared.tree.Entry.{Entry}
@@ -65,11 +66,14 @@ module _ (text own next : List ℕ) (base : ℕ) (behind : base ≡ length text)
   part-shifted : (at count : ℕ) → bytes_at next (base + at) count ≡ bytes_at own at count
   part-shifted at count = ap (λ t. bytes_at t (base + at) count) is ∙ ap (λ b. take count (drop (b + at) (text ++ own))) behind ∙ ap (take count) (drop-append-add text own at)
 
-  xattrs-shifted : (at : ℕ) (some : Bool) → kept_names next (base + at) some ≡ kept_names own at some
-  xattrs-shifted at some = ap (λ t. kept_names t (base + at) some) is ∙ ap (λ b. kept_names (text ++ own) (b + at) some) behind ∙ kept_names-behind text own at some
+  xattrs-shifted : (at : ℕ) (extras : Extras) → kept_xattrs next (base + at) extras ≡ kept_xattrs own at extras
+  xattrs-shifted at extras = ap (λ t. kept_xattrs t (base + at) extras) is ∙ ap (λ b. kept_xattrs (text ++ own) (b + at) extras) behind ∙ kept_xattrs-behind text own at extras
 
-  size-shifted : (at : ℕ) (some : Bool) → kept_size next (base + at) some ≡ kept_size own at some
-  size-shifted at some = ap (λ t. kept_size t (base + at) some) is ∙ ap (λ b. kept_size (text ++ own) (b + at) some) behind ∙ kept_size-behind text own at some
+  acl-shifted : (at : ℕ) (extras : Extras) → kept_acl next (base + at) extras ≡ kept_acl own at extras
+  acl-shifted at extras = ap (λ t. kept_acl t (base + at) extras) is ∙ ap (λ b. kept_acl (text ++ own) (b + at) extras) behind ∙ kept_acl-behind text own at extras
+
+  size-shifted : (at : ℕ) (extras : Extras) → kept_size next (base + at) extras ≡ kept_size own at extras
+  size-shifted at extras = ap (λ t. kept_size t (base + at) extras) is ∙ ap (λ b. kept_size (text ++ own) (b + at) extras) behind ∙ kept_size-behind text own at extras
 
   entry_in-shifted : (row : PlacedRow) → entry_in next (shifted_row base row) ≡ entry_in own row.packed
   entry_in-shifted row =
@@ -78,17 +82,19 @@ module _ (text own next : List ℕ) (base : ℕ) (behind : base ≡ length text)
       let name : bytes_at next (base + p.at) p.name ≡ bytes_at own p.at p.name = part-shifted p.at p.name in
       let link : bytes_at next (base + p.at + p.name) p.link ≡ bytes_at own (p.at + p.name) p.link = ap (λ n. bytes_at next n p.link) far ∙ part-shifted (p.at + p.name) p.link in
       let farther : base + p.at + p.name + p.link ≡ base + (p.at + p.name + p.link) = omega arith in
-      let xattrs : kept_names next (base + p.at + p.name + p.link) p.has_xattrs ≡ kept_names own (p.at + p.name + p.link) p.has_xattrs =
-      ap (λ n. kept_names next n p.has_xattrs) farther ∙ xattrs-shifted (p.at + p.name + p.link) p.has_xattrs in
-      λ i. record { name = name i; rec = record { link = link i; xattrs = xattrs i; meta = p.meta } }
+      let xattrs : kept_xattrs next (base + p.at + p.name + p.link) p.extras ≡ kept_xattrs own (p.at + p.name + p.link) p.extras =
+      ap (λ n. kept_xattrs next n p.extras) farther ∙ xattrs-shifted (p.at + p.name + p.link) p.extras in
+      let acl : kept_acl next (base + p.at + p.name + p.link) p.extras ≡ kept_acl own (p.at + p.name + p.link) p.extras =
+      ap (λ n. kept_acl next n p.extras) farther ∙ acl-shifted (p.at + p.name + p.link) p.extras in
+      λ i. record { name = name i; rec = record { link = link i; xattrs = xattrs i; acl = acl i; meta = p.meta } }
 
   IsPacked-shifted : (row : PlacedRow) → IsPlaced own row → IsPacked next (shifted_row base row)
   IsPacked-shifted row here = record {
     within =
         let p = row.packed in
         let farther : base + p.at + p.name + p.link ≡ base + (p.at + p.name + p.link) = omega arith in
-        let size : kept_size next (base + p.at + p.name + p.link) p.has_xattrs ≡ kept_size own (p.at + p.name + p.link) p.has_xattrs =
-        ap (λ n. kept_size next n p.has_xattrs) farther ∙ size-shifted (p.at + p.name + p.link) p.has_xattrs in
+        let size : kept_size next (base + p.at + p.name + p.link) p.extras ≡ kept_size own (p.at + p.name + p.link) p.extras =
+        ap (λ n. kept_size next n p.extras) farther ∙ size-shifted (p.at + p.name + p.link) p.extras in
         omega (arith, here.within, size, behind, ap length is, length-append text own);
     name = subst (λ n. IsTrue (is_name n)) (sym (part-shifted row.packed.at row.packed.name)) here.name;
   }

@@ -17,6 +17,7 @@ no_directory = record {
   rec = record {
     link = [];
     xattrs = [];
+    acl = [];
     meta = record { kind = Dir; inode = 0; mode = 0; nlink = 0; uid = 0; gid = 0; size = 0; blksize = 0; blocks = 0; atime = pos 0; mtime = pos 0; ctime = pos 0 };
   };
   entries = [];

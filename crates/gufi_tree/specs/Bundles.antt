@@ -1,10 +1,10 @@
--- Directories packed in a bundle: each by its record, its path, its link and its names of extended attributes, and its entries by theirs, all bytes in
--- one text.
+-- Directories packed in a bundle: each by its record, its path, its link and what is kept behind it (names of extended attributes and an access
+-- control list), and its entries by theirs, all bytes in one text.
 use Rattle.std.specs.Prelude.{ℕ, ◌+◌, ◌≤◌, List, length, take, drop, map, All, IsTrue}
 use Rattle.std.specs.List.{list_all}
 use Rattle.gufi_base.specs.Names.{is_name}
 use Rattle.gufi_base.specs.PathTexts.{kept_text, names, IsText}
-use Rattle.gufi_base.specs.Xattrs.{kept_names, AreKept}
+use Rattle.gufi_base.specs.Extras.{kept_xattrs, kept_acl, AreKept}
 use Rattle.gufi_tree.specs.declared.tree.Entry.{Entry}
 use Rattle.gufi_tree.specs.declared.bundle.Packed.{Packed}
 use Rattle.gufi_tree.specs.declared.bundle.Head.{Head}
@@ -17,11 +17,16 @@ bytes_at text at count = take count (drop at text)
 abbrev pub name_in : List ℕ → Packed → List ℕ
 name_in text p = bytes_at text p.at p.name
 
--- an entry's link stands behind its name, and its names of extended attributes behind that
+-- an entry's link stands behind its name, and behind that its names of extended attributes and its access control list
 abbrev pub entry_in : List ℕ → Packed → Entry
 entry_in text p = record {
   name = name_in text p;
-  rec = record { link = bytes_at text (p.at + p.name) p.link; xattrs = kept_names text (p.at + p.name + p.link) p.has_xattrs; meta = p.meta };
+  rec = record {
+    link = bytes_at text (p.at + p.name) p.link;
+    xattrs = kept_xattrs text (p.at + p.name + p.link) p.extras;
+    acl = kept_acl text (p.at + p.name + p.link) p.extras;
+    meta = p.meta;
+  };
 }
 
 abbrev pub entries_in : List ℕ → List Packed → List Entry
@@ -31,20 +36,25 @@ entries_in text rows = map (entry_in text) rows
 abbrev pub path_in : List ℕ → Head → List ℕ
 path_in text h = bytes_at text h.at h.path
 
--- a directory's link stands behind its path, its names of extended attributes behind that, and its entries side by side among those of the bundle
+-- a directory's link stands behind its path, and behind that the same two; its entries stand side by side among those of the bundle
 abbrev pub directory_in : List ℕ → List Packed → Head → Directory
 directory_in text rows h = record {
   path = names (path_in text h);
-  rec = record { link = bytes_at text (h.at + h.path) h.link; xattrs = kept_names text (h.at + h.path + h.link) h.has_xattrs; meta = h.meta };
+  rec = record {
+    link = bytes_at text (h.at + h.path) h.link;
+    xattrs = kept_xattrs text (h.at + h.path + h.link) h.extras;
+    acl = kept_acl text (h.at + h.path + h.link) h.extras;
+    meta = h.meta;
+  };
   entries = entries_in text (take h.count (drop h.first rows));
 }
 
 pub record IsPacked (text : List ℕ) (p : Packed) : Type 0 where
-  pub within : AreKept text (p.at + p.name + p.link) p.has_xattrs
+  pub within : AreKept text (p.at + p.name + p.link) p.extras
   pub name : IsTrue (is_name (name_in text p))
 
 pub record IsHead (text : List ℕ) (rows : List Packed) (h : Head) : Type 0 where
-  pub within : AreKept text (h.at + h.path + h.link) h.has_xattrs
+  pub within : AreKept text (h.at + h.path + h.link) h.extras
   pub path : IsText (path_in text h)
   pub entries : h.first + h.count ≤ length rows
 

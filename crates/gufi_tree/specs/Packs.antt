@@ -33,7 +33,7 @@ IsPlaced text row = IsPacked text row.packed
 
 -- an entry whose text was put behind so many bytes
 abbrev pub shifted : ℕ → Packed → Packed
-shifted base p = record { meta = p.meta; at = base + p.at; link = p.link; name = p.name; has_xattrs = p.has_xattrs }
+shifted base p = record { meta = p.meta; at = base + p.at; link = p.link; name = p.name; extras = p.extras }
 
 abbrev pub shifted_row : ℕ → PlacedRow → Packed
 shifted_row base row = shifted base row.packed

@@ -1,19 +1,21 @@
 -- A tree is the list of its directories, in path order.
-use Rattle.std.specs.Prelude.{◌||◌, nat_lt, ℕ, Bool, not, ◌&&◌, List, [], ◌∷◌, ◌++◌, length, filter, map, find, position, sum_by, Option, bytes_eq, IsTrue}
+use Rattle.std.specs.Prelude.{◌||◌, nat_lt, nat_le, ℕ, Bool, not, ◌&&◌, List, [], ◌∷◌, ◌++◌, length, filter, map, find, position, sum_by, Option, bytes_eq, IsTrue}
 use Rattle.std.specs.List.{list_any, list_all, flat_map}
 use Rattle.std.specs.declared.cmp.Ordering.{Ordering}
 use Rattle.std.specs.Ordering.{nat_cmp}
 use Rattle.std.specs.Cmp.Lexicographic.{slice_cmp}
 use Rattle.gufi_base.specs.declared.record.Rec.{Rec}
 use Rattle.gufi_base.specs.declared.record.Row.{Row}
-use Rattle.gufi_base.specs.Limits.{max_dirs, max_entries}
+use Rattle.gufi_base.specs.Limits.{max_dirs, max_entries, max_link}
 use Rattle.gufi_base.specs.Basics.{is_empty, ascends}
-use Rattle.gufi_base.specs.Names.{is_name}
+use Rattle.gufi_base.specs.Names.{is_name, is_path_byte}
+use Rattle.gufi_base.specs.Xattrs.{are_xattrs}
 use Rattle.gufi_base.specs.Paths.{Components, path_cmp, path_eq, parent_path, base_name, is_prefix, is_child_of}
 use Rattle.gufi_base.specs.Kinds.{is_dir}
-use Rattle.gufi_base.specs.Rows.{is_well_formed, home, sort_rows, row_fits_types}
+use Rattle.gufi_base.specs.Rows.{home, sort_rows, row_fits_types}
 use Rattle.gufi_access.specs.declared.class.Principal.{Principal}
 use Rattle.gufi_access.specs.Access.{Rights, can_list}
+use Rattle.gufi_access.specs.Acl.{is_acl_or_none}
 use Rattle.gufi_tree.specs.declared.tree.Entry.{Entry}
 
 -- a directory with its path, its record and its entries
@@ -22,9 +24,14 @@ pub record Directory : Type 0 where
   pub rec : Rec
   pub entries : List Entry
 
+-- a mode of 12 bits, a link of at most 4,096 bytes without 0x00 and newline, names of extended attributes, and an access control list or none
+abbrev pub is_well_formed : Rec → Bool
+is_well_formed rec =
+    nat_le rec.meta.mode 4095 && nat_le (length rec.link) max_link && list_all is_path_byte rec.link && are_xattrs rec.xattrs && is_acl_or_none rec.acl
+
 -- what decides the access to the file of a record
 abbrev pub rights_of : Rec → Rights
-rights_of rec = record { uid = rec.meta.uid; gid = rec.meta.gid; mode = rec.meta.mode }
+rights_of rec = record { uid = rec.meta.uid; gid = rec.meta.gid; mode = rec.meta.mode; acl = rec.acl }
 
 abbrev pub is_at : Components → Directory → Bool
 is_at path dir = path_eq path dir.path

@@ -7,7 +7,7 @@ ghost use Rattle.gufi_tree.specs.declared.tree.Entry.{Entry as SeenEntry};
 ghost use Rattle.gufi_tree.specs.Bundles.{bytes_at, directory_in, entry_in, entries_in, IsHead, IsPacked};
 
 use crate::bundle::{Head, Packed};
-use gufi_base::{Meta, PathRef, RecRef, xattrs_at};
+use gufi_base::{Meta, PathRef, RecRef, acl_at, xattrs_at};
 use std::marker::Model;
 
 /// So many bytes of a text from a place on.
@@ -26,6 +26,7 @@ pub struct EntryRef<'a> {
     meta: &'a Meta,
     link: &'a [u8],
     xattrs: &'a [u8],
+    acl: &'a [u8],
 }
 
 impl<'a> Model for EntryRef<'a> {
@@ -36,7 +37,7 @@ impl<'a> Model for EntryRef<'a> {
     ghost use Rattle.std.specs.Prelude.{IsTrue};
     ghost use Rattle.gufi_base.specs.Names.{is_name};
 
-    ghost view = { λ e. record { name = e.name.now; rec = record { link = e.link.now; xattrs = e.xattrs.now; meta = e.meta.now } } };
+    ghost view = { λ e. record { name = e.name.now; rec = record { link = e.link.now; xattrs = e.xattrs.now; acl = e.acl.now; meta = e.meta.now } } };
 
     ghost invariant = { λ e. IsTrue (is_name e.name.now) };
 }
@@ -50,11 +51,13 @@ impl<'a> EntryRef<'a> {
     {
         let name = packed.name as usize;
         let at = packed.at as usize;
+        let behind = at + name + packed.link as usize;
         EntryRef {
             name: bytes_at(text, at, name),
             meta: &packed.meta,
             link: bytes_at(text, at + name, packed.link as usize),
-            xattrs: xattrs_at(text, at + name + packed.link as usize, packed.has_xattrs),
+            xattrs: xattrs_at(text, behind, packed.extras),
+            acl: acl_at(text, behind, packed.extras),
         }
     }
 
@@ -71,7 +74,7 @@ impl<'a> EntryRef<'a> {
     pub fn rec(&self) -> RecRef<'a>
         ensures { result ≡ self.now.rec }
     {
-        RecRef::of(self.meta, self.link, self.xattrs)
+        RecRef::of(self.meta, self.link, self.xattrs, self.acl)
     }
 }
 
@@ -181,7 +184,8 @@ impl<'a> DirRef<'a> {
         RecRef::of(
             &head.meta,
             bytes_at(self.text, at, link),
-            xattrs_at(self.text, at + link, head.has_xattrs),
+            xattrs_at(self.text, at + link, head.extras),
+            acl_at(self.text, at + link, head.extras),
         )
     }
 

@@ -2,7 +2,7 @@
 
 ghost use Rattle.std.specs.Prelude.{◌≡◌, ℕ, ◌+◌, ◌<◌, ◌≤◌, ◌^◌, ◌++◌, ◌∷◌, [], List, length, map, take, slice_index_or, All, IsTrue, IfOk, OnOk, OnErr};
 ghost use Rattle.gufi_base.specs.Names.{is_name};
-ghost use Rattle.gufi_base.specs.Xattrs.{kept_names, AreKept};
+ghost use Rattle.gufi_base.specs.Extras.{kept_xattrs, kept_acl, AreKept};
 ghost use Rattle.gufi_tree.specs.Tree.{Directory};
 ghost use Rattle.gufi_tree.specs.Bundles.{bytes_at, directory_in, entry_in, entries_in, IsHead, IsPacked, IsShort};
 ghost use Rattle.gufi_tree.specs.GoingOn.{GoesOn};
@@ -10,23 +10,23 @@ ghost use Rattle.gufi_tree.specs.Packs.{entries_of, shifted, shifted_row, IsNear
 
 use crate::borrowed::DirRef;
 use crate::pending::{Pending, PlacedRow};
-use gufi_base::{Meta, PathRef, RecRef, put_xattrs, u16_of, u32_of};
+use gufi_base::{Extras, Meta, PathRef, RecRef, put_extras, u16_of, u32_of};
 use std::alloc::{AllocError, Global};
 use std::marker::Model;
 
-/// An entry: its record, and where its name and behind it its link stand in a text, by their lengths in bytes. Where there are names of
-/// extended attributes, these stand behind the link. It has 88 bytes.
+/// An entry: its record, and where its name and behind it its link stand in a text, by their lengths in bytes. Names of extended
+/// attributes and an access control list stand behind the link, where there are any. It has 88 bytes.
 #[derive(Clone, Copy)]
 pub(crate) struct Packed {
     pub(crate) meta: Meta,
     pub(crate) at: u32,
     pub(crate) link: u16,
     pub(crate) name: u8,
-    pub(crate) has_xattrs: bool,
+    pub(crate) extras: Extras,
 }
 
 /// A directory: its record, where the kept text of its path and behind it its link stand in a text, by their lengths in bytes, and
-/// which entries are its own. Where there are names of extended attributes, these stand behind the link. It has 104 bytes.
+/// which entries are its own. The same two stand behind the link. It has 104 bytes.
 #[derive(Clone, Copy)]
 pub(crate) struct Head {
     pub(crate) meta: Meta,
@@ -35,7 +35,7 @@ pub(crate) struct Head {
     pub(crate) link: u16,
     pub(crate) first: u32,
     pub(crate) count: u32,
-    pub(crate) has_xattrs: bool,
+    pub(crate) extras: Extras,
 }
 
 /// Directories with their entries, in memory that they share: three arrays. The text has less than 4 GiB.
@@ -60,24 +60,24 @@ impl Model for Bundle {
     ghost invariant = { λ b. IsBundle b.text.items b.rows.items b.heads.items b.longest };
 }
 
-/// Puts some bytes, a link and names of extended attributes behind a text, and tells where they begin and whether there are names.
+/// Puts some bytes and behind them all of a record but its numbers behind a text, and tells where they begin and what stands behind the link.
 fn put_bytes(
     text: &mut Vec<u8>,
     bytes: &[u8],
-    link: &[u8],
-    xattrs: &[u8],
-) -> Result<(u32, bool), AllocError>
+    rec: &RecRef<'_>,
+) -> Result<(u32, Extras), AllocError>
     ensures grown { (more : List ℕ) × (text.new.items ≡ text.old.items ++ more) }
-    ensures within { IfOk result (λ put. AreKept text.new.items (put.0 + length bytes.now + length link.now) put.1) }
+    ensures within { IfOk result (λ put. AreKept text.new.items (put.0 + length bytes.now + length rec.now.link) put.1) }
     ensures bytes { IfOk result (λ put. bytes_at text.new.items put.0 (length bytes.now) ≡ bytes.now) }
-    ensures link { IfOk result (λ put. bytes_at text.new.items (put.0 + length bytes.now) (length link.now) ≡ link.now) }
-    ensures xattrs { IfOk result (λ put. kept_names text.new.items (put.0 + length bytes.now + length link.now) put.1 ≡ xattrs.now) }
+    ensures link { IfOk result (λ put. bytes_at text.new.items (put.0 + length bytes.now) (length rec.now.link) ≡ rec.now.link) }
+    ensures xattrs { IfOk result (λ put. kept_xattrs text.new.items (put.0 + length bytes.now + length rec.now.link) put.1 ≡ rec.now.xattrs) }
+    ensures acl { IfOk result (λ put. kept_acl text.new.items (put.0 + length bytes.now + length rec.now.link) put.1 ≡ rec.now.acl) }
 {
     let at = u32_of(text.len())?;
     text.extend_from_slice(bytes)?;
-    text.extend_from_slice(link)?;
-    let has_xattrs = put_xattrs(text, xattrs)?;
-    Ok((at, has_xattrs))
+    text.extend_from_slice(rec.link())?;
+    let extras = put_extras(text, rec.xattrs(), rec.acl())?;
+    Ok((at, extras))
 }
 
 /// Puts the bytes of an entry behind a text.
@@ -91,16 +91,15 @@ pub(crate) fn pack_entry(
     ensures packed { IfOk result (IsPacked text.new.items) }
     ensures entry { IfOk result (λ packed. entry_in text.new.items packed ≡ record { name = name.now; rec = rec.now }) }
 {
-    let target = rec.link();
-    let link = u16_of(target.len())?;
-    let (at, has_xattrs) = put_bytes(text, name, target, rec.xattrs())?;
+    let link = u16_of(rec.link().len())?;
+    let (at, extras) = put_bytes(text, name, rec)?;
     let meta = *rec.meta();
     Ok(Packed {
         meta,
         at,
         link,
         name: name.len() as u8,
-        has_xattrs,
+        extras,
     })
 }
 
@@ -144,7 +143,7 @@ fn push_entries(
     push_rows(rows, entries.rows.as_slice(), base)
 }
 
-/// Packs a directory's entries behind others, and puts its path, its link and its names of extended attributes behind the text.
+/// Packs a directory's entries behind others, and puts its path and its record's bytes behind the text.
 fn pack_directory(
     text: &mut Vec<u8>,
     rows: &mut Vec<Packed>,
@@ -161,10 +160,9 @@ fn pack_directory(
     let count = u32_of(entries.len())?;
     push_entries(text, rows, entries)?;
     let kept = path.text();
-    let target = rec.link();
     let length = u16_of(kept.len())?;
-    let link = u16_of(target.len())?;
-    let (at, has_xattrs) = put_bytes(text, kept, target, rec.xattrs())?;
+    let link = u16_of(rec.link().len())?;
+    let (at, extras) = put_bytes(text, kept, rec)?;
     let meta = *rec.meta();
     Ok(Head {
         meta,
@@ -173,7 +171,7 @@ fn pack_directory(
         link,
         first,
         count,
-        has_xattrs,
+        extras,
     })
 }
 
@@ -224,8 +222,8 @@ impl Bundle {
 
     /// Packs a directory with these entries behind the others, in time in proportion to its bytes.
     ///
-    /// What doesn't fit is answered as want of memory: a path, a link or names of extended attributes of more than 65,535 bytes, or bytes
-    /// behind the first 4 GiB.
+    /// What doesn't fit is answered as want of memory: a path, a link, names of extended attributes or an access control list of more than
+    /// 65,535 bytes, or bytes behind the first 4 GiB.
     pub(crate) fn push(
         &mut self,
         path: &PathRef<'_>,

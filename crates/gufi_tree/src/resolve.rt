@@ -56,10 +56,10 @@ fn cut(text: &[u8], offset: usize) -> (&[u8], &[u8])
 }
 
 /// What guards a directory.
-fn guard_on(dir: &DirRef<'_>) -> Guard
+fn guard_on<'a>(dir: &DirRef<'a>) -> Guard<'a>
     ensures { rights result ≡ rights_of dir.now.rec }
 {
-    guard_of(dir.rec().meta())
+    guard_of(&dir.rec())
 }
 
 fn denied(dir: &DirRef<'_>, who: &Principal) -> Resolved

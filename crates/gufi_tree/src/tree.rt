@@ -14,7 +14,7 @@ use crate::link::{Links, parents_of};
 use crate::range::DirRange;
 use crate::search::find_dir;
 use gufi_access::Guard;
-use gufi_base::{Memory, Meta, Name, Path, PathRef, Rec, RecRef};
+use gufi_base::{Memory, Name, Path, PathRef, Rec, RecRef};
 use std::alloc::{AllocError, Global};
 use std::marker::Model;
 
@@ -140,11 +140,11 @@ impl Tree {
 
     /// What guards a directory.
     #[inline]
-    pub fn guard(&self, id: DirId) -> Guard
+    pub fn guard(&self, id: DirId) -> Guard<'_>
         requires { id.0 < length self.now }
         ensures { (d : Directory) → rights result ≡ rights_of (slice_index_or self.now id.0 d).rec }
     {
-        guard_of(self.rec(id).meta())
+        guard_of(&self.rec(id))
     }
 
     /// The path of a directory, borrowed.
@@ -206,12 +206,15 @@ impl Tree {
     }
 }
 
-pub(crate) fn guard_of(meta: &Meta) -> Guard
-    ensures { rights result ≡ record { uid = meta.now.uid; gid = meta.now.gid; mode = meta.now.mode } }
+/// What guards the file of a record.
+pub(crate) fn guard_of<'a>(rec: &RecRef<'a>) -> Guard<'a>
+    ensures { rights result ≡ rights_of rec.now }
 {
+    let meta = rec.meta();
     Guard {
         uid: meta.uid,
         gid: meta.gid,
         mode: meta.mode,
+        acl: rec.acl(),
     }
 }

@@ -1,4 +1,4 @@
-use Rattle.std.proofs.Common.{◌≡◌, ◌∙◌, ℕ, List, length, ap, arith}
+use Rattle.std.proofs.Common.{◌∙◌, length, ap, arith}
 use Rattle.gufi_base.specs.Extras.{sized_bytes}
 use Rattle.gufi_base.proofs.KeptExtras.{sized_bytes-more}
 use Rattle.gufi_base.proofs.extras.put_extras.Goals as goal
