@@ -19,7 +19,7 @@ none = record { users = []; groups = [] }
 file : ℕ → Row
 file size = record {
   path = codes "b" ∷ [];
-  rec = record { meta = record { kind = File; inode = 1; mode = 420; nlink = 1; uid = 101; gid = 100; size = size; blksize = 4096; blocks = 0; atime = pos 10; mtime = pos 20; ctime = pos 30 }; link = []; xattrs = [] };
+  rec = record { meta = record { kind = File; inode = 1; mode = 420; nlink = 1; uid = 101; gid = 100; size = size; blksize = 4096; blocks = 0; atime = pos 10; mtime = pos 20; ctime = pos 30 }; link = []; xattrs = []; acl = [] };
 }
 
 abbrev found : Result Find FindError → Row → Bool

@@ -81,6 +81,7 @@ fn a_row_is_yielded(rt: HostRuntime) -> Result<(), Memory> {
         meta: &meta,
         link: b"".as_slice(),
         xattrs: b"".as_slice(),
+        acl: b"".as_slice(),
     };
     let sum: Summary = sum_of_one_row(rt.alloc(), row)?;
     assert_eq!(rt; (sum.dirs, sum.bytes, sum.uid), (1, 0, Some((3, 3))));

@@ -54,6 +54,7 @@ fn run_file(meta: &Meta) -> RowRef<'_>
         meta,
         link: b"".as_slice(),
         xattrs: b"".as_slice(),
+        acl: b"".as_slice(),
     }
 }
 

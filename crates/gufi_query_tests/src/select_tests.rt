@@ -36,6 +36,7 @@ pub(crate) fn row(
             meta: meta(kind, size),
             link: Bytes::from_slice(alloc, link)?,
             xattrs: Bytes::from_slice(alloc, b"user.a,user.b")?,
+            acl: Bytes::from_slice(alloc, b"")?,
         },
     })
 }
@@ -60,6 +61,7 @@ fn parts_of<'a>(path: &'a Path, rec: &'a Rec) -> RowRef<'a>
         meta: &rec.meta,
         link: rec.link.as_slice(),
         xattrs: rec.xattrs.as_slice(),
+        acl: rec.acl.as_slice(),
     }
 }
 

@@ -284,10 +284,5 @@ flags_more tree limit flags i b e lt h =
           ap (λ (fs : List Bool). fs ++ (b.covered && nat_le b.rows limit) ∷ []) e ∙ ap (λ c. take i (roll_flags tree limit) ++ c ∷ []) (here ∙ sym at) ∙ sym (take_more (roll_flags tree limit) i false in')
 
 -- guards whose parts are equal
-pub same_rights : (a b : Guard) → ((eqb a.uid b.uid) && ((eqb a.gid b.gid) && (eqb a.mode b.mode))) ≡ true → rights a ≡ rights b
-same_rights a b e =
-    let first = and_parts (eqb a.uid b.uid) (eqb a.gid b.gid && eqb a.mode b.mode) e in
-    let rest = and_parts (eqb a.gid b.gid) (eqb a.mode b.mode) first.1 in
-    ap (λ n. record { uid = n; gid = a.gid; mode = a.mode }) (eqb-true a.uid b.uid first.0)
-    ∙ ap (λ n. record { uid = b.uid; gid = n; mode = a.mode }) (eqb-true a.gid b.gid rest.0)
-    ∙ ap (λ n. record { uid = b.uid; gid = b.gid; mode = n }) (eqb-true a.mode b.mode rest.1)
+pub same_rights : (a b : Guard) → a.uid ≡ b.uid → a.gid ≡ b.gid → a.mode ≡ b.mode → a.acl.now ≡ b.acl.now → rights a ≡ rights b
+same_rights a b uid gid mode acl = λ i. record { uid = uid i; gid = gid i; mode = mode i; acl = acl i }

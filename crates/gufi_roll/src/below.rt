@@ -8,6 +8,7 @@ ghost use Rattle.gufi_tree.specs.Tree.{Directory, rights_of};
 ghost use Rattle.gufi_roll.specs.Below.{IsBelow, AreBelow};
 
 use gufi_access::{Guard, covers};
+use gufi_base::same_bytes;
 use gufi_tree::{DirId, Tree};
 use std::alloc::{AllocError, Global};
 
@@ -25,24 +26,31 @@ fn let_list(bits: u16) -> bool
     (bits & 7) & 5 == 5
 }
 
-/// Whether every class may read and search, so that everyone may list.
-fn is_open(guard: &Guard) -> bool
+/// Whether every class may read and search and no access control list says otherwise, so that everyone may list.
+fn is_open(guard: &Guard<'_>) -> bool
     ensures { IsTrue result → (who : Principal) → can_list who (rights guard.now) ≡ true }
 {
     let owner = let_list(guard.mode >> 6);
     let group = let_list(guard.mode >> 3);
     let other = let_list(guard.mode);
-    owner & group & other
+    owner & group & other & guard.acl.is_empty()
 }
 
-/// Whether a guard covers another; no principal is tried where the two are equal or everyone may list the other.
-pub(crate) fn covers_next(parent: &Guard, child: &Guard) -> bool
+/// Whether two guards say the same.
+fn are_alike(a: &Guard<'_>, b: &Guard<'_>) -> bool
+    ensures { IsTrue result → rights a.now ≡ rights b.now }
+{
+    a.uid == b.uid && a.gid == b.gid && a.mode == b.mode && same_bytes(a.acl, b.acl)
+}
+
+/// Whether a guard covers another; that isn't tried where the two are alike or everyone may list the other.
+pub(crate) fn covers_next(parent: &Guard<'_>, child: &Guard<'_>) -> bool
     ensures { result ≡ covers (rights parent.now) (rights child.now) }
 {
     if is_open(child) {
         return true;
     }
-    parent == child || covers(parent, child)
+    are_alike(parent, child) || covers(parent, child)
 }
 
 /// Whether a subdirectory and all below it is covered.

@@ -4,6 +4,8 @@
 #![tactic(auto)]
 
 #[cfg(test)]
+mod acl_tests;
+#[cfg(test)]
 mod agg_tests;
 #[cfg(test)]
 mod attribute_tests;

@@ -86,7 +86,7 @@ parts-numbers key rows =
 
 -- a row whose record is what was seen
 abbrev row_seen : (Meta → Meta) → Row → Row
-row_seen seen row = record { path = row.path; rec = record { link = row.rec.link; xattrs = row.rec.xattrs; meta = seen row.rec.meta } }
+row_seen seen row = record { path = row.path; rec = record { link = row.rec.link; xattrs = row.rec.xattrs; acl = row.rec.acl; meta = seen row.rec.meta } }
 
 total_seen-total : (seen : Meta → Meta) (rows : List Row) → total_seen seen rows ≡ total (map (row_seen seen) rows)
 unfolding total total_seen

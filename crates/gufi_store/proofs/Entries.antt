@@ -16,14 +16,15 @@ use Rattle.gufi_tree.specs.Tree.{Directory, entry_row, own_rows}
 
 -- the parts of an entry's row
 pub entry_stands : (ref : RowRef) (path : List (List ℕ)) (e : Entry) → list_all is_name path ≡ true → is_name e.name ≡ true
-    → ref.stem.now ≡ kept_text path → ref.base.now ≡ e.name → ref.meta.now ≡ e.rec.meta → ref.link.now ≡ e.rec.link → ref.xattrs.now ≡ e.rec.xattrs → Stands ref (entry_row path e)
-entry_stands ref path e names name stem base meta link xattrs = record {
+    → ref.stem.now ≡ kept_text path → ref.base.now ≡ e.name → ref.meta.now ≡ e.rec.meta → ref.link.now ≡ e.rec.link → ref.xattrs.now ≡ e.rec.xattrs → ref.acl.now ≡ e.rec.acl → Stands ref (entry_row path e)
+entry_stands ref path e names name stem base meta link xattrs acl = record {
   names = named_push path e.name names name;
   stem = stem ∙ sym (stem_push path e.name);
   base = base ∙ sym (base_name_push path e.name);
   meta = meta;
   link = link;
   xattrs = xattrs;
+  acl = acl;
 }
 
 -- one row more

@@ -48,6 +48,7 @@ fn own_row<'a>(path: &PathRef<'a>, rec: &RecRef<'a>) -> RowRef<'a>
         meta: rec.meta(),
         link: rec.link(),
         xattrs: rec.xattrs(),
+        acl: rec.acl(),
     }
 }
 
@@ -63,6 +64,7 @@ fn row_below<'a>(stem: &'a [u8], entry: &EntryRef<'a>) -> RowRef<'a>
         meta: rec.meta(),
         link: rec.link(),
         xattrs: rec.xattrs(),
+        acl: rec.acl(),
     }
 }
 

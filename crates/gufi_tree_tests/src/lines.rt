@@ -4,8 +4,18 @@ use gufi_base::{Bytes, Kind, Line, Meta, Path, Rec, Row};
 use std::alloc::Global;
 use std::test::Fail;
 
+/// A guard without an access control list.
+pub(crate) fn guard(uid: u32, gid: u32, mode: u16) -> Guard<'static> {
+    Guard {
+        uid,
+        gid,
+        mode,
+        acl: b"",
+    }
+}
+
 /// A record of five bytes under a guard.
-pub(crate) fn meta(kind: Kind, guard: Guard) -> Meta {
+pub(crate) fn meta(kind: Kind, guard: Guard<'_>) -> Meta {
     Meta {
         kind,
         inode: 1,
@@ -22,12 +32,18 @@ pub(crate) fn meta(kind: Kind, guard: Guard) -> Meta {
     }
 }
 
-/// A row with a record, no target and no names of extended attributes.
+/// A row with a record, no target, no names of extended attributes and no access control list.
 pub(crate) fn row_of(alloc: Global, path: &[u8], meta: Meta) -> Result<Row, Fail> {
     let link = Bytes::of(Vec::new(alloc));
     let xattrs = Bytes::of(Vec::new(alloc));
+    let acl = Bytes::of(Vec::new(alloc));
     let path = Path::read(alloc, path)?;
-    let rec = Rec { meta, link, xattrs };
+    let rec = Rec {
+        meta,
+        link,
+        xattrs,
+        acl,
+    };
     Ok(Row { path, rec })
 }
 
@@ -45,6 +61,5 @@ pub(crate) fn line(
     kind: Kind,
     mode: u16,
 ) -> Result<Line, Fail> {
-    let (uid, gid) = (101, 100);
-    line_of(alloc, number, path, meta(kind, Guard { uid, gid, mode }))
+    line_of(alloc, number, path, meta(kind, guard(101, 100, mode)))
 }

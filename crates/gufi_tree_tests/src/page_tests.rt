@@ -1,6 +1,5 @@
-use crate::lines::meta;
+use crate::lines::{guard, meta};
 use crate::rows_tests::row_of;
-use gufi_access::Guard;
 use gufi_base::{Bytes, Kind, Memory, Meta, Path, Rec, Row};
 use gufi_page::{Cursor, Page, pack};
 use std::alloc::Global;
@@ -8,22 +7,32 @@ use std::test::Fail;
 
 /// The record of a link.
 fn link_meta() -> Meta {
-    let (uid, gid, mode) = (101, 100, 0o777);
-    meta(Kind::Link, Guard { uid, gid, mode })
+    meta(Kind::Link, guard(101, 100, 0o777))
 }
 
-fn link_row(alloc: Global, path: &[u8], target: &[u8], names: &[u8]) -> Result<Row, Fail> {
+fn link_row(
+    alloc: Global,
+    path: &[u8],
+    target: &[u8],
+    names: &[u8],
+    acl: &[u8],
+) -> Result<Row, Fail> {
     let path = Path::read(alloc, path)?;
     let link = Bytes::from_slice(alloc, target)?;
     let xattrs = Bytes::from_slice(alloc, names)?;
+    let acl = Bytes::from_slice(alloc, acl)?;
     let meta = link_meta();
-    Ok(Row {
-        path,
-        rec: Rec { meta, link, xattrs },
-    })
+    let rec = Rec {
+        meta,
+        link,
+        xattrs,
+        acl,
+    };
+    Ok(Row { path, rec })
 }
 
-/// So many rows: of each the stem, the base name, the link and the names of extended attributes, with a blank between two.
+/// So many rows: of each the stem, the base name, the link, the names of extended attributes and the access control list, with a blank
+/// between two.
 fn printed(alloc: Global, mut cursor: Cursor<'_>, count: u32) -> Result<Vec<u8>, Memory> {
     let mut text = Vec::new(alloc);
     for _ in 0..count {
@@ -35,6 +44,8 @@ fn printed(alloc: Global, mut cursor: Cursor<'_>, count: u32) -> Result<Vec<u8>,
             text.extend_from_slice(row.link)?;
             text.push(b' ')?;
             text.extend_from_slice(row.xattrs)?;
+            text.push(b' ')?;
+            text.extend_from_slice(row.acl)?;
             text.push(b'\n')?;
         }
     }
@@ -47,19 +58,23 @@ fn the_longest_names_and_link_come_back(rt: HostRuntime) -> Result<(), Fail> {
     let name = [b'n'; 255];
     let target = [b't'; 4096];
     let names = [b'x'; 4096];
+    let list = [b'r'; 216];
     let rows = vec![in alloc;
-        link_row(alloc, name.as_slice(), b"", b"user.a,user.b")?,
-        link_row(alloc, b"/p", target.as_slice(), names.as_slice())?,
+        link_row(alloc, name.as_slice(), b"", b"user.a,user.b", b"")?,
+        link_row(alloc, b"/o", b"", b"", b"rights")?,
+        link_row(alloc, b"/p", target.as_slice(), names.as_slice(), list.as_slice())?,
     ]?;
     let page = pack(alloc, rows.as_slice())?;
     let mut expected = Vec::new(alloc);
     for part in [
         b"/ ".as_slice(),
         name.as_slice(),
-        b"  user.a,user.b\n/ p ",
+        b"  user.a,user.b \n/ o   rights\n/ p ",
         target.as_slice(),
         b" ",
         names.as_slice(),
+        b" ",
+        list.as_slice(),
         b"\n",
     ] {
         expected.extend_from_slice(part)?;
@@ -93,11 +108,11 @@ fn a_range_has_the_stems_of_its_rows(rt: HostRuntime) -> Result<(), Fail> {
     assert_eq!(rt; page.len(), 6);
     assert_eq!(rt;
         printed(alloc, page.range(1, 4), 9)?.as_slice(),
-        b"/ e /e/ e\n/d/ a /d/a/ a\n/d/ b /d/b/ b\n/d/b/ c /d/b/c/ c\n".as_slice()
+        b"/ e /e/ e /e/\n/d/ a /d/a/ a /d/a/\n/d/ b /d/b/ b /d/b/\n/d/b/ c /d/b/c/ c /d/b/c/\n".as_slice()
     );
     assert_eq!(rt;
         printed(alloc, page.range(4, 2), 9)?.as_slice(),
-        b"/d/b/ c /d/b/c/ c\n/e/ a /e/a/ a\n".as_slice()
+        b"/d/b/ c /d/b/c/ c /d/b/c/\n/e/ a /e/a/ a /e/a/\n".as_slice()
     );
     Ok(())
 }

@@ -1,4 +1,4 @@
-use crate::lines::{line_of, meta};
+use crate::lines::{guard, line_of, meta};
 use gufi_access::Guard;
 use gufi_base::{Kind, Line};
 use gufi_roll::{RollReport, roll, roll_report};
@@ -7,11 +7,10 @@ use std::alloc::Global;
 use std::test::Fail;
 
 fn line(alloc: Global, path: &[u8], kind: Kind, uid: u32, mode: u16) -> Result<Line, Fail> {
-    let gid = 100;
-    guarded(alloc, path, kind, Guard { uid, gid, mode })
+    guarded(alloc, path, kind, guard(uid, 100, mode))
 }
 
-fn guarded(alloc: Global, path: &[u8], kind: Kind, guard: Guard) -> Result<Line, Fail> {
+fn guarded(alloc: Global, path: &[u8], kind: Kind, guard: Guard<'_>) -> Result<Line, Fail> {
     line_of(alloc, 1, path, meta(kind, guard))
 }
 
@@ -54,11 +53,7 @@ fn report(alloc: Global, tree: &Tree, limit: u64) -> Result<RollReport, Fail> {
 #[test]
 fn what_is_rolled_up_is_counted(rt: HostRuntime) -> Result<(), Fail> {
     let alloc = rt.alloc();
-    let guard = Guard {
-        uid: 102,
-        gid: 200,
-        mode: 0o055,
-    };
+    let guard = guard(102, 200, 0o055);
     let denied = vec![in alloc;
         line(alloc, b"/", Kind::Dir, 101, 0o755)?,
         guarded(alloc, b"/c", Kind::Dir, guard)?,

@@ -2,14 +2,13 @@ ghost use Rattle.std.specs.Prelude.{◌≡◌, ◌+◌, ◌<◌, List, IfOk, OnO
 ghost use Rattle.gufi_base.specs.declared.record.Row.{Row as SeenRow};
 ghost use Rattle.gufi_base.specs.Rows.{StandsForSome};
 
-use crate::lines::meta;
-use gufi_access::Guard;
+use crate::lines::{guard, meta};
 use gufi_base::{Kind, Memory, Meta, Path, Row, RowRef, Yield};
 use gufi_rows::{PathList, RowList};
 use std::alloc::Global;
 use std::test::Fail;
 
-/// The row of a path, whose link is the path's kept text and whose names of extended attributes are its base name.
+/// The row of a path, whose link and access control list are the path's kept text, and whose names of extended attributes are its base name.
 pub(crate) fn row_of<'a>(path: &'a Path, meta: &'a Meta) -> RowRef<'a>
     ensures { StandsForSome result }
 {
@@ -19,6 +18,7 @@ pub(crate) fn row_of<'a>(path: &'a Path, meta: &'a Meta) -> RowRef<'a>
         meta,
         link: path.text(),
         xattrs: path.base_name(),
+        acl: path.text(),
     }
 }
 
@@ -36,8 +36,7 @@ fn scanned<Y: Yield>(alloc: Global, paths: &[Path; 3]) -> Result<Y, Memory>
     ensures count { IfOk result (λ rows. Y.count rows ≡ 3) }
     ensures rows { IfOk result (λ rows. (given : List SeenRow) × Y.stands_for rows given) }
 {
-    let (uid, gid, mode) = (101, 100, 0o755);
-    let meta = meta(Kind::Dir, Guard { uid, gid, mode });
+    let meta = meta(Kind::Dir, guard(101, 100, 0o755));
     let mut rows = Y::none(alloc)?;
     take_row(alloc, &mut rows, &paths[0], &meta)?;
     take_row(alloc, &mut rows, &paths[1], &meta)?;
@@ -62,6 +61,8 @@ fn printed(alloc: Global, rows: &[Row]) -> Result<Vec<u8>, Memory> {
         text.extend_from_slice(row.rec.link.as_slice())?;
         text.push(b' ')?;
         text.extend_from_slice(row.rec.xattrs.as_slice())?;
+        text.push(b' ')?;
+        text.extend_from_slice(row.rec.acl.as_slice())?;
         text.push(b'\n')?;
     }
     Ok(text)
@@ -89,7 +90,7 @@ fn walked_rows_come_in_path_order(rt: HostRuntime) -> Result<(), Fail> {
     let rows = list.sorted(alloc)?;
     assert_eq!(rt;
         printed(alloc, rows.as_slice())?.as_slice(),
-        b"/d /d/ d\n/d/m /d/m/ m\n/d/m/b /d/m/b/ b\n/d/m/c /d/m/c/ c\n/d/m/c/a /d/m/c/a/ a\n/d/z /d/z/ z\n".as_slice()
+        b"/d /d/ d /d/\n/d/m /d/m/ m /d/m/\n/d/m/b /d/m/b/ b /d/m/b/\n/d/m/c /d/m/c/ c /d/m/c/\n/d/m/c/a /d/m/c/a/ a /d/m/c/a/\n/d/z /d/z/ z /d/z/\n".as_slice()
     );
     Ok(())
 }

@@ -1,7 +1,6 @@
 ghost use Rattle.std.specs.Prelude.{◌≡◌, ◌<◌};
 
-use crate::lines::{line_of, meta};
-use gufi_access::Guard;
+use crate::lines::{guard, line_of, meta};
 use gufi_base::{Always, AsItIs, Kind, Line, Memory, Meta, Steps};
 use gufi_snap::Snapshot;
 use gufi_sums::Summary;
@@ -13,10 +12,9 @@ use std::test::Fail;
 
 /// A line that was changed at the second of its number.
 fn line(alloc: Global, number: u32, path: &[u8], kind: Kind) -> Result<Line, Fail> {
-    let (uid, gid, mode) = (101, 100, 0o755);
     let meta = Meta {
         mtime: i64::from(number),
-        ..meta(kind, Guard { uid, gid, mode })
+        ..meta(kind, guard(101, 100, 0o755))
     };
     line_of(alloc, number, path, meta)
 }

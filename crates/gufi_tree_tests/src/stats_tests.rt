@@ -3,8 +3,7 @@ ghost use Rattle.std.specs.Prelude.{◌≡◌, length, IfOk};
 ghost use Rattle.gufi_base.specs.Rows.{row_cmp};
 ghost use Rattle.gufi_base.specs.Basics.{ascends};
 
-use crate::lines::{meta, row_of};
-use gufi_access::Guard;
+use crate::lines::{guard, meta, row_of};
 use gufi_base::{Kind, Meta, Path, Row, path_cmp};
 use gufi_stats::{Report, stats_text};
 use std::alloc::Global;
@@ -28,11 +27,10 @@ gid 300 dirs 0 files 0 links 0 others 1 bytes 0
 
 // A row whose file has 7 bytes.
 fn row(alloc: Global, path: &[u8], kind: Kind, uid: u32, gid: u32) -> Result<Row, Fail> {
-    let mode = 0o755;
     let size = 7;
     let meta = Meta {
         size,
-        ..meta(kind, Guard { uid, gid, mode })
+        ..meta(kind, guard(uid, gid, 0o755))
     };
     row_of(alloc, path, meta)
 }

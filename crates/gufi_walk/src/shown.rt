@@ -4,7 +4,7 @@ ghost use Rattle.std.specs.Prelude.{◌≡◌};
 ghost use Rattle.gufi_access.specs.Access.{is_granted};
 
 use gufi_access::{Guard, Principal, granted};
-use gufi_base::{Meta, RowRef, View};
+use gufi_base::{RowRef, View};
 
 /// Rows as they are shown to a principal: the names of a file's extended attributes only where the file itself may be read.
 #[derive(Clone, Copy)]
@@ -13,13 +13,15 @@ pub(crate) struct Shown<'a> {
 }
 
 /// Whether a file may be read.
-fn may_read(who: &Principal, meta: &Meta) -> bool
-    ensures { result ≡ is_granted who.now (record { uid = meta.now.uid; gid = meta.now.gid; mode = meta.now.mode }) 4 }
+fn may_read(who: &Principal, row: RowRef<'_>) -> bool
+    ensures { result ≡ is_granted who.now (record { uid = row.meta.now.uid; gid = row.meta.now.gid; mode = row.meta.now.mode; acl = row.acl.now }) 4 }
 {
+    let meta = row.meta;
     let guard = Guard {
         uid: meta.uid,
         gid: meta.gid,
         mode: meta.mode,
+        acl: row.acl,
     };
     granted(who, &guard, 4)
 }
@@ -38,7 +40,7 @@ impl View for Shown<'_> {
 
     fn view<'a>(&self, row: RowRef<'a>) -> RowRef<'a> {
         // Most rows have no names: of those nothing is asked.
-        if row.xattrs.is_empty() || may_read(self.who, row.meta) {
+        if row.xattrs.is_empty() || may_read(self.who, row) {
             return row;
         }
         RowRef {
@@ -47,6 +49,7 @@ impl View for Shown<'_> {
             meta: row.meta,
             link: row.link,
             xattrs: &[],
+            acl: row.acl,
         }
     }
 }
