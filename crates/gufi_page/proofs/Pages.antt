@@ -13,11 +13,11 @@ use Rattle.gufi_base.specs.Rows.{Stands}
 use Rattle.gufi_base.proofs.Cuts.{all_but_last_and_last}
 use Rattle.gufi_base.proofs.Names.{names-kept_text}
 use Rattle.gufi_base.proofs.Texts.{last_named, parent_named, slashed_text-closed}
-use Rattle.gufi_base.proofs.KeptXattrs.{kept_names-more, kept_size-more}
+use Rattle.gufi_base.proofs.KeptExtras.{kept_xattrs-more, kept_acl-more, kept_size-more}
 use Rattle.gufi_page.specs.declared.text.Stem.{Stem}
 use Rattle.gufi_page.specs.declared.text.Ends.{Ends}
 use Rattle.gufi_page.specs.declared.page.Packed.{Packed}
-use Rattle.gufi_page.specs.Packed.{Begin, GoesOn, IsIn, IsPage, IsPut, IsRow, IsWithin, base_in, between, bytes_in, end_of, link_in, no_stem, number_at, row_in, rows_from, rows_in, stem_in, xattrs_in}
+use Rattle.gufi_page.specs.Packed.{Begin, GoesOn, IsIn, IsPage, IsPut, IsRow, IsWithin, acl_in, base_in, between, bytes_in, end_of, link_in, no_stem, number_at, row_in, rows_from, rows_in, stem_in, xattrs_in}
 use Rattle.gufi_page.proofs.Numbers.{Ascend-more, Begin-more, number-more}
 
 -- the bytes of a text that goes on
@@ -30,7 +30,7 @@ IsIn-more text more stems all = λ k d h.
     (here.0, omega (arith, here.1, length-append text more))
 
 pub IsWithin-more : (text more : List ℕ) (ends : Ends) → IsWithin text ends → IsWithin (text ++ more) ends
-IsWithin-more text more ends is = omega (arith, is, kept_size-more text more (end_of ends) ends.has_xattrs is, length-append text more)
+IsWithin-more text more ends is = omega (arith, is, kept_size-more text more (end_of ends) ends.extras is, length-append text more)
 
 -- some bytes more behind what went on
 pub GoesOn-bytes : (at : ℕ) (text mid next : List ℕ) (stems nexts : List Stem) → GoesOn at text mid stems nexts → ((more : List ℕ) × (next ≡ mid ++ more)) → GoesOn at text next stems nexts
@@ -60,8 +60,9 @@ module _ (at : ℕ) (text next : List ℕ) (stems nexts : List Stem) (goes : Goe
       let base : base_in next ends ≡ base_in text ends = between-goes_on ends.at (ends.at + ends.name) (omega (arith, is.within)) in
       let link : link_in next ends ≡ link_in text ends = between-goes_on (ends.at + ends.name) (end_of ends) (omega (arith, is.within)) in
       let xattrs : xattrs_in next ends ≡ xattrs_in text ends =
-      ap (λ t. xattrs_in t ends) goes.bytes.1 ∙ kept_names-more text goes.bytes.0 (end_of ends) ends.has_xattrs is.within in
-      λ i. record { path = path_of_parts (stem i) (base i); rec = record { meta = p.meta; link = link i; xattrs = xattrs i } }
+      ap (λ t. xattrs_in t ends) goes.bytes.1 ∙ kept_xattrs-more text goes.bytes.0 (end_of ends) ends.extras is.within in
+      let acl : acl_in next ends ≡ acl_in text ends = ap (λ t. acl_in t ends) goes.bytes.1 ∙ kept_acl-more text goes.bytes.0 (end_of ends) ends.extras is.within in
+      λ i. record { path = path_of_parts (stem i) (base i); rec = record { meta = p.meta; link = link i; xattrs = xattrs i; acl = acl i } }
 
   IsRow-goes_on : (k : ℕ) (p : Packed) → All (IsIn text) stems → k < at → IsRow text stems k p → IsRow next nexts k p
   IsRow-goes_on k p all before is = record {
@@ -165,13 +166,13 @@ module _ (text : List ℕ) (stems : List Stem) (rows : List Packed) (seen : List
   IsRow-at = subst (IsRow text stems k) (sym e) (is.each k p within)
 
   pub Stands-at : (ref : RowRef) → ref.stem.now ≡ stem_in text stems (number_at stems k) → ref.base.now ≡ base_in text p.ends → ref.meta.now ≡ p.meta → ref.link.now ≡ link_in text p.ends
-      → ref.xattrs.now ≡ xattrs_in text p.ends → (of : Row) × (of ≡ get_or seen k of) × Stands ref of
-  Stands-at ref s b m l x =
+      → ref.xattrs.now ≡ xattrs_in text p.ends → ref.acl.now ≡ acl_in text p.ends → (of : Row) × (of ≡ get_or seen k of) × Stands ref of
+  Stands-at ref s b m l x a =
       let of : Row = row_in text (stem_in text stems (number_at stems k)) p in
       let parts = IsRow-at.parts in (
         of,
         sym (ap (λ rs. get_or rs k of) (sym view) ∙ row_at text stems rows k p of within ∙ ap (row_in text (stem_in text stems (number_at stems k))) (sym e)),
-        record { names = parts.names; stem = s ∙ parts.stem; base = b ∙ parts.base; meta = m; link = l; xattrs = x },
+        record { names = parts.names; stem = s ∙ parts.stem; base = b ∙ parts.base; meta = m; link = l; xattrs = x; acl = a },
       )
 
 -- a base name is short
@@ -205,7 +206,10 @@ module _ (text : List ℕ) (stems : List Stem) (k : ℕ) (p : Packed) (ref : Row
       ap (λ (t : List ℕ). path_of_parts t (base_in text p.ends)) stem ∙ ap (path_of_parts ref.stem.now) put.base ∙ path_of-parts ref.stem.now ref.base.now of.path parts
 
   pub row_in-put : row_in text (stem_in text stems (number_at stems k)) p ≡ of
-  row_in-put = λ i. record { path = path i; rec = record { meta = (meta ∙ stands.meta) i; link = (put.link ∙ stands.link) i; xattrs = (put.xattrs ∙ stands.xattrs) i } }
+  row_in-put = λ i. record {
+    path = path i;
+    rec = record { meta = (meta ∙ stands.meta) i; link = (put.link ∙ stands.link) i; xattrs = (put.xattrs ∙ stands.xattrs) i; acl = (put.acl ∙ stands.acl) i };
+  }
 
   pub IsRow-put : IsRow text stems k p
   IsRow-put = record {

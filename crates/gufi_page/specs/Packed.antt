@@ -1,9 +1,9 @@
--- Rows that stand packed: each as a record, its base name, its link and its names of extended attributes in one text, its stem there once for the rows that share it.
+-- Rows that stand packed: each as a record, with its base name, its link and what is kept behind it in one text, and its stem there once for the rows that share it.
 use Rattle.std.specs.Prelude.{◌≡◌, ℕ, ◌+◌, ◌-◌, ◌^◌, ◌<◌, ◌≤◌, Bool, nat_le, List, [], ◌∷◌, ◌++◌, length, filter, take, drop, slice_index_or, All}
 use Rattle.gufi_base.specs.declared.record.Row.{Row}
 use Rattle.gufi_base.specs.declared.record.RowRef.{RowRef}
 use Rattle.gufi_base.specs.PathParts.{ArePartsOf, path_of_parts}
-use Rattle.gufi_base.specs.Xattrs.{AreKept, kept_names}
+use Rattle.gufi_base.specs.Extras.{AreKept, kept_xattrs, kept_acl}
 use Rattle.gufi_page.specs.declared.text.Stem.{Stem}
 use Rattle.gufi_page.specs.declared.text.Ends.{Ends}
 use Rattle.gufi_page.specs.declared.page.Packed.{Packed}
@@ -37,7 +37,7 @@ number_at stems k = length (filter (has_begun k) stems) - 1
 abbrev pub base_in : List ℕ → Ends → List ℕ
 base_in text ends = between ends.at (ends.at + ends.name) text
 
--- where the link ends, and the names of extended attributes begin
+-- where the link ends, and what is kept behind it begins
 abbrev pub end_of : Ends → ℕ
 end_of ends = ends.at + ends.name + ends.link
 
@@ -45,16 +45,19 @@ abbrev pub link_in : List ℕ → Ends → List ℕ
 link_in text ends = between (ends.at + ends.name) (end_of ends) text
 
 abbrev pub xattrs_in : List ℕ → Ends → List ℕ
-xattrs_in text ends = kept_names text (end_of ends) ends.has_xattrs
+xattrs_in text ends = kept_xattrs text (end_of ends) ends.extras
+
+abbrev pub acl_in : List ℕ → Ends → List ℕ
+acl_in text ends = kept_acl text (end_of ends) ends.extras
 
 abbrev pub IsWithin : List ℕ → Ends → Type 0
-IsWithin text ends = AreKept text (end_of ends) ends.has_xattrs
+IsWithin text ends = AreKept text (end_of ends) ends.extras
 
 -- a packed row, with the bytes of its stem
 abbrev pub row_in : List ℕ → List ℕ → Packed → Row
 row_in text stem p = record {
   path = path_of_parts stem (base_in text p.ends);
-  rec = record { meta = p.meta; link = link_in text p.ends; xattrs = xattrs_in text p.ends };
+  rec = record { meta = p.meta; link = link_in text p.ends; xattrs = xattrs_in text p.ends; acl = acl_in text p.ends };
 }
 
 -- the rows from a number on
@@ -99,6 +102,7 @@ pub record IsPut (text : List ℕ) (stems : List Stem) (row : RowRef) (ends : En
   pub base : base_in text ends ≡ row.base.now
   pub link : link_in text ends ≡ row.link.now
   pub xattrs : xattrs_in text ends ≡ row.xattrs.now
+  pub acl : acl_in text ends ≡ row.acl.now
 
 -- of stems that ascend, those below a place have begun at a row, and the others not
 pub record HaveBegun (stems : List Stem) (k place : ℕ) : Type 0 where

@@ -5,13 +5,15 @@ ghost use Rattle.gufi_base.specs.declared.record.Row.{Row as SeenRow};
 ghost use Rattle.gufi_base.specs.Rows.{Stands, StandsForSome};
 
 use crate::cursor::Cursor;
-use crate::text::{Ends, Stem, base_at, bytes_at, link_at, names_at, number_near, put_parts};
+use crate::text::{
+    Ends, Stem, acl_behind, base_at, bytes_at, link_at, names_at, number_near, put_parts,
+};
 use gufi_base::{Memory, Meta, Row, RowRef};
 use std::alloc::Global;
 use std::marker::Model;
 
-/// A row: its record, and where its base name, its link and its names of extended attributes stand. By its fields it has 88
-/// bytes.
+/// A row: its record, and where its base name, its link, its names of extended attributes and its access control list stand. By
+/// its fields it has 88 bytes.
 #[derive(Clone, Copy)]
 pub struct Packed {
     pub meta: Meta,
@@ -52,6 +54,7 @@ fn parts_of(row: &Row) -> RowRef<'_>
         meta: &row.rec.meta,
         link: row.rec.link.as_slice(),
         xattrs: row.rec.xattrs.as_slice(),
+        acl: row.rec.acl.as_slice(),
     }
 }
 
@@ -87,8 +90,8 @@ impl Page {
 
     /// Adds a row behind the others, in time in proportion to its bytes.
     ///
-    /// What doesn't fit is answered as want of memory: a row behind 2^32 - 1 others, a link or names of extended attributes of
-    /// more than 65,535 bytes, or bytes behind the first 4 GiB.
+    /// What doesn't fit is answered as want of memory: a row behind 2^32 - 1 others, a link, names of extended attributes or an
+    /// access control list of more than 65,535 bytes, or bytes behind the first 4 GiB.
     pub fn push(&mut self, row: RowRef<'_>) -> Result<(), Memory>
         requires { StandsForSome row }
         ensures pushed { OnOk result ((of : SeenRow) → Stands row.entry of → self.new ≡ self.old ++ of ∷ []) }
@@ -118,6 +121,7 @@ impl Page {
             meta: &packed.meta,
             link: link_at(text, packed.ends),
             xattrs: names_at(text, packed.ends),
+            acl: acl_behind(text, packed.ends),
         };
         (number, row)
     }

@@ -1,10 +1,12 @@
-//! The text of a page: stems, base names, links and names of extended attributes.
+//! The text of a page: stems, base names, links, names of extended attributes and access control lists.
 
 ghost use Rattle.std.specs.Prelude.{◌≡◌, ℕ, ◌+◌, ◌-◌, ◌<◌, ◌≤◌, ◌++◌, true, List, length, All, IfOk, OnOk};
-ghost use Rattle.gufi_page.specs.Packed.{Ascend, GoesOn, HaveBegun, IsIn, IsPut, IsWithin, base_in, bytes_in, end_of, link_in, number_at, stem_in, xattrs_in};
+ghost use Rattle.gufi_page.specs.Packed.{Ascend, GoesOn, HaveBegun, IsIn, IsPut, IsWithin, acl_in, base_in, bytes_in, end_of, link_in, number_at, stem_in, xattrs_in};
 ghost use Rattle.gufi_page.specs.declared.text.Stem.{Stem as SeenStem};
 
-use gufi_base::{Memory, RowRef, put_xattrs, same_bytes, u16_of, u32_of, xattrs_at};
+use gufi_base::{
+    Extras, Memory, RowRef, acl_at, put_extras, same_bytes, u16_of, u32_of, xattrs_at,
+};
 
 /// The bytes of a stem in a text, and the number of the first row that has it. A text has less than 4 GiB.
 #[derive(Clone, Copy)]
@@ -15,13 +17,13 @@ pub struct Stem {
 }
 
 /// Where a base name stands in a text, and the link behind it, by their lengths in bytes; and whether names of extended
-/// attributes stand behind them.
+/// attributes and an access control list stand behind them.
 #[derive(Clone, Copy)]
 pub struct Ends {
     pub at: u32,
-    pub name: u8,
     pub link: u16,
-    pub has_xattrs: bool,
+    pub name: u8,
+    pub extras: Extras,
 }
 
 /// The bytes of a stem.
@@ -53,7 +55,15 @@ pub(crate) fn names_at(text: &[u8], ends: Ends) -> &[u8]
     ensures { result.now ≡ xattrs_in text.now ends }
 {
     let from = ends.at as usize + ends.name as usize + ends.link as usize;
-    xattrs_at(text, from, ends.has_xattrs)
+    xattrs_at(text, from, ends.extras)
+}
+
+pub(crate) fn acl_behind(text: &[u8], ends: Ends) -> &[u8]
+    requires { IsWithin text.now ends }
+    ensures { result.now ≡ acl_in text.now ends }
+{
+    let from = ends.at as usize + ends.name as usize + ends.link as usize;
+    acl_at(text, from, ends.extras)
 }
 
 fn put_stem(text: &mut Vec<u8>, bytes: &[u8], first: u32) -> Result<Stem, Memory>
@@ -82,13 +92,13 @@ fn put_base_and_link(text: &mut Vec<u8>, base: &[u8], link: &[u8]) -> Result<End
     text.extend_from_slice(link)?;
     Ok(Ends {
         at,
-        name: base.len() as u8,
         link: length,
-        has_xattrs: false,
+        name: base.len() as u8,
+        extras: Extras::Neither,
     })
 }
 
-/// Puts a row's base name, its link and its names of extended attributes behind a text.
+/// Puts a row's base name, its link, its names of extended attributes and its access control list behind a text.
 fn put_ends(text: &mut Vec<u8>, row: RowRef<'_>) -> Result<Ends, Memory>
     requires { length row.base.now ≤ 255 }
     ensures grown { (more : List ℕ) × (text.new.items ≡ text.old.items ++ more) }
@@ -96,9 +106,10 @@ fn put_ends(text: &mut Vec<u8>, row: RowRef<'_>) -> Result<Ends, Memory>
     ensures base { IfOk result (λ ends. base_in text.new.items ends ≡ row.entry.base.now) }
     ensures link { IfOk result (λ ends. link_in text.new.items ends ≡ row.entry.link.now) }
     ensures xattrs { IfOk result (λ ends. xattrs_in text.new.items ends ≡ row.entry.xattrs.now) }
+    ensures acl { IfOk result (λ ends. acl_in text.new.items ends ≡ row.entry.acl.now) }
 {
     let mut ends = put_base_and_link(text, row.base, row.link)?;
-    ends.has_xattrs = put_xattrs(text, row.xattrs)?;
+    ends.extras = put_extras(text, row.xattrs, row.acl)?;
     Ok(ends)
 }
 

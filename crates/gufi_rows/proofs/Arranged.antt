@@ -8,6 +8,7 @@ use Rattle.std.proofs.lemmas.List.{length-map, get_or-map, get_or_default, same_
 use Rattle.std.proofs.lemmas.List.Elements.{All-append, All-map, All-nil, All-tail}
 use Rattle.std.proofs.lemmas.List.FromFn.{get_or-range_with_len, length-range_with_len}
 use Rattle.gufi_base.specs.declared.record.Row.{Row}
+use Rattle.gufi_base.specs.declared.extras.Extras.TheVariants.{Neither}
 use Rattle.gufi_rows.specs.declared.kept.Kept.{Kept}
 use Rattle.gufi_rows.specs.declared.spot.Spot.{Spot}
 use Rattle.gufi_rows.specs.declared.stretch.Stretch.{Stretch}
@@ -22,7 +23,7 @@ pub no_spot : Spot
 no_spot = record { stem = record { from = 0; end = 0 }; base = record { from = 0; end = 0 }; follows = false }
 
 pub no_kept : Kept
-no_kept = record { meta = no_row.rec.meta; link = record { from = 0; end = 0 }; xattrs = record { from = 0; end = 0 } }
+no_kept = record { meta = no_row.rec.meta; link = record { from = 0; end = 0 }; extras = Neither }
 
 map-picked : {A B : Type 0} (f : A → B) (xs : List A) (d : A) (e : B) (places : List ℕ) → All (λ k. k < length xs) places → map f (picked xs d places) ≡ picked (map f xs) e places
 map-picked f xs d e [] within = refl

@@ -13,6 +13,7 @@ use Rattle.gufi_rows.specs.declared.spot.Span.{Span}
 use Rattle.gufi_rows.specs.declared.spot.Spot.{Spot}
 use Rattle.gufi_base.specs.Paths.{Components, path_cmp}
 use Rattle.gufi_base.specs.PathParts.{path_of_parts}
+use Rattle.gufi_base.proofs.KeptExtras.{kept_acl-behind, kept_size-behind, kept_xattrs-behind}
 use Rattle.gufi_rows.specs.PathLists.{AreSpots, Follow, Grows, IsSpan, IsSpot, SpotFitsBehind, bytes_in, path_in, paths_in, span_behind, spot_behind}
 use Rattle.gufi_rows.specs.RowLists.{AreRecords, IsKept, kept_behind, rec_in, rows_in}
 use Rattle.gufi_rows.proofs.PathLists.{AreSpots-grows, paths_in-grows}
@@ -115,7 +116,16 @@ rows_in-both links (path ∷ paths) others (kept ∷ records) also e =
     ap (λ l. row ∷ l) (rows_in-both links paths others records also (omega (arith, e)))
 
 rec_in-behind : (links more : List ℕ) (kept : Kept) → rec_in (links ++ more) (kept_behind (length links) kept) ≡ rec_in more kept
-rec_in-behind links more kept = λ i. record { meta = kept.meta; link = bytes_in-behind links more kept.link i; xattrs = bytes_in-behind links more kept.xattrs i }
+rec_in-behind links more kept = λ i. record {
+  meta = kept.meta;
+  link = bytes_in-behind links more kept.link i;
+  xattrs = kept_xattrs-behind links more kept.link.end kept.extras i;
+  acl = kept_acl-behind links more kept.link.end kept.extras i;
+}
+
+IsKept-behind : (links more : List ℕ) (kept : Kept) → IsKept more kept → IsKept (links ++ more) (kept_behind (length links) kept)
+IsKept-behind links more kept is =
+    (IsSpan-behind links more kept.link is.0, omega (arith, is.1, length-append links more, kept_size-behind links more kept.link.end kept.extras))
 
 rows_in-behind : (links more : List ℕ) (paths : List Components) (records : List Kept) → rows_in (links ++ more) paths (map (kept_behind (length links)) records) ≡ rows_in more paths records
 rows_in-behind links more [] records = refl
@@ -132,7 +142,7 @@ module _ (links more : List ℕ) (paths others : List Components) (records also 
     each = All-append (IsKept (links ++ more)) records (map (kept_behind (length links)) also)
         (λ k d h. IsKept-grows links (links ++ more) (get_or records k d) (more, refl) (are.each k d h))
         (All-map (IsKept (links ++ more)) (kept_behind (length links)) also
-        (λ k d h. let is = too.each k d h in (IsSpan-behind links more (get_or also k d).link is.0, IsSpan-behind links more (get_or also k d).xattrs is.1)));
+        (λ k d h. IsKept-behind links more (get_or also k d) (too.each k d h)));
   }
 
   pub rows_in-append : rows_in (links ++ more) (paths ++ others) (records ++ map (kept_behind (length links)) also) ≡ rows_in links paths records ++ rows_in more others also

@@ -12,25 +12,40 @@ use Rattle.gufi_base.specs.declared.record.Rec.{Rec}
 use Rattle.gufi_base.specs.declared.record.Row.{Row}
 use Rattle.gufi_base.specs.declared.record.RowRef.{RowRef}
 use Rattle.gufi_rows.specs.declared.kept.Kept.{Kept}
+use Rattle.gufi_base.specs.declared.extras.Extras.{Extras}
 use Rattle.gufi_base.specs.Basics.{ascends}
+use Rattle.gufi_base.specs.Extras.{AreKept, kept_acl, kept_xattrs}
 use Rattle.gufi_base.specs.Paths.{Components}
 use Rattle.gufi_base.specs.Rows.{Stands, row_cmp}
 use Rattle.gufi_base.specs.PathParts.{ArePartsOf}
 use Rattle.gufi_rows.specs.PathLists.{Grows, InOrder, picked}
 use Rattle.gufi_rows.specs.RowLists.{AreRecords, IsKept, no_row, rec_in, rows_in}
+use Rattle.gufi_base.proofs.KeptExtras.{kept_acl-more, kept_size-more, kept_xattrs-more}
 use Rattle.gufi_base.proofs.Prefixes.{rows_total}
 use Rattle.gufi_base.proofs.SortedOnce.{same_from_sorted}
 use Rattle.gufi_rows.proofs.Spots.{IsSpan-grows, bytes_in-grows}
 
+-- links that grow keep what stands behind them
+pub AreKept-grows : (links next : List ℕ) (at : ℕ) (extras : Extras) → Grows links next → AreKept links at extras → AreKept next at extras
+AreKept-grows links next at extras g kept =
+    subst (λ t. AreKept t at extras) (sym g.1) (omega (arith, kept, length-append links g.0, kept_size-more links g.0 at extras kept))
+
+pub kept_xattrs-grows : (links next : List ℕ) (at : ℕ) (extras : Extras) → Grows links next → AreKept links at extras → kept_xattrs next at extras ≡ kept_xattrs links at extras
+kept_xattrs-grows links next at extras g kept = ap (λ t. kept_xattrs t at extras) g.1 ∙ kept_xattrs-more links g.0 at extras kept
+
+pub kept_acl-grows : (links next : List ℕ) (at : ℕ) (extras : Extras) → Grows links next → AreKept links at extras → kept_acl next at extras ≡ kept_acl links at extras
+kept_acl-grows links next at extras g kept = ap (λ t. kept_acl t at extras) g.1 ∙ kept_acl-more links g.0 at extras kept
+
 -- links that grow keep the rows
 pub IsKept-grows : (links next : List ℕ) (kept : Kept) → Grows links next → IsKept links kept → IsKept next kept
-IsKept-grows links next kept g is = (IsSpan-grows links next kept.link g is.0, IsSpan-grows links next kept.xattrs g is.1)
+IsKept-grows links next kept g is = (IsSpan-grows links next kept.link g is.0, AreKept-grows links next kept.link.end kept.extras g is.1)
 
 rec_in-grows : (links next : List ℕ) (kept : Kept) → Grows links next → IsKept links kept → rec_in next kept ≡ rec_in links kept
 rec_in-grows links next kept g is = λ i. record {
   meta = kept.meta;
   link = bytes_in-grows links next kept.link g is.0 i;
-  xattrs = bytes_in-grows links next kept.xattrs g is.1 i;
+  xattrs = kept_xattrs-grows links next kept.link.end kept.extras g is.1 i;
+  acl = kept_acl-grows links next kept.link.end kept.extras g is.1 i;
 }
 
 pub AreRecords-grows : (links next : List ℕ) (paths : List Components) (records : List Kept) → Grows links next → AreRecords links paths records → AreRecords next paths records
@@ -84,8 +99,8 @@ path_in_rows links (p ∷ paths) (x ∷ records) zero e = refl
 path_in_rows links (p ∷ paths) (x ∷ records) (suc k) e = path_in_rows links paths records k (omega (arith, e))
 
 pub Stands-row : (ref : RowRef) (path : Components) (rec : Rec) → ArePartsOf ref.stem.now ref.base.now path → ref.meta.now ≡ rec.meta → ref.link.now ≡ rec.link → ref.xattrs.now ≡ rec.xattrs
-    → Stands ref (record { path = path; rec = rec })
-Stands-row ref path rec parts meta link xattrs = record { names = parts.names; stem = parts.stem; base = parts.base; meta = meta; link = link; xattrs = xattrs }
+    → ref.acl.now ≡ rec.acl → Stands ref (record { path = path; rec = rec })
+Stands-row ref path rec parts meta link xattrs acl = record { names = parts.names; stem = parts.stem; base = parts.base; meta = meta; link = link; xattrs = xattrs; acl = acl }
 
 pub places_in_range : (n : ℕ) (places : List ℕ) → IsPermutation (range_with_len 0 n) places → All (λ k. k < n) places
 places_in_range n places h =

@@ -1,12 +1,13 @@
-//! Records whose links and names of extended attributes stand in a text.
+//! Records whose links, names of extended attributes and access control lists stand in a text.
 
 use crate::spot::Span;
-use gufi_base::Meta;
+use gufi_base::{Extras, Meta};
 
-/// A record, and where its link and its names of extended attributes stand.
+/// A record, and where its link stands. Its names of extended attributes and its access control list stand right behind the link,
+/// where there are any. By its fields it has 96 bytes.
 #[derive(Clone, Copy)]
 pub struct Kept {
     pub meta: Meta,
     pub link: Span,
-    pub xattrs: Span,
+    pub extras: Extras,
 }

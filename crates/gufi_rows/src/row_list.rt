@@ -16,7 +16,7 @@ use crate::kept_paths::KeptPaths;
 use crate::path_order::{are_in_order, arranged, merged, order};
 use crate::spot::{Parts, bytes_at, put, put_text, span_behind};
 use crate::stretch::Stretch;
-use gufi_base::{Bytes, Memory, Path, Rec, Row, RowRef, Yield};
+use gufi_base::{Bytes, Memory, Path, Rec, Row, RowRef, Yield, acl_at, put_extras, xattrs_at};
 use std::alloc::Global;
 use std::marker::Model;
 
@@ -49,23 +49,29 @@ fn owned(alloc: Global, row: RowRef<'_>) -> Result<Row, Memory>
     let path = Path::of_parts(alloc, row.stem, row.base)?;
     let link = Bytes::from_slice(alloc, row.link)?;
     let xattrs = Bytes::from_slice(alloc, row.xattrs)?;
+    let acl = Bytes::from_slice(alloc, row.acl)?;
     let meta = *row.meta;
     Ok(Row {
         path,
-        rec: Rec { meta, link, xattrs },
+        rec: Rec {
+            link,
+            xattrs,
+            acl,
+            meta,
+        },
     })
 }
 
-/// Puts a row's link and its names of extended attributes behind a text.
+/// Puts a row's link behind a text, and its names of extended attributes and its access control list right behind that.
 fn keep(links: &mut Vec<u8>, row: RowRef<'_>) -> Result<Kept, Memory>
     ensures grown { Grows links.old.items links.new.items }
     ensures within { IfOk result (IsKept links.new.items) }
     ensures kept { IfOk result (λ kept. (of : SeenRow) → Stands row.entry of → rec_in links.new.items kept ≡ of.rec) }
 {
     let link = put(links, row.link)?;
-    let xattrs = put(links, row.xattrs)?;
+    let extras = put_extras(links, row.xattrs, row.acl)?;
     let meta = *row.meta;
-    Ok(Kept { meta, link, xattrs })
+    Ok(Kept { meta, link, extras })
 }
 
 /// Puts the records of another text behind others.
@@ -78,8 +84,8 @@ fn put_records(records: &mut Vec<Kept>, more: &[Kept], by: u32) -> Result<(), Me
     for kept in more {
         let meta = kept.meta;
         let link = span_behind(kept.link, by);
-        let xattrs = span_behind(kept.xattrs, by);
-        records.push(Kept { meta, link, xattrs })?;
+        let extras = kept.extras;
+        records.push(Kept { meta, link, extras })?;
     }
     Ok(())
 }
@@ -129,12 +135,15 @@ impl RowList {
     {
         let parts = self.paths.parts_at(place);
         let kept = &self.records[place];
+        let links = self.links.as_slice();
+        let behind = kept.link.end as usize;
         RowRef {
             stem: parts.stem,
             base: parts.base,
             meta: &kept.meta,
-            link: bytes_at(self.links.as_slice(), kept.link),
-            xattrs: bytes_at(self.links.as_slice(), kept.xattrs),
+            link: bytes_at(links, kept.link),
+            xattrs: xattrs_at(links, behind, kept.extras),
+            acl: acl_at(links, behind, kept.extras),
         }
     }
 

@@ -19,6 +19,7 @@ pub fn parts_of(row: &Row) -> RowRef<'_>
         meta: &row.rec.meta,
         link: row.rec.link.as_slice(),
         xattrs: row.rec.xattrs.as_slice(),
+        acl: row.rec.acl.as_slice(),
     }
 }
 

@@ -47,6 +47,7 @@ pub(crate) fn put(text: &mut Vec<u8>, bytes: &[u8]) -> Result<Span, Memory>
     ensures within { IfOk result (IsSpan text.new.items) }
     ensures bytes { IfOk result (λ span. bytes_in text.new.items span ≡ bytes.now) }
     ensures place { IfOk result (λ span. span.from ≡ length text.old.items) }
+    ensures end { IfOk result (λ span. span.end ≡ length text.new.items) }
     ensures put { OnOk result (text.new.items ≡ text.old.items ++ bytes.now) }
     ensures room { OnOk result (length text.new.items < 2 ^ 32) }
 {

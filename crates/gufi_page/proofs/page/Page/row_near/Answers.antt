@@ -1,6 +1,6 @@
 use Rattle.std.proofs.Common.{◌≡◌, ◌∙◌, length, refl, sym, ap, subst, arith}
 use Rattle.std.proofs.lemmas.List.{get_or_default}
-use Rattle.gufi_page.specs.Packed.{IsIn, IsWithin, base_in, bytes_in, link_in, no_stem, number_at, stem_in, xattrs_in}
+use Rattle.gufi_page.specs.Packed.{IsIn, IsWithin, acl_in, base_in, bytes_in, link_in, no_stem, number_at, stem_in, xattrs_in}
 use Rattle.gufi_page.proofs.Pages.{length-rows_in, IsRow-at, Stands-at}
 use Rattle.gufi_page.proofs.page.Page.row_near.Goals as goal
 
@@ -42,6 +42,12 @@ names_at-requires c =
     let row = IsRow-at s.text.items s.stems.items s.rows.items c.args.self.now c.args.place c.index-packed.result.now c.self.invariant c.self.view_is c.requires c.index-packed.ensures in
     subst (λ t. IsWithin t c.index-packed.result.now.ends) (sym c.as_slice-text.ensures.value) row.within
 
+pub acl_behind-requires : goal.acl_behind-requires
+acl_behind-requires c =
+    let s = c.self.inside in
+    let row = IsRow-at s.text.items s.stems.items s.rows.items c.args.self.now c.args.place c.index-packed.result.now c.self.invariant c.self.view_is c.requires c.index-packed.ensures in
+    subst (λ t. IsWithin t c.index-packed.result.now.ends) (sym c.as_slice-text.ensures.value) row.within
+
 pub returns : goal.returns
 returns c =
     let s = c.self.inside in
@@ -56,4 +62,4 @@ returns c =
     Stands-at text stems s.rows.items c.args.self.now c.args.place packed c.self.invariant c.self.view_is c.requires c.index-packed.ensures _
     (c.bytes_at.ensures ∙ ap (λ t. bytes_in t stem) there ∙ ap (bytes_in text) (c.index.ensures ∙ get_or_default stems n stem no_stem (omega (arith, number, row.stem))) ∙ ap (stem_in text stems) number)
     (c.base_at.ensures ∙ ap (λ t. base_in t packed.ends) there) refl (c.link_at.ensures ∙ ap (λ t. link_in t packed.ends) there)
-    (c.names_at.ensures ∙ ap (λ t. xattrs_in t packed.ends) there)
+    (c.names_at.ensures ∙ ap (λ t. xattrs_in t packed.ends) there) (c.acl_behind.ensures ∙ ap (λ t. acl_in t packed.ends) there)
