@@ -1,10 +1,31 @@
 //! Tables of classes and of covers, worked by hand.
-use gufi_access::{Class, GroupList, Guard, Principal, class_of, covers, granted, lists};
+use gufi_access::{Class, GroupList, Guard, Principal, acl_ok, class_of, covers, granted, lists};
+use gufi_acl::{AclFault, put_acl, read_acl};
+use gufi_base::put_u64;
+use std::alloc::Global;
 use std::test::Fail;
 
-fn guard(uid: u32, gid: u32, mode: u16) -> Guard {
-    Guard { uid, gid, mode }
+fn guarded(uid: u32, gid: u32, mode: u16, acl: &[u8]) -> Guard<'_> {
+    Guard {
+        uid,
+        gid,
+        mode,
+        acl,
+    }
 }
+
+fn guard(uid: u32, gid: u32, mode: u16) -> Guard<'static> {
+    guarded(uid, gid, mode, b"")
+}
+
+/// user::rw-,user:102:rwx,user:103:---,group::r-x,group:500:r--,group:600:--x,mask::r-x,other::rwx
+const LIST: &[u8] = b"\0\x06\0\0\0\0\x01\x07\x66\0\0\0\x01\0\x67\0\0\0\x02\x05\0\0\0\0\x03\x04\xf4\x01\0\0\x03\x01\x58\x02\0\0\x04\x05\0\0\0\0\x05\x07\0\0\0\0";
+
+const LIST_TEXT: &[u8] = b"acl/user::rw-,user:102:rwx,user:103:---,group::r-x,group:500:r--,group:600:--x,mask::r-x,other::rwx";
+
+/// user::rwx,group::---,group:500:r-x,mask::r-x,other::---
+const ONE_GROUP: &[u8] =
+    b"\0\x07\0\0\0\0\x02\0\0\0\0\0\x03\x05\xf4\x01\0\0\x04\x05\0\0\0\0\x05\0\0\0\0\0";
 
 #[test]
 fn which_directory_covers_which(rt: HostRuntime) {
@@ -17,6 +38,95 @@ fn which_directory_covers_which(rt: HostRuntime) {
     ] {
         assert_eq!(rt; covers(&d, &c), answer);
     }
+}
+
+// Only two groups, one of each, tell that the first doesn't cover the second.
+#[test]
+fn which_list_covers_which(rt: HostRuntime) {
+    let top = guarded(101, 100, 0o750, ONE_GROUP);
+    for (d, c, answer) in [
+        (top, guard(101, 600, 0o705), false),
+        (top, guard(101, 600, 0o755), true),
+        (top, guard(101, 500, 0o750), true),
+        (top, top, true),
+        (top, guarded(102, 100, 0o750, ONE_GROUP), false),
+        (guard(101, 500, 0o750), top, true),
+        (guard(101, 600, 0o750), top, false),
+        (top, guarded(101, 100, 0o750, LIST), false),
+    ] {
+        assert_eq!(rt; covers(&d, &c), answer);
+    }
+}
+
+// By the order of POSIX.1e: the owner, a named user, the groups, the others. One entry alone grants; the owner and the others aren't masked.
+#[test]
+fn one_entry_of_a_list_decides(rt: HostRuntime) -> Result<(), Fail> {
+    let of = guarded(101, 100, 0o640, LIST);
+    for (uid, first, second, class, want, answer) in [
+        (101, 100, 7, Class::Owner, 2, true),
+        (101, 100, 7, Class::Owner, 1, false),
+        (102, 7, 8, Class::Group, 5, true),
+        (102, 7, 8, Class::Group, 2, false),
+        (103, 100, 8, Class::Group, 4, false),
+        (104, 100, 8, Class::Group, 5, true),
+        (104, 500, 8, Class::Group, 4, true),
+        (104, 500, 8, Class::Group, 1, false),
+        (104, 500, 600, Class::Group, 1, true),
+        (104, 500, 600, Class::Group, 5, false),
+        (104, 7, 8, Class::Other, 7, true),
+        (0, 7, 8, Class::Other, 7, true),
+    ] {
+        let who = Principal {
+            uid,
+            groups: GroupList::of(vec![in rt.alloc(); first, second]?),
+        };
+        assert!(rt; class_of(&who, &of) == class);
+        assert_eq!(rt; granted(&who, &of, want), answer);
+        assert_eq!(rt; lists(&who, &of), granted(&who, &of, 5));
+    }
+    Ok(())
+}
+
+#[test]
+fn lists_are_read_and_put(rt: HostRuntime) -> Result<(), Fail> {
+    let alloc = rt.alloc();
+    assert!(rt; acl_ok(LIST) && acl_ok(ONE_GROUP));
+    assert!(rt; !acl_ok(b"") && !acl_ok(LIST.split_at(42.min(LIST.len())).0));
+    assert!(rt; read_acl(alloc, LIST_TEXT)?.as_slice() == LIST);
+    let mut text = Vec::new(alloc);
+    put_acl(&mut text, LIST)?;
+    assert_eq!(rt; text.as_slice(), LIST_TEXT);
+    assert!(rt; read_acl(alloc, b"")?.as_slice() == b"");
+    Ok(())
+}
+
+/// A list of so many named users.
+fn with_users(alloc: Global, count: u32) -> Result<Vec<u8>, Fail> {
+    let mut text = b"acl/u::r--,g::r--,m::r--,o::r--".to_vec(alloc)?;
+    for uid in 0..count {
+        text.extend_from_slice(b",u:")?;
+        put_u64(&mut text, u64::from(uid))?;
+        text.extend_from_slice(b":r--")?;
+    }
+    Ok(text)
+}
+
+#[test]
+fn at_most_32_are_named(rt: HostRuntime) -> Result<(), Fail> {
+    let alloc = rt.alloc();
+    let most = with_users(alloc, 32)?;
+    assert!(rt; read_acl(alloc, most.as_slice()).is_ok());
+    let mut more = with_users(alloc, 33)?;
+    assert_eq!(rt;
+        read_acl(alloc, more.as_slice()).err(),
+        Some(AclFault::TooManyEntries)
+    );
+    more.extend_from_slice(b",u:07:r--")?;
+    assert_eq!(rt;
+        read_acl(alloc, more.as_slice()).err(),
+        Some(AclFault::BadAcl)
+    );
+    Ok(())
 }
 
 #[test]

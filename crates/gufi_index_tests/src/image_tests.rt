@@ -30,6 +30,14 @@ fn named_image() -> &'static [u8] {
     b"GUFIX\0\x02\0\0\0\0\0\0\0\0\0\x01\0\0\0\0\0\0\0\xff\xff\xff\xff\0\0\x01\0\0\0\0\0\0\0\xed\x01\x02\0\0\0\0\0\0\0\x65\0\0\0\x64\0\0\0\0\x10\0\0\0\0\0\0\0\x10\0\0\0\0\0\0\x08\0\0\0\0\0\0\0\x0a\0\0\0\0\0\0\0\x14\0\0\0\0\0\0\0\x1e\0\0\0\0\0\0\0\0\0\x06\0user.k\0\0\0\0"
 }
 
+const GUARDED_ROOT: &[u8] = b"/|d|1|493|2|101|100|4096|4096|8|10|20|30|||acl/user::rwx,user:102:r-x,group::---,mask::r-x,other::---
+";
+
+/// The 144 bytes of the image of a root alone that has an access control list, of 30 bytes.
+fn guarded_image() -> &'static [u8] {
+    b"GUFIX\0\x03\0\0\0\0\0\0\0\0\0\x01\0\0\0\0\0\0\0\xff\xff\xff\xff\0\0\x01\0\0\0\0\0\0\0\xed\x01\x02\0\0\0\0\0\0\0\x65\0\0\0\x64\0\0\0\0\x10\0\0\0\0\0\0\0\x10\0\0\0\0\0\0\x08\0\0\0\0\0\0\0\x0a\0\0\0\0\0\0\0\x14\0\0\0\0\0\0\0\x1e\0\0\0\0\0\0\0\0\0\0\0\x1e\0\0\x07\0\0\0\0\x01\x05\x66\0\0\0\x02\0\0\0\0\0\x04\x05\0\0\0\0\x05\0\0\0\0\0\0\0\0\0"
+}
+
 /// The image of a root alone, with two bytes more behind its link, as for the length of names.
 fn widened(alloc: Global) -> Result<Vec<u8>, Fail> {
     let image = lone_image();
@@ -129,6 +137,8 @@ fn an_image_is_written_byte_for_byte(rt: HostRuntime) -> Result<(), Fail> {
     assert!(rt; image.as_slice() == lone_image());
     let named = write_image(alloc, &snapshot_of(alloc, NAMED_ROOT, 0)?)?;
     assert!(rt; named.as_slice() == named_image());
+    let guarded = write_image(alloc, &snapshot_of(alloc, GUARDED_ROOT, 0)?)?;
+    assert!(rt; guarded.as_slice() == guarded_image());
     Ok(())
 }
 
@@ -137,6 +147,7 @@ fn what_is_read_is_written_again(rt: HostRuntime) -> Result<(), Fail> {
     let alloc = rt.alloc();
     assert!(rt; dirs_again(alloc, lone_image())? == Some(1));
     assert!(rt; dirs_again(alloc, named_image())? == Some(1));
+    assert!(rt; dirs_again(alloc, guarded_image())? == Some(1));
     let folded = write_image(alloc, &with_a_fold(alloc)?)?;
     assert!(rt; dirs_again(alloc, folded.as_slice())? == Some(2));
     assert!(rt;
@@ -190,6 +201,21 @@ fn the_least_version_and_sound_names_are_asked(rt: HostRuntime) -> Result<(), Fa
         changed(108, b',', 106, ImageKind::Name),
     ]?;
     assert!(rt; not_found(alloc, named_image(), cases.as_slice())? == None);
+    Ok(())
+}
+
+#[test]
+fn sound_lists_are_asked(rt: HostRuntime) -> Result<(), Fail> {
+    let alloc = rt.alloc();
+    let cases = vec![in alloc;
+        changed(6, 4, 6, ImageKind::Magic),
+        changed(108, 0, 110, ImageKind::Number),
+        changed(108, 7, 108, ImageKind::Number),
+        changed(109, 1, 110, ImageKind::Cut),
+        changed(110, 1, 108, ImageKind::Number),
+        changed(128, 3, 108, ImageKind::Number),
+    ]?;
+    assert!(rt; not_found(alloc, guarded_image(), cases.as_slice())? == None);
     Ok(())
 }
 

@@ -108,6 +108,14 @@ fn each_fault_is_named_by_its_line(rt: HostRuntime) -> Result<(), Fail> {
             "2 BadXattr",
         ),
         (
+            "/r/a|f|2|420|1|101|100|0|4096|0|10|20|30||xattrs/\0|acl/\n",
+            "2 BadXattr",
+        ),
+        (
+            "/a|f|2|420|1|101|100|0|4096|0|10|20|30|||acl/u::r--,g::r--\n",
+            "2 BadAcl",
+        ),
+        (
             "/a|f|2|420|1|101|100|0|4096|0|10|20|30|\n",
             "2 NotUnderRoot",
         ),
@@ -223,6 +231,30 @@ fn names_of_attributes_are_written_joined(rt: HostRuntime) -> Result<(), Fail> {
         rewritten(alloc, given, b"/", b',').err(),
         Some(WriteTraceFault::DelimUsed)
     );
+    Ok(())
+}
+
+/// A root whose list names a user.
+const Z: &[u8] = b"/r|d|1|488|2|101|100|4096|4096|8|10|20|30|||acl/user::rwx,user:102:r-x,group::---,mask::r-x,other::---\n";
+
+#[test]
+fn access_control_lists_are_written_in_whole_words(rt: HostRuntime) -> Result<(), Fail> {
+    let alloc = rt.alloc();
+    assert_eq!(rt; rewritten(alloc, Z, b"/r", b'|')?.as_slice(), Z);
+    let short = b"/r|d|1|488|2|101|100|4096|4096|8|10|20|30|||acl/o::---,u:0102:r-x,m::r-x,u::rwx,g::---|more\n";
+    assert_eq!(rt; rewritten(alloc, short, b"/r", b'|')?.as_slice(), Z);
+    let other = b"/r|d|1|488|2|101|100|4096|4096|8|10|20|30|||user::rwx\n";
+    let plain = b"/r|d|1|488|2|101|100|4096|4096|8|10|20|30|\n";
+    assert_eq!(rt;
+        rewritten(alloc, other, b"/r", b'|')?.as_slice(),
+        plain.as_slice()
+    );
+    for delim in [b':', b','] {
+        assert_eq!(rt;
+            rewritten(alloc, Z, b"/r", delim).err(),
+            Some(WriteTraceFault::DelimUsed)
+        );
+    }
     Ok(())
 }
 
