@@ -27,12 +27,7 @@ impl<'a> Model for RecRef<'a> {
 impl<'a> RecRef<'a> {
     /// The record of these parts.
     #[inline]
-    pub fn of(
-        meta: &'a Meta,
-        link: &'a [u8],
-        xattrs: &'a [u8],
-        acl: &'a [u8],
-    ) -> RecRef<'a>
+    pub fn of(meta: &'a Meta, link: &'a [u8], xattrs: &'a [u8], acl: &'a [u8]) -> RecRef<'a>
         ensures { result ≡ record { link = link.now; xattrs = xattrs.now; acl = acl.now; meta = meta.now } }
     {
         RecRef {

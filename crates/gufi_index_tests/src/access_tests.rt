@@ -19,9 +19,11 @@ fn guard(uid: u32, gid: u32, mode: u16) -> Guard<'static> {
 }
 
 /// user::rw-,user:102:rwx,user:103:---,group::r-x,group:500:r--,group:600:--x,mask::r-x,other::rwx
-const LIST: &[u8] = b"\0\x06\0\0\0\0\x01\x07\x66\0\0\0\x01\0\x67\0\0\0\x02\x05\0\0\0\0\x03\x04\xf4\x01\0\0\x03\x01\x58\x02\0\0\x04\x05\0\0\0\0\x05\x07\0\0\0\0";
+const LIST: &[u8] =
+    b"\0\x06\0\0\0\0\x01\x07\x66\0\0\0\x01\0\x67\0\0\0\x02\x05\0\0\0\0\x03\x04\xf4\x01\0\0\x03\x01\x58\x02\0\0\x04\x05\0\0\0\0\x05\x07\0\0\0\0";
 
-const LIST_TEXT: &[u8] = b"acl/user::rw-,user:102:rwx,user:103:---,group::r-x,group:500:r--,group:600:--x,mask::r-x,other::rwx";
+const LIST_TEXT: &[u8] =
+    b"acl/user::rw-,user:102:rwx,user:103:---,group::r-x,group:500:r--,group:600:--x,mask::r-x,other::rwx";
 
 /// user::rwx,group::---,group:500:r-x,mask::r-x,other::---
 const ONE_GROUP: &[u8] =

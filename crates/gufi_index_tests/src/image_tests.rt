@@ -30,7 +30,8 @@ fn named_image() -> &'static [u8] {
     b"GUFIX\0\x02\0\0\0\0\0\0\0\0\0\x01\0\0\0\0\0\0\0\xff\xff\xff\xff\0\0\x01\0\0\0\0\0\0\0\xed\x01\x02\0\0\0\0\0\0\0\x65\0\0\0\x64\0\0\0\0\x10\0\0\0\0\0\0\0\x10\0\0\0\0\0\0\x08\0\0\0\0\0\0\0\x0a\0\0\0\0\0\0\0\x14\0\0\0\0\0\0\0\x1e\0\0\0\0\0\0\0\0\0\x06\0user.k\0\0\0\0"
 }
 
-const GUARDED_ROOT: &[u8] = b"/|d|1|493|2|101|100|4096|4096|8|10|20|30|||acl/user::rwx,user:102:r-x,group::---,mask::r-x,other::---
+const GUARDED_ROOT: &[u8] =
+    b"/|d|1|493|2|101|100|4096|4096|8|10|20|30|||acl/user::rwx,user:102:r-x,group::---,mask::r-x,other::---
 ";
 
 /// The 144 bytes of the image of a root alone that has an access control list, of 30 bytes.

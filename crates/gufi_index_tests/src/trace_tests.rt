@@ -235,13 +235,15 @@ fn names_of_attributes_are_written_joined(rt: HostRuntime) -> Result<(), Fail> {
 }
 
 /// A root whose list names a user.
-const Z: &[u8] = b"/r|d|1|488|2|101|100|4096|4096|8|10|20|30|||acl/user::rwx,user:102:r-x,group::---,mask::r-x,other::---\n";
+const Z: &[u8] =
+    b"/r|d|1|488|2|101|100|4096|4096|8|10|20|30|||acl/user::rwx,user:102:r-x,group::---,mask::r-x,other::---\n";
 
 #[test]
 fn access_control_lists_are_written_in_whole_words(rt: HostRuntime) -> Result<(), Fail> {
     let alloc = rt.alloc();
     assert_eq!(rt; rewritten(alloc, Z, b"/r", b'|')?.as_slice(), Z);
-    let short = b"/r|d|1|488|2|101|100|4096|4096|8|10|20|30|||acl/o::---,u:0102:r-x,m::r-x,u::rwx,g::---|more\n";
+    let short =
+        b"/r|d|1|488|2|101|100|4096|4096|8|10|20|30|||acl/o::---,u:0102:r-x,m::r-x,u::rwx,g::---|more\n";
     assert_eq!(rt; rewritten(alloc, short, b"/r", b'|')?.as_slice(), Z);
     let other = b"/r|d|1|488|2|101|100|4096|4096|8|10|20|30|||user::rwx\n";
     let plain = b"/r|d|1|488|2|101|100|4096|4096|8|10|20|30|\n";

@@ -4,10 +4,12 @@ use std::alloc::{AllocError, Global};
 use std::test::Fail;
 
 /// A root that its owner, the user 102 and nobody else may list.
-const Z: &[u8] = b"/r|d|1|488|2|101|100|4096|4096|8|10|20|30|||acl/user::rwx,user:102:r-x,group::---,mask::r-x,other::---\n";
+const Z: &[u8] =
+    b"/r|d|1|488|2|101|100|4096|4096|8|10|20|30|||acl/user::rwx,user:102:r-x,group::---,mask::r-x,other::---\n";
 
 /// A root that its owner and the group 500 may list, and a directory that all but the members of the group 600 may.
-const Q: &[u8] = b"/r|d|1|488|3|101|100|4096|4096|8|10|20|30|||acl/user::rwx,group::---,group:500:r-x,mask::r-x,other::---
+const Q: &[u8] =
+    b"/r|d|1|488|3|101|100|4096|4096|8|10|20|30|||acl/user::rwx,group::---,group:500:r-x,mask::r-x,other::---
 /r/c|d|2|453|2|101|600|4096|4096|8|10|20|30|
 ";
 
@@ -15,10 +17,23 @@ const Q: &[u8] = b"/r|d|1|488|3|101|100|4096|4096|8|10|20|30|||acl/user::rwx,gro
 fn a_named_user_lists(rt: HostRuntime) -> Result<(), Fail> {
     for (user, groups, status, text, note) in [
         ("102", "-", 0, b"/\n".as_slice(), b"".as_slice()),
-        ("103", "100", 1, b"", b"gufi: denied at depth 0 class group\n"),
+        (
+            "103",
+            "100",
+            1,
+            b"",
+            b"gufi: denied at depth 0 class group\n",
+        ),
         ("103", "-", 1, b"", b"gufi: denied at depth 0 class other\n"),
     ] {
-        check_run(&rt, Z, &["walk", "t", user, groups, "|"], status, text, note)?;
+        check_run(
+            &rt,
+            Z,
+            &["walk", "t", user, groups, "|"],
+            status,
+            text,
+            note,
+        )?;
     }
     Ok(())
 }
@@ -30,12 +45,27 @@ fn two_groups_tell_more_than_one(rt: HostRuntime) -> Result<(), Fail> {
         check_run(&rt, Q, &["walk", "t", "102", groups, "|"], 0, text, b"")?;
     }
     let text = b"rolled 1 of 2 tops 1 rows 1\n";
-    check_run(&rt, Q, &["rollup", "--delim=|", "--limit=100", "t"], 0, text, b"")
+    check_run(
+        &rt,
+        Q,
+        &["rollup", "--delim=|", "--limit=100", "t"],
+        0,
+        text,
+        b"",
+    )
 }
 
 #[test]
 fn a_list_without_its_mask_is_told_by_line(rt: HostRuntime) -> Result<(), Fail> {
-    let trace = b"/r|d|1|488|2|101|100|4096|4096|8|10|20|30|||acl/user::rwx,user:102:r-x,group::---,other::---\n";
+    let trace =
+        b"/r|d|1|488|2|101|100|4096|4096|8|10|20|30|||acl/user::rwx,user:102:r-x,group::---,other::---\n";
     let note = b"gufi: t line 1 BadAcl\n";
-    check_run(&rt, trace.as_slice(), &["walk", "t", "102", "-", "|"], 5, b"", note)
+    check_run(
+        &rt,
+        trace.as_slice(),
+        &["walk", "t", "102", "-", "|"],
+        5,
+        b"",
+        note,
+    )
 }

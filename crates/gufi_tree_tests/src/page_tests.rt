@@ -62,7 +62,13 @@ fn the_longest_names_and_link_come_back(rt: HostRuntime) -> Result<(), Fail> {
     let rows = vec![in alloc;
         link_row(alloc, name.as_slice(), b"", b"user.a,user.b", b"")?,
         link_row(alloc, b"/o", b"", b"", b"rights")?,
-        link_row(alloc, b"/p", target.as_slice(), names.as_slice(), list.as_slice())?,
+        link_row(
+            alloc,
+            b"/p",
+            target.as_slice(),
+            names.as_slice(),
+            list.as_slice()
+        )?,
     ]?;
     let page = pack(alloc, rows.as_slice())?;
     let mut expected = Vec::new(alloc);
