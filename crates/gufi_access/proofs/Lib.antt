@@ -1,3 +1,11 @@
 pub mod AccessLemmas
+pub mod AnyLemmas
+pub mod CoverLemmas
+pub mod EntryLemmas
+pub mod Grouped
 pub mod Indexed
+pub mod Linked
+pub mod NamedLemmas
+pub mod NamesLemmas
+pub mod Ruled
 pub mod Suffice

@@ -3,12 +3,17 @@ use Rattle.std.specs.Prelude.{ℕ, ◌+◌, ◌%◌, Bool, true, ◌==◌, ◌&&
 use Rattle.std.specs.Int.{from_le_bytes, w32}
 use Rattle.std.specs.List.{list_all}
 use Rattle.gufi_access.specs.declared.acl.Entry.{Entry}
+use Rattle.gufi_access.specs.declared.acl.Entries.{Entries}
 
 -- Each entry has a tag, its bits, and a user or group ID from its lowest byte. The tags are 0 the owner, 1 a named user, 2 the owning group, 3 a named
 -- group, 4 the mask, 5 the others.
 unfoldable pub entries : List ℕ → List Entry
 entries (tag ∷ bits ∷ a ∷ b ∷ c ∷ d ∷ rest) = record { tag = tag; bits = bits; id = from_le_bytes w32 (a ∷ b ∷ c ∷ d ∷ []) } ∷ entries rest
 entries _ = []
+
+-- the entries that an iterator has left
+abbrev pub entries_left : Entries → List Entry
+entries_left s = entries s.rest.now
 
 -- by the tag, then by the ID
 abbrev pub is_before : Entry → Entry → Bool

@@ -1,8 +1,12 @@
 //! The class of a principal for a file, and what its bits grant.
 ghost use Rattle.std.specs.Prelude.{◌≡◌};
-ghost use Rattle.gufi_access.specs.Access.{rights, class_for, class_bits, is_granted, can_list, principal};
+ghost use Rattle.gufi_access.specs.Access.{rights, class_for, class_bits, is_granted, can_list, acl_grants};
+ghost use Rattle.gufi_access.specs.Acl.{entries};
+ghost use Rattle.gufi_access.specs.Seen.{mode_class};
 
-use crate::groups::{GroupList, Members};
+use crate::acl::{MASK, OTHERS, OWNER};
+use crate::granting::{bits_of_tag, bits_of_user, some_group_grants, stands_in_group};
+use crate::groups::GroupList;
 
 /// Who asks: a user ID and any groups.
 #[derive(Drop)]
@@ -11,12 +15,15 @@ pub struct Principal {
     pub groups: GroupList,
 }
 
-/// What guards a file: its owner, its group and its mode of 12 bits.
-#[derive(Clone, Copy, Debug, PartialEq, Eq)]
-pub struct Guard {
+/// What guards a file: its owner, its group, its mode of 12 bits, and its access control list, in entries of six bytes, or nothing.
+///
+/// Where there is a list it decides in place of the mode.
+#[derive(Clone, Copy, Debug)]
+pub struct Guard<'a> {
     pub uid: u32,
     pub gid: u32,
     pub mode: u16,
+    pub acl: &'a [u8],
 }
 
 /// The one class of a principal for a file.
@@ -27,34 +34,57 @@ pub enum Class {
     Other,
 }
 
-/// The class that decides alone: the owner's, else the group's, else the others'. Asks the groups at most once.
-pub fn class_of(who: &Principal, of: &Guard) -> Class
+/// The class that decides alone: the owner's, else the group's, else the others'. A named user or group is of the group's class.
+///
+/// Without a list it asks the groups at most once.
+#[tactic(auto, unfolding(crate::specs::Access::class_for))]
+pub fn class_of(who: &Principal, of: &Guard<'_>) -> Class
     ensures { result ≡ class_for who.now (rights of.now) }
 {
-    class_as(who.uid, &who.groups, of)
+    if of.acl.is_empty() {
+        class_by_mode(who, of)
+    } else if who.uid == of.uid {
+        Class::Owner
+    } else if stands_in_group(&who.groups, of.gid, of.acl)
+        || bits_of_user(of.acl, who.uid).is_some()
+    {
+        Class::Group
+    } else {
+        Class::Other
+    }
 }
 
 /// Whether every bit of `want` is granted, of read 4, write 2 and search 1. The uid 0 is granted all.
-pub fn granted(who: &Principal, of: &Guard, want: u8) -> bool
+///
+/// By a list the owner has his own entry's bits, a named user or group those that the mask has too (POSIX.1e, draft 17, 23.1.5).
+#[tactic(auto, unfolding(crate::specs::Access::is_granted))]
+pub fn granted(who: &Principal, of: &Guard<'_>, want: u8) -> bool
     ensures { result ≡ is_granted who.now (rights of.now) want }
 {
-    granted_as(who.uid, &who.groups, of, want)
+    if who.uid == 0 {
+        true
+    } else if of.acl.is_empty() {
+        bits_of(class_by_mode(who, of), of.mode) & want == want
+    } else {
+        acl_grants(who, of, want)
+    }
 }
 
 /// Whether a directory may be listed: read and search are both granted.
-pub fn lists(who: &Principal, of: &Guard) -> bool
+#[tactic(auto, unfolding(crate::specs::Access::can_list))]
+pub fn lists(who: &Principal, of: &Guard<'_>) -> bool
     ensures { result ≡ can_list who.now (rights of.now) }
 {
-    lists_as(who.uid, &who.groups, of)
+    granted(who, of, 5)
 }
 
-#[tactic(auto, unfolding(crate::specs::Access::class_for))]
-fn class_as<M: Members>(uid: u32, groups: &M, of: &Guard) -> Class
-    ensures { result ≡ class_for (principal uid (M.members groups.now)) (rights of.now) }
+// The class where there is no list.
+fn class_by_mode(who: &Principal, of: &Guard<'_>) -> Class
+    ensures { result ≡ mode_class who.now (rights of.now) }
 {
-    if uid == of.uid {
+    if who.uid == of.uid {
         Class::Owner
-    } else if groups.has(of.gid) {
+    } else if who.groups.has(of.gid) {
         Class::Group
     } else {
         Class::Other
@@ -62,7 +92,7 @@ fn class_as<M: Members>(uid: u32, groups: &M, of: &Guard) -> Class
 }
 
 // The three bits of a class.
-fn bits_of(class: Class, mode: u16) -> u8
+pub(crate) fn bits_of(class: Class, mode: u16) -> u8
     ensures { result ≡ class_bits class mode }
 {
     let shifted = match class {
@@ -73,16 +103,21 @@ fn bits_of(class: Class, mode: u16) -> u8
     (shifted & 7) as u8
 }
 
-#[tactic(auto, unfolding(crate::specs::Access::is_granted))]
-fn granted_as<M: Members>(uid: u32, groups: &M, of: &Guard, want: u8) -> bool
-    ensures { result ≡ is_granted (principal uid (M.members groups.now)) (rights of.now) want }
+// What the entries grant to others than uid 0.
+#[tactic(auto, unfolding(crate::specs::Access::acl_grants))]
+fn acl_grants(who: &Principal, of: &Guard<'_>, want: u8) -> bool
+    ensures { result ≡ acl_grants who.now (rights of.now) (entries of.now.acl.now) want }
 {
-    uid == 0 || bits_of(class_as(uid, groups, of), of.mode) & want == want
-}
-
-#[tactic(auto, unfolding(crate::specs::Access::can_list))]
-pub(crate) fn lists_as<M: Members>(uid: u32, groups: &M, of: &Guard) -> bool
-    ensures { result ≡ can_list (principal uid (M.members groups.now)) (rights of.now) }
-{
-    granted_as(uid, groups, of, 5)
+    if who.uid == of.uid {
+        return bits_of_tag(of.acl, OWNER, 0) & want == want;
+    }
+    let masked = bits_of_tag(of.acl, MASK, 7) & want == want;
+    if let Some(bits) = bits_of_user(of.acl, who.uid) {
+        return bits & want == want && masked;
+    }
+    if stands_in_group(&who.groups, of.gid, of.acl) {
+        masked && some_group_grants(&who.groups, of.gid, of.acl, want)
+    } else {
+        bits_of_tag(of.acl, OTHERS, 0) & want == want
+    }
 }

@@ -1,71 +1,153 @@
 //! Whether one directory covers another: whoever may list the first may list the second.
-ghost use Rattle.std.specs.Prelude.{◌≡◌, ◌↔◌, IsTrue};
-ghost use Rattle.gufi_access.specs.Access.{rights, principal, Covers};
-ghost use Rattle.gufi_access.specs.Tried.{keeps, keeps_for, fresh_uid, covers};
+ghost use Rattle.std.specs.List.{list_all};
+ghost use Rattle.std.specs.Prelude.{◌≡◌, ◌==◌, ◌||◌, not, ◌↔◌, IsTrue, find};
+ghost use Rattle.gufi_access.specs.Access.{rights, Covers};
+ghost use Rattle.std.specs.Option.{option_map};
+ghost use Rattle.gufi_access.specs.Seen.{seen, seen_id, named_left, groups_kept, groups_stay, said_stays, user_stays, users_stay};
+ghost use Rattle.gufi_access.specs.Tried.{names, admits, admits_all, admits_none, said_of, rules_cover, covers};
 
-use crate::class::{Guard, lists_as};
-use crate::groups::Members;
+use crate::class::Guard;
+use crate::listing::{Listing, NamedId, NamedIds};
 
-/// Whether every principal who may list `d` may list `c`. Tries twelve principals, which decide for all.
-pub fn covers(d: &Guard, c: &Guard) -> bool
+/// Whether every principal who may list `d` may list `c`.
+///
+/// Takes no memory, and O(n²) steps where the lists have n named entries.
+pub fn covers(d: &Guard<'_>, c: &Guard<'_>) -> bool
     ensures exact { IsTrue result ↔ Covers (rights d.now) (rights c.now) }
     ensures tested { result ≡ covers (rights d.now) (rights c.now) }
 {
-    keeps_for_all(d, c)
+    guards_cover(d, c)
 }
 
-// The groups of a principal that is tried: at most two.
-#[derive(Clone, Copy)]
-struct Few<'a> {
-    items: &'a [u32],
-}
-
-impl Members for Few<'_> {
-    ghost members = { λ few. few.items.now };
-
-    fn has(&self, gid: u32) -> bool {
-        self.items.contains(&gid)
-    }
-}
-
-// Whether each principal that is tried may list c, if it may list d.
 #[tactic(auto, unfolding(crate::specs::Tried::covers))]
-fn keeps_for_all(d: &Guard, c: &Guard) -> bool
+fn guards_cover(d: &Guard<'_>, c: &Guard<'_>) -> bool
     ensures { result ≡ covers (rights d.now) (rights c.now) }
 {
-    let fresh = fresh_uid(d.uid, c.uid);
-    keeps_for(d.uid, d, c) && keeps_for(c.uid, d, c) && keeps_for(fresh, d, c)
+    rules_cover(&Listing::of(d), &Listing::of(c))
 }
 
-// Whether this principal may list c, if it may list d.
-fn keeps(uid: u32, groups: &[u32], d: &Guard, c: &Guard) -> bool
-    ensures { result ≡ keeps (principal uid groups.now) (rights d.now) (rights c.now) }
+fn rules_cover(d: &Listing<'_>, c: &Listing<'_>) -> bool
+    ensures { result ≡ rules_cover (seen d.now) (seen c.now) }
 {
-    let groups = Few { items: groups };
-    !lists_as(uid, &groups, d) || lists_as(uid, &groups, c)
+    let all = admits_all(c);
+    let none = admits_none(d);
+    groups_kept(d, c, all) && users_stay(d, c, none, all)
 }
 
-// The same of each principal with this uid and some of the groups of d and c.
-#[tactic(auto, unfolding(crate::specs::Tried::keeps_for))]
-fn keeps_for(uid: u32, d: &Guard, c: &Guard) -> bool
-    ensures { result ≡ keeps_for uid (rights d.now) (rights c.now) }
+// Whether some entry names this group.
+fn names(id: u32, r: &Listing<'_>) -> bool
+    ensures { result ≡ names id (seen r.now).groups }
 {
-    keeps(uid, &[], d, c)
-        && keeps(uid, &[d.gid], d, c)
-        && keeps(uid, &[c.gid], d, c)
-        && keeps(uid, &[d.gid, c.gid], d, c)
+    r.groups().any(|e| e.id == id)
 }
 
-// The least uid that is neither 0 nor one of these two.
-#[tactic(auto, unfolding(crate::specs::Tried::fresh_uid))]
-fn fresh_uid(a: u32, b: u32) -> u32
-    ensures { result ≡ fresh_uid a b }
+// Whether some entry that names this group grants.
+fn admits(id: u32, r: &Listing<'_>) -> bool
+    ensures { result ≡ admits id (seen r.now).groups }
 {
-    if a != 1 && b != 1 {
-        1
-    } else if a != 2 && b != 2 {
-        2
-    } else {
-        3
+    r.groups().any(|e| e.id == id && e.ok)
+}
+
+// Whether all are admitted by their groups, whatever these are.
+fn admits_all(r: &Listing<'_>) -> bool
+    ensures { result ≡ admits_all (seen r.now) }
+{
+    r.other_ok && r.groups().all(|e| admits(e.id, r))
+}
+
+// Whether nobody is admitted by his groups.
+fn admits_none(r: &Listing<'_>) -> bool
+    ensures { result ≡ admits_none (seen r.now) }
+{
+    !r.other_ok && r.groups().all(|e| !e.ok)
+}
+
+// Whether c admits by groups whomever d admits by them; it is known whether c admits all.
+#[tactic(auto, unfolding(crate::specs::Seen::groups_kept))]
+fn groups_kept(d: &Listing<'_>, c: &Listing<'_>, all: bool) -> bool
+    ensures { result ≡ groups_kept all (seen d.now) (seen c.now) }
+{
+    all || groups_stay(d, c)
+}
+
+// The same where c turns some groups away. A member of a group that d admits may be in one of those too, so c must admit each such group itself.
+fn groups_stay(d: &Listing<'_>, c: &Listing<'_>) -> bool
+    ensures { result ≡ groups_stay (seen d.now) (seen c.now) }
+{
+    (!d.other_ok || c.other_ok && turned_away_by_both(d, c)) && admitted_by_both(d, c)
+}
+
+// Whether d names each group that c turns away.
+fn turned_away_by_both(d: &Listing<'_>, c: &Listing<'_>) -> bool
+    ensures { result ≡ list_all (λ e. names e.id (seen d.now).groups || admits e.id (seen c.now).groups) (seen c.now).groups }
+{
+    c.groups().all(|e| names(e.id, d) || admits(e.id, c))
+}
+
+// Whether c admits each group that d admits.
+fn admitted_by_both(d: &Listing<'_>, c: &Listing<'_>) -> bool
+    ensures { result ≡ list_all (λ e. not e.ok || admits e.id (seen c.now).groups) (seen d.now).groups }
+{
+    d.groups().all(|e| !e.ok || admits(e.id, c))
+}
+
+// What is said of a user whatever his groups, where he is named.
+fn said_of(uid: u32, r: &Listing<'_>) -> Option<bool>
+    ensures { result ≡ said_of uid (seen r.now) }
+{
+    if uid == r.owner {
+        return Some(r.owner_ok);
     }
+    match named_user(uid, r) {
+        Some(user) => Some(user.ok),
+        None => None,
+    }
+}
+
+fn named_user(uid: u32, r: &Listing<'_>) -> Option<NamedId>
+    ensures { option_map seen_id result ≡ find (λ e. e.id == uid) (seen r.now).users }
+{
+    r.users().find(|e| e.id == uid)
+}
+
+fn said_stays(none: bool, all: bool, in_d: Option<bool>, in_c: Option<bool>) -> bool
+    ensures { result ≡ said_stays none all in_d in_c }
+{
+    match (in_d, in_c) {
+        (None, None) => true,
+        (None, Some(in_c)) => in_c || none,
+        (Some(in_d), None) => !in_d || all,
+        (Some(in_d), Some(in_c)) => !in_d || in_c,
+    }
+}
+
+// Whether this user may list c, if he may list d; it is known whether d admits none by groups, and c all.
+#[tactic(auto, unfolding(crate::specs::Seen::user_stays))]
+fn user_stays(d: &Listing<'_>, c: &Listing<'_>, none: bool, all: bool, uid: u32) -> bool
+    ensures { result ≡ user_stays none all (seen d.now) (seen c.now) uid }
+{
+    uid == 0 || said_stays(none, all, said_of(uid, d), said_of(uid, c))
+}
+
+// The same of each user that one of the two names.
+#[tactic(auto, unfolding(crate::specs::Seen::users_stay))]
+fn users_stay(d: &Listing<'_>, c: &Listing<'_>, none: bool, all: bool) -> bool
+    ensures { result ≡ users_stay none all (seen d.now) (seen c.now) }
+{
+    user_stays(d, c, none, all, d.owner)
+        && user_stays(d, c, none, all, c.owner)
+        && each_stays(d.users(), d, c, none, all)
+        && each_stays(c.users(), d, c, none, all)
+}
+
+fn each_stays(
+    mut users: NamedIds<'_>,
+    d: &Listing<'_>,
+    c: &Listing<'_>,
+    none: bool,
+    all: bool,
+) -> bool
+    ensures { result ≡ list_all (λ e. user_stays none all (seen d.now) (seen c.now) e.id) (named_left users.entry) }
+{
+    users.all(|e| user_stays(d, c, none, all, e.id))
 }

@@ -1,5 +1,5 @@
 //! The groups of a principal.
-ghost use Rattle.std.specs.Prelude.{◌≡◌, List, ℕ, IfOk};
+ghost use Rattle.std.specs.Prelude.{◌≡◌, IfOk};
 
 use crate::index::{index_of, stands_in};
 use std::alloc::{AllocError, Global};
@@ -7,16 +7,6 @@ use std::marker::Model;
 
 /// So many groups are searched in order; more have an index.
 const FEW: usize = 16;
-
-/// A list of groups that can be asked for members.
-pub(crate) trait Members {
-    ghost members: { Self → List ℕ };
-
-    ghost use Rattle.gufi_access.specs.Access.{is_member};
-
-    fn has(&self, gid: u32) -> bool
-        ensures { result ≡ is_member (members self.now) gid };
-}
 
 /// The groups of a principal, seen as the list of their numbers.
 ///
@@ -83,13 +73,5 @@ impl GroupList {
         ensures { result.items ≡ self }
     {
         self.items
-    }
-}
-
-impl Members for GroupList {
-    ghost members = { λ groups. groups };
-
-    fn has(&self, gid: u32) -> bool {
-        GroupList::has(self, gid)
     }
 }

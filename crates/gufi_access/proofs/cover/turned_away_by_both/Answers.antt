@@ -1,0 +1,12 @@
+use Rattle.std.proofs.Common.{◌||◌, rules, tests}
+use Rattle.std.proofs.lemmas.Iterator.Consumers.{YieldsList-from_first}
+use Rattle.std.proofs.lemmas.Iterator.Search.{all_from_yields_List}
+use Rattle.gufi_access.specs.Seen.{seen, seen_id, named_left}
+use Rattle.gufi_access.specs.Tried.{names, admits}
+use Rattle.gufi_access.proofs.cover.turned_away_by_both.Goals as goal
+
+pub returns : goal.returns
+returns c =
+    all_from_yields_List (λ e. names e.id (seen c.args.d.now).groups || admits e.id (seen c.args.c.now).groups) c.all.new.self _ _ c.all.ensures.ran
+    (YieldsList-from_first (seen_id) named_left {s = c.groups.result} _ c.groups.ensures)
+    (λ x b q k. search (rules, tests))
