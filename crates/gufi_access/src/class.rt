@@ -56,7 +56,7 @@ pub fn class_of(who: &Principal, of: &Guard<'_>) -> Class
 
 /// Whether every bit of `want` is granted, of read 4, write 2 and search 1. The uid 0 is granted all.
 ///
-/// By a list the owner has his own entry's bits, a named user or group those that the mask has too (POSIX.1e, draft 17, 23.1.5).
+/// By a list the owner has his own entry's bits, a named user or group those that the mask has too (POSIX.1e, draft 17).
 #[tactic(auto, unfolding(crate::specs::Access::is_granted))]
 pub fn granted(who: &Principal, of: &Guard<'_>, want: u8) -> bool
     ensures { result ≡ is_granted who.now (rights of.now) want }

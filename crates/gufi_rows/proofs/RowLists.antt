@@ -26,14 +26,14 @@ use Rattle.gufi_base.proofs.SortedOnce.{same_from_sorted}
 use Rattle.gufi_rows.proofs.Spots.{IsSpan-grows, bytes_in-grows}
 
 -- links that grow keep what stands behind them
-pub AreKept-grows : (links next : List ℕ) (at : ℕ) (extras : Extras) → Grows links next → AreKept links at extras → AreKept next at extras
+AreKept-grows : (links next : List ℕ) (at : ℕ) (extras : Extras) → Grows links next → AreKept links at extras → AreKept next at extras
 AreKept-grows links next at extras g kept =
     subst (λ t. AreKept t at extras) (sym g.1) (omega (arith, kept, length-append links g.0, kept_size-more links g.0 at extras kept))
 
-pub kept_xattrs-grows : (links next : List ℕ) (at : ℕ) (extras : Extras) → Grows links next → AreKept links at extras → kept_xattrs next at extras ≡ kept_xattrs links at extras
+kept_xattrs-grows : (links next : List ℕ) (at : ℕ) (extras : Extras) → Grows links next → AreKept links at extras → kept_xattrs next at extras ≡ kept_xattrs links at extras
 kept_xattrs-grows links next at extras g kept = ap (λ t. kept_xattrs t at extras) g.1 ∙ kept_xattrs-more links g.0 at extras kept
 
-pub kept_acl-grows : (links next : List ℕ) (at : ℕ) (extras : Extras) → Grows links next → AreKept links at extras → kept_acl next at extras ≡ kept_acl links at extras
+kept_acl-grows : (links next : List ℕ) (at : ℕ) (extras : Extras) → Grows links next → AreKept links at extras → kept_acl next at extras ≡ kept_acl links at extras
 kept_acl-grows links next at extras g kept = ap (λ t. kept_acl t at extras) g.1 ∙ kept_acl-more links g.0 at extras kept
 
 -- links that grow keep the rows

@@ -21,6 +21,9 @@ use std::alloc::Global;
 use std::marker::Model;
 
 /// Rows, in the order in which they were taken. No row has memory of its own, and the rows of one directory have one stem.
+///
+/// What doesn't fit is answered as want of memory: names of extended attributes or an access control list of more than 65,535
+/// bytes, or a path or a link behind the first 4 GiB of its text.
 #[derive(Drop)]
 pub struct RowList {
     paths: KeptPaths,
