@@ -1,0 +1,94 @@
+#!/usr/bin/env python3
+"""What access control lists cost: a roll-up of 262,144 directories whose lists are of eight kinds, or all different, beside one without.
+
+  python3 acls.py [--program PROGRAM] [--rollups 20] [--runs 5] [--pages small]
+
+It makes four traces of the same directories: all with one mode; with one of eight modes and owners, so that a directory mostly differs
+from the one that it lies in; with one of eight lists of six entries; and each with a list of its own of 32 named entries. A script publishes one, and behind a
+barrier rolls it up so many times, each under another limit. The cost of a roll-up is the time of that script less the time of a script that
+publishes alone, over their number. The cost of a pair of lists is that of the last trace less that of the first, a directory. Runs are
+interleaved, output goes to /dev/null, files are warm, times are medians of processor time. The memory of a search over each trace stands beside. Nothing
+here is a test.
+"""
+import argparse
+import os
+import random
+import subprocess
+import tempfile
+
+from session import interleaved, once, write
+from walk import PAGES, take_pages
+
+WIDE, DEEP = 511, 512
+DIRS = 1 + WIDE + WIDE * DEEP
+
+
+def kind_of_list(kind):
+    return "acl/user::rwx,user:%d:r-x,group::r-x,group:%d:r-x,mask::r-x,other::---" % (2000 + kind, 5000 + kind % 4)
+
+
+def own_list(place):
+    """A list of 16 users and 16 groups that no other directory has."""
+    users = ",".join("user:%d:r-x" % (2000 + place * 16 + n) for n in range(16))
+    groups = ",".join("group:%d:r-x" % (5000 + place * 16 + n) for n in range(16))
+    return "acl/user::rwx,%s,group::r-x,%s,mask::r-x,other::---" % (users, groups)
+
+
+def fields(path, form, place, rng):
+    mode, uid, acl = 0o750, 1001, ""
+    if form == "eight modes":
+        kind = rng.randrange(8)
+        mode, uid = (0o750, 0o755, 0o700, 0o770)[kind % 4], 1001 + kind // 4
+    elif form == "eight lists":
+        acl = kind_of_list(rng.randrange(8))
+    elif form == "lists that all differ":
+        acl = own_list(place)
+    parts = [path, "d", str(place + 1), str(mode), "2", str(uid), "500", "4096", "4096", "8", "10", "20", "30", ""]
+    return "\x1e".join(parts + (["", acl] if acl else [])) + "\n"
+
+
+def make_trace(path, form):
+    rng = random.Random(1)
+    with open(path, "w") as trace:
+        trace.write(fields("/r", form, 0, rng))
+        place = 1
+        for first in range(WIDE):
+            trace.write(fields("/r/d%03d" % first, form, place, rng))
+            place += 1
+            for second in range(DEEP):
+                trace.write(fields("/r/d%03d/e%03d" % (first, second), form, place, rng))
+                place += 1
+    assert place == DIRS
+
+
+def main():
+    parser = argparse.ArgumentParser(usage=__doc__)
+    here = os.path.dirname(os.path.abspath(__file__))
+    parser.add_argument("--program", default=os.path.join(here, "..", "crates", "gufi", "out", "gufi"))
+    parser.add_argument("--rollups", type=int, default=20)
+    parser.add_argument("--runs", type=int, default=5)
+    parser.add_argument("--pages", choices=PAGES, default="small")
+    given = parser.parse_args()
+    take_pages(given.pages)
+    program = os.path.abspath(given.program)
+    forms = ("one mode", "eight modes", "eight lists", "lists that all differ")
+    with tempfile.TemporaryDirectory() as folder:
+        commands = {}
+        for number, form in enumerate(forms):
+            make_trace(os.path.join(folder, "trace%d" % number), form)
+            publish = b"publish 0 trace%d\n" % number
+            rollups = [b"rollup %d\n" % (limit + 1) for limit in range(given.rollups)]
+            commands["publish " + form] = [program, "session", write(folder, "publish%d" % number, [publish])]
+            commands["roll " + form] = [program, "session", write(folder, "roll%d" % number, [publish, b"barrier\n"] + rollups)]
+        times = interleaved(commands, folder, given.runs)
+        cost = {form: (times["roll " + form][0] - times["publish " + form][0]) / given.rollups for form in forms}
+        for number, form in enumerate(forms):
+            peak = once([program, "find", "trace%d" % number, "1001", "/"], folder)[2]
+            print("%-22s %8.1f ms a roll-up, %6.2f s to publish, %4.0f MB for a find" % (form, cost[form] * 1e3, times["publish " + form][0], peak))
+        print("eight lists beside eight modes: ratio %.2f; beside one mode: %.2f" % (cost["eight lists"] / cost["eight modes"], cost["eight lists"] / cost["one mode"]))
+        pair = (cost["lists that all differ"] - cost["one mode"]) / (DIRS - 1)
+        print("a pair of lists of 32 named entries: %.2f us" % (pair * 1e6))
+
+
+if __name__ == "__main__":
+    main()
