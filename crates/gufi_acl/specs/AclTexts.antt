@@ -1,12 +1,14 @@
 -- Access control lists in text: a mark, and entries of tag, ID and bits between commas.
-use Rattle.std.specs.Prelude.{◌≡◌, ℕ, ◌+◌, ◌*◌, ◌^◌, ◌/◌, ◌%◌, Bool, true, not, ◌==◌, ◌&&◌, ◌||◌, nat_lt, List, [], ◌∷◌, ◌++◌, length, take, drop, map, bytes_eq, codes, decimal, Option, Some, None, option_map, ok_or, Result, Ok, if◌then◌else◌}
+use Rattle.std.specs.Prelude.{◌≡◌, ℕ, ◌+◌, ◌*◌, ◌^◌, ◌/◌, ◌%◌, ◌≤◌, Bool, true, false, not, ◌==◌, ◌&&◌, ◌||◌, nat_lt, List, [], ◌∷◌, ◌++◌, length, take, drop, map, bytes_eq, codes, decimal, Option, Some, None, option_map, ok_or, Result, Ok, if◌then◌else◌}
 use Rattle.std.specs.declared.cmp.Ordering.{Ordering}
 use Rattle.std.specs.Int.{to_le_bytes, w32}
-use Rattle.std.specs.List.{flat_map, join_with_byte}
+use Rattle.std.specs.List.{flat_map, join_with_byte, list_all}
 use Rattle.std.specs.Option.{option_zip}
 use Rattle.std.specs.Ordering.{nat_cmp}
 use Rattle.gufi_base.specs.Basics.{is_empty, sort_by, split, ◌>>=◌, ◌>>◌, refuse}
+use Rattle.gufi_base.specs.Names.{is_path_byte}
 use Rattle.gufi_base.specs.Numbers.{read_u32}
+use Rattle.gufi_base.specs.Rows.{are_bytes}
 use Rattle.gufi_access.specs.declared.acl.Entry.{Entry}
 use Rattle.gufi_access.specs.Acl.{entries, ascends_after, has_tags, named_count, max_named, is_acl_or_none}
 use Rattle.gufi_acl.specs.declared.AclFault.{AclFault}
@@ -111,4 +113,22 @@ acl_of_text text =
 
 -- What is written is read back. A public function's contract has to name this.
 abbrev pub AclReadsBack : Type 0
-AclReadsBack = (acl : List ℕ) → is_acl_or_none acl ≡ true → acl_of_text (acl_text acl) ≡ Ok acl
+AclReadsBack = (acl : List ℕ) → is_acl_or_none acl ≡ true → are_bytes acl ≡ true → acl_of_text (acl_text acl) ≡ Ok acl
+
+-- What is read is sound: a list or none, of bytes, and short, since 36 entries are the most.
+pub record IsReadAcl (acl : List ℕ) : Type 0 where
+  pub sound : is_acl_or_none acl ≡ true
+  pub bytes : are_bytes acl ≡ true
+  pub short : length acl ≤ 216
+
+abbrev pub ReadAclsAreSound : Type 0
+ReadAclsAreSound = (text acl : List ℕ) → acl_of_text text ≡ Ok acl → IsReadAcl acl
+
+-- What is written has neither newline nor 0x00, is empty exactly where the list is, and else begins with the mark.
+pub record IsPlainText (acl : List ℕ) : Type 0 where
+  pub plain : list_all is_path_byte (acl_text acl) ≡ true
+  pub empty : is_empty (acl_text acl) ≡ is_empty acl
+  pub marked : is_empty acl ≡ false → has_mark (acl_text acl) ≡ true
+
+abbrev pub AclTextsArePlain : Type 0
+AclTextsArePlain = (acl : List ℕ) → IsPlainText acl

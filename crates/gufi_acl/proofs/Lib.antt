@@ -1,0 +1,13 @@
+pub mod Back
+pub mod Checks
+pub mod EntriesBack
+pub mod Joined
+pub mod Kept
+pub mod Letters
+pub mod Order
+pub mod Plain
+pub mod Read
+pub mod Sound
+pub mod Texts
+pub mod Worked
+pub mod Written
