@@ -13,6 +13,7 @@ use Rattle.gufi_base.specs.Kinds.{kind_letter, kind_of_letter, is_dir}
 use Rattle.gufi_base.specs.Paths.{Components, is_too_long}
 use Rattle.gufi_base.specs.Rows.{are_bytes}
 use Rattle.gufi_tree.specs.declared.tree.Entry.{Entry}
+use Rattle.gufi_image.specs.declared.width.Width.{Width}
 use Rattle.gufi_image.specs.declared.fault.Flaw.{Flaw}
 use Rattle.gufi_image.specs.Bytes.{u8_bytes, name_image, record_image}
 use Rattle.gufi_image.specs.Image.{entry_image, entries_image}
@@ -104,106 +105,106 @@ letter_small File = omega arith
 letter_small Socket = omega arith
 
 -- an entry behind those before it
-pub record IsNextEntry (wide : Bool) (path : Components) (before : List Entry) (entry : Entry) : Type 0 where
+pub record IsNextEntry (width : Width) (path : Components) (before : List Entry) (entry : Entry) : Type 0 where
   pub apart : is_dir entry.rec.meta.kind ≡ false
   pub below : IsBelow path entry.name
   pub above : follows before entry.name ≡ true
-  pub rec : IsRecord wide entry.rec.meta.kind entry.rec
+  pub rec : IsRecord width entry.rec.meta.kind entry.rec
 
-entry_apart : (wide : Bool) (entry : Entry) (rest : List ℕ) → entry_image wide entry ++ rest ≡ u8_bytes (kind_letter entry.rec.meta.kind) ++ (name_image entry.name ++ (record_image wide entry.rec ++ rest))
+entry_apart : (width : Width) (entry : Entry) (rest : List ℕ) → entry_image width entry ++ rest ≡ u8_bytes (kind_letter entry.rec.meta.kind) ++ (name_image entry.name ++ (record_image width entry.rec ++ rest))
 unfolding entry_image
-entry_apart wide entry rest = simp append_assoc
+entry_apart width entry rest = simp append_assoc
 
-entry_back : (wide : Bool) (path : Components) (before : List Entry) (entry : Entry) (rest : List ℕ) → IsNextEntry wide path before entry → entry_at wide path before (entry_image wide entry ++ rest) ≡ Ok (entry, rest)
+entry_back : (width : Width) (path : Components) (before : List Entry) (entry : Entry) (rest : List ℕ) → IsNextEntry width path before entry → entry_at width path before (entry_image width entry ++ rest) ≡ Ok (entry, rest)
 unfolding entry_at
-entry_back wide path before entry rest h =
+entry_back width path before entry rest h =
     let kind = entry.rec.meta.kind in
-    let letter = u8_reader.back (kind_letter kind) (name_image entry.name ++ (record_image wide entry.rec ++ rest)) (letter_small kind) in
+    let letter = u8_reader.back (kind_letter kind) (name_image entry.name ++ (record_image width entry.rec ++ rest)) (letter_small kind) in
     let type = letter_back kind h.apart in
-    let name = (name_reader path).back entry.name (record_image wide entry.rec ++ rest) h.below in
+    let name = (name_reader path).back entry.name (record_image width entry.rec ++ rest) h.below in
     let above = h.above in
-    let rec = (record_reader wide kind).back entry.rec rest h.rec in
-    rw (entry_apart wide entry rest, letter, type, name, above, rec) refl
+    let rec = (record_reader width kind).back entry.rec rest h.rec in
+    rw (entry_apart width entry rest, letter, type, name, above, rec) refl
 
 pub some_ok : {A B : Type 0} (o : Option A) (e : Flaw) (f : A → Result B Flaw) (y : B) → (ok_or o e >>= f) ≡ Ok y → (x : A) × (o ≡ Some x) × (f x ≡ Ok y)
 some_ok None e f y h = absurd cc
 some_ok (Some x) e f y h = (x, refl, h)
 
-entry_once : (wide : Bool) (path : Components) (before : List Entry) (bytes : List ℕ) (found : Entry × List ℕ) → are_bytes bytes ≡ true → entry_at wide path before bytes ≡ Ok found → Reads (IsNextEntry wide path before) (entry_image wide) bytes found
+entry_once : (width : Width) (path : Components) (before : List Entry) (bytes : List ℕ) (found : Entry × List ℕ) → are_bytes bytes ≡ true → entry_at width path before bytes ≡ Ok found → Reads (IsNextEntry width path before) (entry_image width) bytes found
 unfolding entry_at
-entry_once wide path before bytes found are e =
+entry_once width path before bytes found are e =
     step u8_reader bytes _ found are e (λ letter r1 i1 b1 a1 e1.
     let kind = some_ok (entry_kind letter) _ _ found e1 in
     let type = letter_once letter kind.0 kind.1 in
     step (name_reader path) r1 _ found a1 kind.2 (λ name r2 i2 b2 a2 e2.
     let above = refused_ok (not (follows before name)) _ _ found e2 in
-    step (record_reader wide kind.0) r2 _ found a2 above.1 (λ rec rest i3 b3 a3 e3.
+    step (record_reader width kind.0) r2 _ found a2 above.1 (λ rec rest i3 b3 a3 e3.
     let entry : Entry = record { name = name; rec = rec } in
     let same : (entry, rest) ≡ found = ok_same _ _ e3 in
     let own = b3.meta.kind in
-    let is : bytes ≡ u8_bytes (kind_letter rec.meta.kind) ++ (name_image name ++ (record_image wide rec ++ rest)) =
+    let is : bytes ≡ u8_bytes (kind_letter rec.meta.kind) ++ (name_image name ++ (record_image width rec ++ rest)) =
     i1 ∙ ap (λ k. u8_bytes k ++ r1) (sym type.1 ∙ ap kind_letter (sym own)) ∙ ap (λ (t : List ℕ). u8_bytes (kind_letter rec.meta.kind) ++ t) (i2 ∙ ap (λ (t : List ℕ). name_image name ++ t) i3) in
-    let holds : IsNextEntry wide path before entry = record {
+    let holds : IsNextEntry width path before entry = record {
       apart = ap is_dir own ∙ type.0;
       below = b2;
       above = not_false _ above.0;
-      rec = subst (λ (k : Kind). IsRecord wide k rec) (sym own) b3;
+      rec = subst (λ (k : Kind). IsRecord width k rec) (sym own) b3;
     } in
-    reads_from (IsNextEntry wide path before) (entry_image wide) bytes found are (is ∙ sym (entry_apart wide entry rest) ∙ ap (λ (x : Entry × List ℕ). entry_image wide x.0 ++ x.1) same) (subst (λ (x : Entry × List ℕ). IsNextEntry wide path before x.0) same holds))))
+    reads_from (IsNextEntry width path before) (entry_image width) bytes found are (is ∙ sym (entry_apart width entry rest) ∙ ap (λ (x : Entry × List ℕ). entry_image width x.0 ++ x.1) same) (subst (λ (x : Entry × List ℕ). IsNextEntry width path before x.0) same holds))))
 
-entry_reader : (wide : Bool) (path : Components) (before : List Entry) → IsReader (IsNextEntry wide path before) (entry_image wide) (entry_at wide path before)
-entry_reader wide path before = record { back = entry_back wide path before; once = entry_once wide path before }
+entry_reader : (width : Width) (path : Components) (before : List Entry) → IsReader (IsNextEntry width path before) (entry_image width) (entry_at width path before)
+entry_reader width path before = record { back = entry_back width path before; once = entry_once width path before }
 
 -- entries behind those before them
-abbrev pub AreNextEntries : Bool → Components → List Entry → List Entry → Type 0
-AreNextEntries wide path before [] = Unit {0}
-AreNextEntries wide path before (entry ∷ entries) = IsNextEntry wide path before entry × AreNextEntries wide path (before ++ entry ∷ []) entries
+abbrev pub AreNextEntries : Width → Components → List Entry → List Entry → Type 0
+AreNextEntries width path before [] = Unit {0}
+AreNextEntries width path before (entry ∷ entries) = IsNextEntry width path before entry × AreNextEntries width path (before ++ entry ∷ []) entries
 
-entries_behind : (wide : Bool) (path : Components) (entries before : List Entry) (rest : List ℕ) → AreNextEntries wide path before entries → repeated (one_entry wide path) (length entries) before (entries_image wide entries ++ rest) ≡ Ok (before ++ entries, rest)
-entries_behind wide path [] before rest h = ap (λ (es : List Entry). Ok (es, rest)) (sym (append-nil before))
-entries_behind wide path (entry ∷ entries) before rest h =
+entries_behind : (width : Width) (path : Components) (entries before : List Entry) (rest : List ℕ) → AreNextEntries width path before entries → repeated (one_entry width path) (length entries) before (entries_image width entries ++ rest) ≡ Ok (before ++ entries, rest)
+entries_behind width path [] before rest h = ap (λ (es : List Entry). Ok (es, rest)) (sym (append-nil before))
+entries_behind width path (entry ∷ entries) before rest h =
     let more = before ++ entry ∷ [] in
-    let one = (entry_reader wide path before).back entry (entries_image wide entries ++ rest) h.0 in
-    let others = entries_behind wide path entries more rest h.1 in
+    let one = (entry_reader width path before).back entry (entries_image width entries ++ rest) h.0 in
+    let others = entries_behind width path entries more rest h.1 in
     rw (append_assoc, one) (others ∙ ap (λ (es : List Entry). Ok (es, rest)) (append_assoc before (entry ∷ []) entries))
 
 -- What so many steps read behind the entries before.
-pub record AreRead (wide : Bool) (path : Components) (count : ℕ) (before : List Entry) (bytes : List ℕ) (found : List Entry × List ℕ) : Type 0 where
+pub record AreRead (width : Width) (path : Components) (count : ℕ) (before : List Entry) (bytes : List ℕ) (found : List Entry × List ℕ) : Type 0 where
   pub entries : List Entry
   pub whole : found.0 ≡ before ++ entries
   pub number : length entries ≡ count
-  pub is : bytes ≡ entries_image wide entries ++ found.1
-  pub each : AreNextEntries wide path before entries
+  pub is : bytes ≡ entries_image width entries ++ found.1
+  pub each : AreNextEntries width path before entries
   pub rest : are_bytes found.1 ≡ true
 
-entries_once : (wide : Bool) (path : Components) (count : ℕ) (before : List Entry) (bytes : List ℕ) (found : List Entry × List ℕ) → are_bytes bytes ≡ true → repeated (one_entry wide path) count before bytes ≡ Ok found → AreRead wide path count before bytes found
-entries_once wide path zero before bytes found are e =
+entries_once : (width : Width) (path : Components) (count : ℕ) (before : List Entry) (bytes : List ℕ) (found : List Entry × List ℕ) → are_bytes bytes ≡ true → repeated (one_entry width path) count before bytes ≡ Ok found → AreRead width path count before bytes found
+entries_once width path zero before bytes found are e =
     let same : (before, bytes) ≡ found = ok_same _ _ e in
-    subst (AreRead wide path 0 before bytes) same (record { entries = []; whole = sym (append-nil before); number = refl; is = refl; each = tt; rest = are })
-entries_once wide path (suc count) before bytes found are e =
-    let one = bind_ok (one_entry wide path before bytes) (λ more. repeated (one_entry wide path) count more.0 more.1) found e in
-    step (entry_reader wide path before) bytes (λ entry. Ok (before ++ entry.0 ∷ [], entry.1)) one.0 are one.1 (λ entry after is holds rest same.
+    subst (AreRead width path 0 before bytes) same (record { entries = []; whole = sym (append-nil before); number = refl; is = refl; each = tt; rest = are })
+entries_once width path (suc count) before bytes found are e =
+    let one = bind_ok (one_entry width path before bytes) (λ more. repeated (one_entry width path) count more.0 more.1) found e in
+    step (entry_reader width path before) bytes (λ entry. Ok (before ++ entry.0 ∷ [], entry.1)) one.0 are one.1 (λ entry after is holds rest same.
     let more : (before ++ entry ∷ [], after) ≡ one.0 = ok_same _ _ same in
-    let on : repeated (one_entry wide path) count (before ++ entry ∷ []) after ≡ Ok found = subst (λ (x : List Entry × List ℕ). repeated (one_entry wide path) count x.0 x.1 ≡ Ok found) (sym more) one.2 in
-    let others = entries_once wide path count (before ++ entry ∷ []) after found rest on in
+    let on : repeated (one_entry width path) count (before ++ entry ∷ []) after ≡ Ok found = subst (λ (x : List Entry × List ℕ). repeated (one_entry width path) count x.0 x.1 ≡ Ok found) (sym more) one.2 in
+    let others = entries_once width path count (before ++ entry ∷ []) after found rest on in
     record {
       entries = entry ∷ others.entries;
       whole = others.whole ∙ append_assoc before (entry ∷ []) others.entries;
       number = ap suc others.number;
-      is = is ∙ ap (λ (t : List ℕ). entry_image wide entry ++ t) others.is ∙ sym (append_assoc (entry_image wide entry) (entries_image wide others.entries) found.1);
+      is = is ∙ ap (λ (t : List ℕ). entry_image width entry ++ t) others.is ∙ sym (append_assoc (entry_image width entry) (entries_image width others.entries) found.1);
       each = (holds, others.each);
       rest = others.rest;
     })
 
 -- all entries of a directory
-pub all_entries_reader : (wide : Bool) (path : Components) (count : ℕ) → IsReader (λ (entries : List Entry). (length entries ≡ count) × AreNextEntries wide path [] entries) (entries_image wide) (entries_at wide count path)
+pub all_entries_reader : (width : Width) (path : Components) (count : ℕ) → IsReader (λ (entries : List Entry). (length entries ≡ count) × AreNextEntries width path [] entries) (entries_image width) (entries_at width count path)
 unfolding entries_at
-all_entries_reader wide path count = record {
-  back = λ entries rest h. subst (λ n. repeated (one_entry wide path) n [] (entries_image wide entries ++ rest) ≡ Ok (entries, rest)) h.0 (entries_behind wide path entries [] rest h.1);
-  once = λ bytes found are e. all bytes found are (entries_once wide path count [] bytes found are e);
+all_entries_reader width path count = record {
+  back = λ entries rest h. subst (λ n. repeated (one_entry width path) n [] (entries_image width entries ++ rest) ≡ Ok (entries, rest)) h.0 (entries_behind width path entries [] rest h.1);
+  once = λ bytes found are e. all bytes found are (entries_once width path count [] bytes found are e);
 } where
-  all : (bytes : List ℕ) (found : List Entry × List ℕ) → are_bytes bytes ≡ true → AreRead wide path count [] bytes found → Reads (λ (entries : List Entry). (length entries ≡ count) × AreNextEntries wide path [] entries) (entries_image wide) bytes found
+  all : (bytes : List ℕ) (found : List Entry × List ℕ) → are_bytes bytes ≡ true → AreRead width path count [] bytes found → Reads (λ (entries : List Entry). (length entries ≡ count) × AreNextEntries width path [] entries) (entries_image width) bytes found
   all bytes found are h =
-      reads_from (λ (entries : List Entry). (length entries ≡ count) × AreNextEntries wide path [] entries) (entries_image wide) bytes found are
-      (h.is ∙ ap (λ (es : List Entry). entries_image wide es ++ found.1) (sym h.whole))
-      (subst (λ (es : List Entry). (length es ≡ count) × AreNextEntries wide path [] es) (sym h.whole) (h.number, h.each))
+      reads_from (λ (entries : List Entry). (length entries ≡ count) × AreNextEntries width path [] entries) (entries_image width) bytes found are
+      (h.is ∙ ap (λ (es : List Entry). entries_image width es ++ found.1) (sym h.whole))
+      (subst (λ (es : List Entry). (length es ≡ count) × AreNextEntries width path [] es) (sym h.whole) (h.number, h.each))

@@ -34,7 +34,7 @@ pub head_had : (room : ℕ) (bytes after : List ℕ) (head kept : Head) → head
 head_had room bytes after head kept h is more within tells =
     let left : head.left + length more ≡ head.left + room - (room - length more) = omega (arith, within) in
     (head_goes more bytes tells).ok (counts head, after) h
-    ∙ ap (λ n. let c : Counts = record { wide = head.wide; limit = head.limit; dirs = head.dirs; entries = head.entries; left = n } in Ok (c, after ++ more)) left
+    ∙ ap (λ n. let c : Counts = record { width = head.width; limit = head.limit; dirs = head.dirs; entries = head.entries; left = n } in Ok (c, after ++ more)) left
     ∙ ap (λ (g : Head). Ok (counted (room - length more) g, after ++ more)) (sym is)
 
 pub head_refused : (bytes : List ℕ) (e : Refused) → Refuses e (head_at bytes) → OnFlaw e (λ f. (more : List ℕ) → Tells bytes more → Stops f more (head_at (bytes ++ more)))
@@ -48,7 +48,7 @@ begun k p bytes after b h =
     let dirs = b.dirs in
     let flags = b.flags in
     let none : p.head.dirs ≡ p.head.dirs - 0 = omega arith in
-    rw (h, part, dirs, flags) (ap (λ n. judged (counted k p.head) (repeated (one_directory p.head.wide p.head.entries) n (record { dirs = []; flags = [] }) after)) none)
+    rw (h, part, dirs, flags) (ap (λ n. judged (counted k p.head) (repeated (one_directory p.head.width p.head.entries) n (record { dirs = []; flags = [] }) after)) none)
 
 pub unbegun_stops : (f : Flaw) (bytes more : List ℕ) → Stops f more (head_at bytes) → Stops f more (snapshot_at bytes)
 unfolding snapshot_at all_at
@@ -62,8 +62,8 @@ module _ (k : ℕ) (p : Progress) (h : IsRead p) (whole : p.head.dirs ≤ length
 
   -- A fault that comes before what stands behind the directories is that of all bytes.
   pub said_otherwise : (bytes other : List ℕ) → is_as_said p.head p.directories.packing.dirs ≡ false → resume k (Some p) bytes ≡ resume k (Some p) other
-  said_otherwise bytes other not_said = at_end bytes ∙ by (eqb (entry_count p.directories.packing.dirs) p.head.entries) (is_bare p.head.wide p.directories.packing.dirs) refl refl not_said ∙ sym (at_end other) where
-    by : (counted_so bare : Bool) → eqb (entry_count p.directories.packing.dirs) p.head.entries ≡ counted_so → is_bare p.head.wide p.directories.packing.dirs ≡ bare → (counted_so && not bare) ≡ false
+  said_otherwise bytes other not_said = at_end bytes ∙ by (eqb (entry_count p.directories.packing.dirs) p.head.entries) (is_bare p.head.width p.directories.packing.dirs) refl refl not_said ∙ sym (at_end other) where
+    by : (counted_so bare : Bool) → eqb (entry_count p.directories.packing.dirs) p.head.entries ≡ counted_so → is_bare p.head.width p.directories.packing.dirs ≡ bare → (counted_so && not bare) ≡ false
         → judged (counted k p.head) (Ok (front_near k p.directories, bytes)) ≡ judged (counted k p.head) (Ok (front_near k p.directories, other))
     by false bare count is not_so = rw count refl
     by true true count is not_so = rw (count, is) refl
@@ -73,9 +73,9 @@ module _ (k : ℕ) (p : Progress) (h : IsRead p) (whole : p.head.dirs ≤ length
   pub trails : (bytes more : List ℕ) → eqb (length bytes) 0 ≡ false → is_as_said p.head p.directories.packing.dirs ≡ true → Stops (flaw bytes kinds.Trailing) more (resume k (Some p) (bytes ++ more))
   trails [] more some said only = absurd cc
   trails (b ∷ bytes) more some said only =
-      let both = and_parts (eqb (entry_count p.directories.packing.dirs) p.head.entries) (not (is_bare p.head.wide p.directories.packing.dirs)) said in
+      let both = and_parts (eqb (entry_count p.directories.packing.dirs) p.head.entries) (not (is_bare p.head.width p.directories.packing.dirs)) said in
       let count = both.0 in
-      let least = not_true (is_bare p.head.wide p.directories.packing.dirs) both.1 in
+      let least = not_true (is_bare p.head.width p.directories.packing.dirs) both.1 in
       at_end (b ∷ (bytes ++ more)) ∙ rw (count, least) (ap (λ n. Err (record { left = n; kind = kinds.Trailing })) (length-append (b ∷ bytes) more))
 
 -- ---- the end of the bytes

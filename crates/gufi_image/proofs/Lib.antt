@@ -3,6 +3,7 @@ mod Children
 mod Written
 mod Repeats
 mod FieldsBack
+mod ShortAcls
 mod RecordsBack
 mod EntriesBack
 mod PathsBack

@@ -3,7 +3,7 @@ use Rattle.std.proofs.Common.{◌≡◌, ℕ, ◌+◌, ◌≤◌, Bool, true, fa
 use Rattle.std.specs.Prelude.{Option, Some, None, ok_or}
 use Rattle.std.specs.Bool.{nat_eq}
 use Rattle.std.specs.List.{starts_with}
-use Rattle.std.specs.Int.{Width, w8, w16, w32, w64, byte_len}
+use Rattle.std.specs.Int.{Width as Bits, w8, w16, w32, w64, byte_len}
 use Rattle.std.proofs.lemmas.Bool.{ltb-true, ltb-false}
 use Rattle.std.proofs.lemmas.List.{append-nil, take-append-le, drop-append-le}
 use Rattle.gufi_base.specs.declared.record.Kind.{Kind}
@@ -17,7 +17,9 @@ use Rattle.gufi_image.specs.declared.fault.ImageKind.{ImageKind}
 use Rattle.gufi_image.specs.declared.fault.ImageKind.TheVariants as kinds
 use Rattle.gufi_image.specs.declared.directory.Flag.{Flag}
 use Rattle.gufi_image.specs.Bytes.{magic}
-use Rattle.gufi_image.specs.Fields.{flaw, wrong, bytes_at, number_at, signed_at, meta_at, link_at, names_at, xattrs_at, record_at}
+use Rattle.gufi_image.specs.declared.width.Width.{Width}
+use Rattle.gufi_image.specs.Widths.{has_names, has_acls}
+use Rattle.gufi_image.specs.Fields.{flaw, wrong, bytes_at, number_at, signed_at, meta_at, link_at, names_at, acl_at, extra_at, record_at}
 use Rattle.gufi_image.specs.Names.{name_at}
 use Rattle.gufi_image.specs.Entries.{entry_at}
 use Rattle.gufi_image.specs.Directories.{root_at, below_at, first_at, other_at, path_at, flag_at, Heading, heading_at}
@@ -93,7 +95,7 @@ module _ (more : List ℕ) where
               (goes_none (λ (x : List ℕ). x) (bytes_at count) bytes (only (ap (λ (d : Flaw). d.kind) (sym same))) (λ x. refl)).err f e only;
         }
 
-  number_goes : (w : Width) (bytes : List ℕ) → Goes (λ (n : ℕ). n) more (number_at w bytes) (number_at w (bytes ++ more))
+  number_goes : (w : Bits) (bytes : List ℕ) → Goes (λ (n : ℕ). n) more (number_at w bytes) (number_at w (bytes ++ more))
   number_goes w bytes = chain _ _ _ _ _ _ (bytes_goes (byte_len w) bytes) (λ field rest. done _ _ _ _ refl)
 
   signed_goes : (bytes : List ℕ) → Goes (λ x. x) more (signed_at bytes) (signed_at (bytes ++ more))
@@ -131,16 +133,24 @@ module _ (more : List ℕ) where
       chain _ _ _ _ _ _ (bytes_goes count r1) (λ names rest.
       refused _ _ _ _ bytes _ (done _ _ _ _ refl))))
 
-  xattrs_goes : (wide : Bool) (bytes : List ℕ) → Goes (λ x. x) more (xattrs_at wide bytes) (xattrs_at wide (bytes ++ more))
-  xattrs_goes true bytes = names_goes bytes
-  xattrs_goes false bytes = done _ _ _ _ refl
+  acl_goes : (bytes : List ℕ) → Goes (λ x. x) more (acl_at bytes) (acl_at (bytes ++ more))
+  unfolding acl_at
+  acl_goes bytes =
+      chain _ _ _ _ _ _ (number_goes w16 bytes) (λ count r1.
+      chain _ _ _ _ _ _ (bytes_goes count r1) (λ acl rest.
+      refused _ _ _ _ bytes _ (done _ _ _ _ refl)))
 
-  record_goes : (wide : Bool) (kind : Kind) (bytes : List ℕ) → Goes (λ x. x) more (record_at wide kind bytes) (record_at wide kind (bytes ++ more))
+  extra_goes : (read : List ℕ → Result (List ℕ × List ℕ) Flaw) (held : Bool) (bytes : List ℕ) → Goes (λ x. x) more (read bytes) (read (bytes ++ more)) → Goes (λ x. x) more (extra_at read held bytes) (extra_at read held (bytes ++ more))
+  extra_goes read true bytes h = h
+  extra_goes read false bytes h = done _ _ _ _ refl
+
+  record_goes : (width : Width) (kind : Kind) (bytes : List ℕ) → Goes (λ x. x) more (record_at width kind bytes) (record_at width kind (bytes ++ more))
   unfolding record_at
-  record_goes wide kind bytes =
+  record_goes width kind bytes =
       chain _ _ _ _ _ _ (meta_goes kind bytes) (λ meta r1.
       chain _ _ _ _ _ _ (link_goes r1) (λ link r2.
-      chain _ _ _ _ _ _ (xattrs_goes wide r2) (λ xattrs rest. done _ _ _ _ refl)))
+      chain _ _ _ _ _ _ (extra_goes names_at (has_names width) r2 (names_goes r2)) (λ xattrs r3.
+      chain _ _ _ _ _ _ (extra_goes acl_at (has_acls width) r3 (acl_goes r3)) (λ acl rest. done _ _ _ _ refl))))
 
   name_goes : (above : Components) (bytes : List ℕ) → Goes (λ x. x) more (name_at above bytes) (name_at above (bytes ++ more))
   unfolding name_at
@@ -149,14 +159,14 @@ module _ (more : List ℕ) where
       chain _ _ _ _ _ _ (bytes_goes count r1) (λ name rest.
       refused _ _ _ _ bytes _ (done _ _ _ _ refl)))
 
-  pub entry_goes : (wide : Bool) (path : Components) (before : List Entry) (bytes : List ℕ) → Goes (λ x. x) more (entry_at wide path before bytes) (entry_at wide path before (bytes ++ more))
+  pub entry_goes : (width : Width) (path : Components) (before : List Entry) (bytes : List ℕ) → Goes (λ x. x) more (entry_at width path before bytes) (entry_at width path before (bytes ++ more))
   unfolding entry_at
-  entry_goes wide path before bytes =
+  entry_goes width path before bytes =
       chain _ _ _ _ _ _ (number_goes w8 bytes) (λ letter r1.
       known _ _ bytes _ _ _ (λ kind.
       chain _ _ _ _ _ _ (name_goes path r1) (λ name r2.
       refused _ _ _ _ bytes _ (
-      chain _ _ _ _ _ _ (record_goes wide kind r2) (λ rec rest. done _ _ _ _ refl)))))
+      chain _ _ _ _ _ _ (record_goes width kind r2) (λ rec rest. done _ _ _ _ refl)))))
 
   root_goes : (bytes : List ℕ) → Goes (λ x. x) more (root_at bytes) (root_at (bytes ++ more))
   unfolding root_at
@@ -187,31 +197,31 @@ module _ (more : List ℕ) where
   abbrev pub heading_later : Heading → Heading
   heading_later h = record { path = h.path; rec = h.rec; flag = flag_later h.flag; count = h.count }
 
-  pub heading_goes : (wide : Bool) (total : ℕ) (dirs : List Directory) (bytes : List ℕ) → Goes heading_later more (heading_at wide total dirs bytes) (heading_at wide total dirs (bytes ++ more))
+  pub heading_goes : (width : Width) (total : ℕ) (dirs : List Directory) (bytes : List ℕ) → Goes heading_later more (heading_at width total dirs bytes) (heading_at width total dirs (bytes ++ more))
   unfolding heading_at
-  heading_goes wide total dirs bytes =
+  heading_goes width total dirs bytes =
       chain _ _ _ _ _ _ (path_goes dirs bytes) (λ path r1.
       chain _ _ _ _ _ _ (flag_goes r1) (λ flag r2.
-      chain _ _ _ _ _ _ (record_goes wide _ r2) (λ rec r3.
+      chain _ _ _ _ _ _ (record_goes width _ r2) (λ rec r3.
       chain _ _ _ _ _ _ (number_goes w32 r3) (λ count rest.
       refused _ _ _ _ r3 _ (done heading_later _ _ _ refl)))))
 
   abbrev pub counts_later : Counts → Counts
-  counts_later c = record { wide = c.wide; limit = c.limit; dirs = c.dirs; entries = c.entries; left = c.left + length more }
+  counts_later c = record { width = c.width; limit = c.limit; dirs = c.dirs; entries = c.entries; left = c.left + length more }
 
-  counts_goes : (wide : Bool) (bytes : List ℕ) → Goes counts_later more (counts_at wide bytes) (counts_at wide (bytes ++ more))
+  counts_goes : (width : Width) (bytes : List ℕ) → Goes counts_later more (counts_at width bytes) (counts_at width (bytes ++ more))
   unfolding counts_at
-  counts_goes wide bytes =
+  counts_goes width bytes =
       chain _ _ _ _ _ _ (number_goes w64 bytes) (λ limit r1.
       chain _ _ _ _ _ _ (number_goes w32 r1) (λ dirs r2.
       refused _ _ _ (ltb max_dirs dirs) r1 (kinds.TooMany max_dirs) (
       refused _ _ _ (eqb dirs 0) r1 kinds.Number (
       chain _ _ _ _ _ _ (number_goes w32 r2) (λ entries rest.
-      refused _ _ _ (ltb max_entries entries) r2 (kinds.TooMany max_entries) (done counts_later (record { wide = wide; limit = limit; dirs = dirs; entries = entries; left = length r2 }) _ _ (ap (λ n. let c : Counts = record { wide = wide; limit = limit; dirs = dirs; entries = entries; left = n } in c) (sym (length-append r2 more)))))))))
+      refused _ _ _ (ltb max_entries entries) r2 (kinds.TooMany max_entries) (done counts_later (record { width = width; limit = limit; dirs = dirs; entries = entries; left = length r2 }) _ _ (ap (λ n. let c : Counts = record { width = width; limit = limit; dirs = dirs; entries = entries; left = n } in c) (sym (length-append r2 more)))))))))
 
   version_goes : (bytes : List ℕ) → Goes (λ x. x) more (version_at bytes) (version_at (bytes ++ more))
   unfolding version_at
-  version_goes bytes = chain _ _ _ _ _ _ (number_goes w16 bytes) (λ version rest. refused _ _ _ _ bytes _ (done _ _ _ _ refl))
+  version_goes bytes = chain _ _ _ _ _ _ (number_goes w16 bytes) (λ version rest. known _ _ bytes _ _ _ (λ width. done _ _ _ _ refl))
 
   pub head_goes : (bytes : List ℕ) → Tells bytes more → Goes counts_later more (head_at bytes) (head_at (bytes ++ more))
   unfolding head_at
@@ -219,8 +229,8 @@ module _ (more : List ℕ) where
     by : (b : Bool) → ltb (length bytes) 6 ≡ b → Goes counts_later more (head_at bytes) (head_at (bytes ++ more))
     by true short =
         let none = tells (ltb-true (length bytes) 6 short) in
-        goes_none counts_later head_at bytes none (λ c. let left : c.left + length more ≡ c.left = omega (arith, ap length none) in ap (λ n. let d : Counts = record { wide = c.wide; limit = c.limit; dirs = c.dirs; entries = c.entries; left = n } in d) left)
+        goes_none counts_later head_at bytes none (λ c. let left : c.left + length more ≡ c.left = omega (arith, ap length none) in ap (λ n. let d : Counts = record { width = c.width; limit = c.limit; dirs = c.dirs; entries = c.entries; left = n } in d) left)
     by false long =
         let enough : 6 ≤ length bytes = ltb-false (length bytes) 6 long in
         let mark : starts_with nat_eq (bytes ++ more) magic ≡ starts_with nat_eq bytes magic = rw (take-append-le 6 bytes more enough) refl in
-        rw (mark, drop-append-le 6 bytes more enough) (refused _ _ _ _ bytes _ (chain _ _ _ _ _ _ (version_goes (drop 6 bytes)) (λ wide rest. counts_goes wide rest)))
+        rw (mark, drop-append-le 6 bytes more enough) (refused _ _ _ _ bytes _ (chain _ _ _ _ _ _ (version_goes (drop 6 bytes)) (λ width rest. counts_goes width rest)))

@@ -12,12 +12,17 @@ use Rattle.gufi_base.specs.Limits.{max_link, max_xattrs}
 use Rattle.gufi_base.specs.Basics.{is_empty}
 use Rattle.gufi_base.specs.Names.{is_path_byte}
 use Rattle.gufi_base.specs.Xattrs.{are_xattrs}
-use Rattle.gufi_base.specs.Rows.{are_bytes, fits_i64, fits_types, is_well_formed}
+use Rattle.gufi_base.specs.Rows.{are_bytes, fits_i64, fits_types}
+use Rattle.gufi_access.specs.Acl.{is_acl_or_none}
+use Rattle.gufi_tree.specs.Tree.{is_well_formed}
 use Rattle.gufi_image.specs.declared.fault.Flaw.{Flaw}
-use Rattle.gufi_image.specs.Bytes.{u16_bytes, u32_bytes, u64_bytes, i64_bytes, owner_image, size_image, times_image, xattrs_image, record_image}
-use Rattle.gufi_image.specs.Image.{is_named}
-use Rattle.gufi_image.specs.Fields.{bytes_at, number_at, signed_at, meta_at, link_at, names_at, xattrs_at, record_at}
+use Rattle.gufi_image.specs.Bytes.{u16_bytes, u32_bytes, u64_bytes, i64_bytes, owner_image, size_image, times_image, extra_image, record_image}
+use Rattle.gufi_image.specs.declared.width.Width.{Width}
+use Rattle.gufi_image.specs.declared.width.Width.TheVariants.{Named, Guarded}
+use Rattle.gufi_image.specs.Widths.{has_names, has_acls, record_needs}
+use Rattle.gufi_image.specs.Fields.{bytes_at, number_at, signed_at, meta_at, link_at, names_at, acl_at, extra_at, record_at}
 use Rattle.gufi_image.proofs.Repeats.{bind_ok}
+use Rattle.gufi_image.proofs.ShortAcls.{acl_short}
 use Rattle.gufi_image.proofs.FieldsBack.{refused_ok, then_ok, ok_same, not_false, bytes_rest, step, Reads, reads_from, IsReader, bytes_reader, u16_reader, u32_reader, u64_reader}
 
 -- signed numbers
@@ -191,14 +196,19 @@ link_once bytes found are e =
 link_reader : IsReader IsLink link_image link_at
 link_reader = record { back = link_back; once = link_once }
 
--- names of extended attributes, of which a record has some only where it is wide
+-- what stands behind the link
 pub record IsNames (names : List ℕ) : Type 0 where
   pub sound : are_xattrs names ≡ true
   pub bytes : are_bytes names ≡ true
 
-abbrev pub AreNames : Bool → List ℕ → Type 0
-AreNames false names = names ≡ []
-AreNames true names = IsNames names
+pub record IsAclOrNone (acl : List ℕ) : Type 0 where
+  pub sound : is_acl_or_none acl ≡ true
+  pub bytes : are_bytes acl ≡ true
+
+-- which a record has only in some widths
+abbrev pub IsHeld : (List ℕ → Type 0) → Bool → List ℕ → Type 0
+IsHeld P false bytes = bytes ≡ []
+IsHeld P true bytes = P bytes
 
 names_short : (names : List ℕ) → are_xattrs names ≡ true → length names ≤ max_xattrs
 names_short names h = leb-true (length names) max_xattrs (and_parts _ _ (and_parts (leb (length names) max_xattrs && list_all is_path_byte names) _ h).0).0
@@ -227,71 +237,113 @@ names_once bytes found are e =
     let holds : IsNames names = record { sound = not_false _ sound.0; bytes = parts.0 } in
     reads_from IsNames link_image bytes found are (both ∙ sym (append_assoc (u16_bytes (length names)) names rest) ∙ ap (λ (x : List ℕ × List ℕ). link_image x.0 ++ x.1) same) (subst (λ (x : List ℕ × List ℕ). IsNames x.0) same holds)))
 
-xattrs_reader : (wide : Bool) → IsReader (AreNames wide) (xattrs_image wide) (xattrs_at wide)
-xattrs_reader true = record { back = names_back; once = names_once }
-xattrs_reader false = record {
-  back = λ names rest none. ap (λ (t : List ℕ). Ok (t, rest)) (sym none);
+acl_back : (acl rest : List ℕ) → IsAclOrNone acl → acl_at (link_image acl ++ rest) ≡ Ok (acl, rest)
+unfolding acl_at
+acl_back acl rest h =
+    let short = acl_short acl h.sound in
+    let fits : length acl < 2 ^ 16 = omega arith in
+    let count = u16_back (length acl) (acl ++ rest) fits in
+    let field = (bytes_reader (length acl)).back acl rest refl in
+    let sound = h.sound in
+    rw (append_assoc, count, field, sound) refl
+
+acl_once : (bytes : List ℕ) (found : List ℕ × List ℕ) → are_bytes bytes ≡ true → acl_at bytes ≡ Ok found → Reads IsAclOrNone link_image bytes found
+unfolding acl_at
+acl_once bytes found are e =
+    step u16_reader bytes _ found are e (λ count r1 i1 b1 a1 e1.
+    step (bytes_reader count) r1 _ found a1 e1 (λ acl rest i2 b2 a2 e2.
+    let sound = refused_ok (not (is_acl_or_none acl)) _ _ found e2 in
+    let same : (acl, rest) ≡ found = ok_same _ _ sound.1 in
+    let both : bytes ≡ u16_bytes (length acl) ++ (acl ++ rest) = cc in
+    let parts = bytes_rest acl rest (ap are_bytes (sym i2) ∙ a1) in
+    let holds : IsAclOrNone acl = record { sound = not_false _ sound.0; bytes = parts.0 } in
+    reads_from IsAclOrNone link_image bytes found are (both ∙ sym (append_assoc (u16_bytes (length acl)) acl rest) ∙ ap (λ (x : List ℕ × List ℕ). link_image x.0 ++ x.1) same) (subst (λ (x : List ℕ × List ℕ). IsAclOrNone x.0) same holds)))
+
+extra_reader : (P : List ℕ → Type 0) (read : List ℕ → Result (List ℕ × List ℕ) Flaw) (held : Bool) → IsReader P link_image read → IsReader (IsHeld P held) (extra_image held) (extra_at read held)
+extra_reader P read true r = r
+extra_reader P read false r = record {
+  back = λ bytes rest none. ap (λ (t : List ℕ). Ok (t, rest)) (sym none);
   once = λ bytes found are e.
       let same : ([], bytes) ≡ found = ok_same _ _ e in
-      reads_from (AreNames false) (xattrs_image false) bytes found are (ap (λ (x : List ℕ × List ℕ). x.1) same) (ap (λ (x : List ℕ × List ℕ). x.0) (sym same));
+      reads_from (IsHeld P false) (extra_image false) bytes found are (ap (λ (x : List ℕ × List ℕ). x.1) same) (ap (λ (x : List ℕ × List ℕ). x.0) (sym same));
 }
 
+xattrs_reader : (held : Bool) → IsReader (IsHeld IsNames held) (extra_image held) (extra_at names_at held)
+xattrs_reader held = extra_reader IsNames names_at held (record { back = names_back; once = names_once })
+
+acl_reader : (held : Bool) → IsReader (IsHeld IsAclOrNone held) (extra_image held) (extra_at acl_at held)
+acl_reader held = extra_reader IsAclOrNone acl_at held (record { back = acl_back; once = acl_once })
+
 -- records of a kind
-pub record IsRecord (wide : Bool) (kind : Kind) (rec : Rec) : Type 0 where
+pub record IsRecord (width : Width) (kind : Kind) (rec : Rec) : Type 0 where
   pub meta : IsMeta kind rec.meta
   pub link : IsLink rec.link
-  pub xattrs : AreNames wide rec.xattrs
+  pub xattrs : IsHeld IsNames (has_names width) rec.xattrs
+  pub acl : IsHeld IsAclOrNone (has_acls width) rec.acl
 
-record_apart : (wide : Bool) (rec : Rec) (rest : List ℕ) → record_image wide rec ++ rest ≡ meta_image rec.meta ++ (link_image rec.link ++ (xattrs_image wide rec.xattrs ++ rest))
+record_apart : (width : Width) (rec : Rec) (rest : List ℕ)
+    → record_image width rec ++ rest ≡ meta_image rec.meta ++ (link_image rec.link ++ (extra_image (has_names width) rec.xattrs ++ (extra_image (has_acls width) rec.acl ++ rest)))
 unfolding record_image
-record_apart wide rec rest = by (xattrs_image wide rec.xattrs) where
-  by : (names : List ℕ) → (owner_image rec.meta ++ (size_image rec.meta ++ (times_image rec.meta ++ (u16_bytes (length rec.link) ++ (rec.link ++ names))))) ++ rest ≡ meta_image rec.meta ++ (link_image rec.link ++ (names ++ rest))
-  by names = simp append_assoc
+record_apart width rec rest = by (extra_image (has_names width) rec.xattrs) (extra_image (has_acls width) rec.acl) where
+  by : (names acl : List ℕ)
+      → (owner_image rec.meta ++ (size_image rec.meta ++ (times_image rec.meta ++ (u16_bytes (length rec.link) ++ (rec.link ++ (names ++ acl)))))) ++ rest ≡ meta_image rec.meta ++ (link_image rec.link ++ (names ++ (acl ++ rest)))
+  by names acl = simp append_assoc
 
-record_back : (wide : Bool) (kind : Kind) (rec : Rec) (rest : List ℕ) → IsRecord wide kind rec → record_at wide kind (record_image wide rec ++ rest) ≡ Ok (rec, rest)
+record_back : (width : Width) (kind : Kind) (rec : Rec) (rest : List ℕ) → IsRecord width kind rec → record_at width kind (record_image width rec ++ rest) ≡ Ok (rec, rest)
 unfolding record_at
-record_back wide kind rec rest h =
-    let names = xattrs_image wide rec.xattrs ++ rest in
+record_back width kind rec rest h =
+    let list = extra_image (has_acls width) rec.acl ++ rest in
+    let names = extra_image (has_names width) rec.xattrs ++ list in
     let meta = (meta_reader kind).back rec.meta (link_image rec.link ++ names) h.meta in
     let link = link_back rec.link names h.link in
-    let xattrs = (xattrs_reader wide).back rec.xattrs rest h.xattrs in
-    rw (record_apart wide rec rest, meta, link, xattrs) refl
+    let xattrs = (xattrs_reader (has_names width)).back rec.xattrs list h.xattrs in
+    let acl = (acl_reader (has_acls width)).back rec.acl rest h.acl in
+    rw (record_apart width rec rest, meta, link, xattrs, acl) refl
 
-record_once : (wide : Bool) (kind : Kind) (bytes : List ℕ) (found : Rec × List ℕ) → are_bytes bytes ≡ true → record_at wide kind bytes ≡ Ok found → Reads (IsRecord wide kind) (record_image wide) bytes found
+record_once : (width : Width) (kind : Kind) (bytes : List ℕ) (found : Rec × List ℕ) → are_bytes bytes ≡ true → record_at width kind bytes ≡ Ok found → Reads (IsRecord width kind) (record_image width) bytes found
 unfolding record_at
-record_once wide kind bytes found are e =
+record_once width kind bytes found are e =
     step (meta_reader kind) bytes _ found are e (λ meta r1 i1 b1 a1 e1.
     step link_reader r1 _ found a1 e1 (λ link r2 i2 b2 a2 e2.
-    step (xattrs_reader wide) r2 _ found a2 e2 (λ xattrs rest i3 b3 a3 e3.
-    let rec : Rec = record { meta = meta; link = link; xattrs = xattrs } in
-    let same : (rec, rest) ≡ found = ok_same _ _ e3 in
-    let is : bytes ≡ meta_image meta ++ (link_image link ++ (xattrs_image wide xattrs ++ rest)) = i1 ∙ ap (λ (t : List ℕ). meta_image meta ++ t) (i2 ∙ ap (λ (t : List ℕ). link_image link ++ t) i3) in
-    let holds : IsRecord wide kind rec = record { meta = b1; link = b2; xattrs = b3 } in
-    reads_from (IsRecord wide kind) (record_image wide) bytes found are (is ∙ sym (record_apart wide rec rest) ∙ ap (λ (x : Rec × List ℕ). record_image wide x.0 ++ x.1) same) (subst (λ (x : Rec × List ℕ). IsRecord wide kind x.0) same holds))))
+    step (xattrs_reader (has_names width)) r2 _ found a2 e2 (λ xattrs r3 i3 b3 a3 e3.
+    step (acl_reader (has_acls width)) r3 _ found a3 e3 (λ acl rest i4 b4 a4 e4.
+    let rec : Rec = record { meta = meta; link = link; xattrs = xattrs; acl = acl } in
+    let same : (rec, rest) ≡ found = ok_same _ _ e4 in
+    let is : bytes ≡ meta_image meta ++ (link_image link ++ (extra_image (has_names width) xattrs ++ (extra_image (has_acls width) acl ++ rest))) =
+    i1 ∙ ap (λ (t : List ℕ). meta_image meta ++ t) (i2 ∙ ap (λ (t : List ℕ). link_image link ++ t) (i3 ∙ ap (λ (t : List ℕ). extra_image (has_names width) xattrs ++ t) i4)) in
+    let holds : IsRecord width kind rec = record { meta = b1; link = b2; xattrs = b3; acl = b4 } in
+    reads_from (IsRecord width kind) (record_image width) bytes found are (is ∙ sym (record_apart width rec rest) ∙ ap (λ (x : Rec × List ℕ). record_image width x.0 ++ x.1) same) (subst (λ (x : Rec × List ℕ). IsRecord width kind x.0) same holds)))))
 
-pub record_reader : (wide : Bool) (kind : Kind) → IsReader (IsRecord wide kind) (record_image wide) (record_at wide kind)
-record_reader wide kind = record { back = record_back wide kind; once = record_once wide kind }
+pub record_reader : (width : Width) (kind : Kind) → IsReader (IsRecord width kind) (record_image width) (record_at width kind)
+record_reader width kind = record { back = record_back width kind; once = record_once width kind }
 
--- A record that has no names, where it isn't wide.
-abbrev pub fits_width : Bool → Rec → Bool
-fits_width wide rec = wide || not (is_named rec)
+-- A record that has nothing which only a greater width holds.
+abbrev pub fits_width : Width → Rec → Bool
+fits_width width rec = (has_names width || not (record_needs Named rec)) && (has_acls width || not (record_needs Guarded rec))
 
-names_fit : (wide : Bool) (names : List ℕ) → are_xattrs names ≡ true → are_bytes names ≡ true → (wide || not (not (is_empty names))) ≡ true → AreNames wide names
-names_fit true names sound bytes h = record { sound = sound; bytes = bytes }
-names_fit false [] sound bytes h = refl
-names_fit false (b ∷ names) sound bytes h = absurd cc
+held_from : (P : List ℕ → Type 0) (held : Bool) (bytes : List ℕ) → P bytes → (held || not (not (is_empty bytes))) ≡ true → IsHeld P held bytes
+held_from P true bytes sound h = sound
+held_from P false [] sound h = refl
+held_from P false (b ∷ bytes) sound h = absurd cc
 
-pub names_sound : (wide : Bool) (names : List ℕ) → AreNames wide names → (are_xattrs names ≡ true) × (are_bytes names ≡ true)
-names_sound true names h = (h.sound, h.bytes)
-names_sound false names h = rw h (refl, refl)
+names_sound : (held : Bool) (names : List ℕ) → IsHeld IsNames held names → IsNames names
+names_sound true names h = h
+names_sound false names h = rw h (record { sound = refl; bytes = refl })
+
+acl_sound : (held : Bool) (acl : List ℕ) → IsHeld IsAclOrNone held acl → IsAclOrNone acl
+acl_sound true acl h = h
+acl_sound false acl h = rw h (record { sound = refl; bytes = refl })
 
 -- A record is one of its kind where it is well formed and its numbers fit their types.
-pub record_parts : (wide : Bool) (rec : Rec) → is_well_formed rec ≡ true → fits_types rec ≡ true → fits_width wide rec ≡ true → IsRecord wide rec.meta.kind rec
-record_parts wide rec sound fits width =
-    let named = and_parts (leb rec.meta.mode 4095 && leb (length rec.link) max_link && list_all is_path_byte rec.link) (are_xattrs rec.xattrs) sound in
+pub record_parts : (width : Width) (rec : Rec) → is_well_formed rec ≡ true → fits_types rec ≡ true → fits_width width rec ≡ true → IsRecord width rec.meta.kind rec
+record_parts width rec sound fits fitting =
+    let guarded = and_parts (leb rec.meta.mode 4095 && leb (length rec.link) max_link && list_all is_path_byte rec.link && are_xattrs rec.xattrs) (is_acl_or_none rec.acl) sound in
+    let named = and_parts (leb rec.meta.mode 4095 && leb (length rec.link) max_link && list_all is_path_byte rec.link) (are_xattrs rec.xattrs) guarded.0 in
     let outer = and_parts (leb rec.meta.mode 4095 && leb (length rec.link) max_link) (list_all is_path_byte rec.link) named.0 in
     let inner = and_parts (leb rec.meta.mode 4095) (leb (length rec.link) max_link) outer.0 in
-    let xattrs = and_parts _ _ fits in
+    let held = and_parts (has_names width || not (record_needs Named rec)) (has_acls width || not (record_needs Guarded rec)) fitting in
+    let acl = and_parts _ _ fits in
+    let xattrs = and_parts _ _ acl.0 in
     let link = and_parts _ _ xattrs.0 in
     let ctime = and_parts _ _ link.0 in
     let mtime = and_parts _ _ ctime.0 in
@@ -319,18 +371,21 @@ record_parts wide rec sound fits width =
         ctime = ctime.1;
       };
       link = record { short = leb-true _ _ inner.1; sound = outer.1; bytes = link.1 };
-      xattrs = names_fit wide rec.xattrs named.1 xattrs.1 width;
+      xattrs = held_from IsNames (has_names width) rec.xattrs (record { sound = named.1; bytes = xattrs.1 }) held.0;
+      acl = held_from IsAclOrNone (has_acls width) rec.acl (record { sound = guarded.1; bytes = acl.1 }) held.1;
     }
 
-pub record_sound : (wide : Bool) (kind : Kind) (rec : Rec) → IsRecord wide kind rec → is_well_formed rec ≡ true
-record_sound wide kind rec h =
-    and_from _ _ (and_from _ _ (and_from _ _ (le-leb rec.meta.mode 4095 h.meta.mode) (le-leb (length rec.link) max_link h.link.short)) h.link.sound) (names_sound wide rec.xattrs h.xattrs).0
+pub record_sound : (width : Width) (kind : Kind) (rec : Rec) → IsRecord width kind rec → is_well_formed rec ≡ true
+record_sound width kind rec h =
+    and_from _ _ (and_from _ _ (and_from _ _ (and_from _ _ (le-leb rec.meta.mode 4095 h.meta.mode) (le-leb (length rec.link) max_link h.link.short)) h.link.sound) (names_sound (has_names width) rec.xattrs h.xattrs).sound)
+    (acl_sound (has_acls width) rec.acl h.acl).sound
 
-pub record_fits : (wide : Bool) (kind : Kind) (rec : Rec) → IsRecord wide kind rec → fits_types rec ≡ true
-record_fits wide kind rec h =
+pub record_fits : (width : Width) (kind : Kind) (rec : Rec) → IsRecord width kind rec → fits_types rec ≡ true
+record_fits width kind rec h =
     let m = h.meta in
     let mode : rec.meta.mode < 2 ^ 16 = omega (arith, m.mode) in
     and_from _ _
+    (and_from _ _
     (and_from _ _
     (and_from _ _
     (and_from _ _
@@ -352,4 +407,5 @@ record_fits wide kind rec h =
     m.mtime)
     m.ctime)
     h.link.bytes)
-    (names_sound wide rec.xattrs h.xattrs).1
+    (names_sound (has_names width) rec.xattrs h.xattrs).bytes)
+    (acl_sound (has_acls width) rec.acl h.acl).bytes

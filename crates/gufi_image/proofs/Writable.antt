@@ -1,5 +1,5 @@
 -- What can be written is read: each directory of such a tree behind those before it.
-use Rattle.std.proofs.Common.{◌≡◌, ℕ, zero, suc, ◌+◌, ◌<◌, ◌≤◌, Bool, true, false, not, ◌&&◌, ◌||◌, ltb, List, [], ◌∷◌, ◌++◌, length, map, get_or, Some, refl, sym, ap, subst, ◌∙◌, arith, append_assoc, inl, inr, ◌⊎◌, ⊎_elim}
+use Rattle.std.proofs.Common.{◌≡◌, ℕ, zero, suc, ◌+◌, ◌<◌, ◌≤◌, Bool, true, false, not, ◌&&◌, ◌||◌, cond, ltb, List, [], ◌∷◌, ◌++◌, length, map, get_or, Some, refl, sym, ap, subst, ◌∙◌, arith, append_assoc, inl, inr, ◌⊎◌, ⊎_elim}
 use Rattle.std.specs.Prelude.{bytes_eq, slice_get}
 use Rattle.std.specs.Ordering.{is_lt}
 use Rattle.std.specs.declared.cmp.Ordering.{Ordering}
@@ -21,14 +21,16 @@ use Rattle.gufi_base.specs.Limits.{max_dirs, max_entries}
 use Rattle.gufi_base.specs.Names.{is_name}
 use Rattle.gufi_base.specs.Kinds.{is_dir}
 use Rattle.gufi_base.specs.Paths.{Components, path_cmp, parent_path, is_too_long}
-use Rattle.gufi_base.specs.Rows.{are_bytes, fits_types, row_fits_types, is_well_formed}
+use Rattle.gufi_base.specs.Rows.{are_bytes, fits_types, row_fits_types}
 use Rattle.gufi_base.proofs.Cuts.{all_but_last_and_last}
 use Rattle.gufi_tree.specs.declared.tree.Entry.{Entry}
-use Rattle.gufi_tree.specs.Tree.{Directory, dir_cmp, entry_cmp, entry_count, has_dir, has_entry_named, is_at, is_entry_of, is_directory_of, is_tree, own_rows, dir_row, entry_row}
+use Rattle.gufi_tree.specs.Tree.{Directory, dir_cmp, entry_cmp, entry_count, has_dir, has_entry_named, is_at, is_entry_of, is_directory_of, is_tree, own_rows, dir_row, entry_row, is_well_formed}
 use Rattle.gufi_tree.proofs.Built.{path_eq-Decides, path_cmp-total, dir_cmp-total}
 use Rattle.gufi_tree.proofs.Linked.{root_first}
+use Rattle.gufi_image.specs.declared.width.Width.{Width}
 use Rattle.gufi_image.specs.Entries as entries
-use Rattle.gufi_image.specs.Image.{is_named, holds_named, holds_xattrs, has_xattrs}
+use Rattle.gufi_image.specs.declared.width.Width.TheVariants.{Narrow, Named, Guarded}
+use Rattle.gufi_image.specs.Widths.{has_names, has_acls, record_needs, entries_need, directory_needs, tree_needs, width_of}
 use Rattle.gufi_image.specs.Placed.{IsChild}
 use Rattle.gufi_image.specs.Laws.{IsWritable}
 use Rattle.gufi_image.proofs.Fronts.{cond_parts, path_more, any_there, not_true}
@@ -49,9 +51,9 @@ abbrev pub is_short : Row → Bool
 is_short row = not (is_too_long row.path)
 
 -- the entries of a directory of the tree
-next_entry : (wide : Bool) (tree : List Directory) (path : Components) (before : List Entry) (entry : Entry) → entries.follows before entry.name ≡ true → is_entry_of tree path entry ≡ true → row_fits_types (entry_row path entry) ≡ true → is_short (entry_row path entry) ≡ true → fits_width wide entry.rec ≡ true
-    → IsNextEntry wide path before entry
-next_entry wide tree path before entry above own fits short width =
+next_entry : (width : Width) (tree : List Directory) (path : Components) (before : List Entry) (entry : Entry) → entries.follows before entry.name ≡ true → is_entry_of tree path entry ≡ true → row_fits_types (entry_row path entry) ≡ true → is_short (entry_row path entry) ≡ true → fits_width width entry.rec ≡ true
+    → IsNextEntry width path before entry
+next_entry width tree path before entry above own fits short fitting =
     let apart = and_parts (not (is_dir entry.rec.meta.kind) && is_well_formed entry.rec && is_name entry.name) (not (has_dir tree (path ++ entry.name ∷ []))) own in
     let named = and_parts (not (is_dir entry.rec.meta.kind) && is_well_formed entry.rec) (is_name entry.name) apart.0 in
     let sound = and_parts (not (is_dir entry.rec.meta.kind)) (is_well_formed entry.rec) named.0 in
@@ -61,18 +63,18 @@ next_entry wide tree path before entry above own fits short width =
       apart = not_true (is_dir entry.rec.meta.kind) sound.0;
       below = record { named = named.1; short = not_true (is_too_long (path ++ entry.name ∷ [])) short; bytes = (and_parts (are_bytes entry.name) true bytes.1).0 };
       above = above;
-      rec = record_parts wide entry.rec sound.1 types.1 width;
+      rec = record_parts width entry.rec sound.1 types.1 fitting;
     }
 
-next_entries : (wide : Bool) (tree : List Directory) (path : Components) (before es : List Entry) → ascends entry_cmp (before ++ es) ≡ true → list_all (is_entry_of tree path) es ≡ true → list_all row_fits_types (map (entry_row path) es) ≡ true → list_all is_short (map (entry_row path) es) ≡ true → list_all (λ (e : Entry). fits_width wide e.rec) es ≡ true
-    → AreNextEntries wide path before es
-next_entries wide tree path before [] up own fits short width = tt
-next_entries wide tree path before (e ∷ es) up own fits short width =
+next_entries : (width : Width) (tree : List Directory) (path : Components) (before es : List Entry) → ascends entry_cmp (before ++ es) ≡ true → list_all (is_entry_of tree path) es ≡ true → list_all row_fits_types (map (entry_row path) es) ≡ true → list_all is_short (map (entry_row path) es) ≡ true → list_all (λ (e : Entry). fits_width width e.rec) es ≡ true
+    → AreNextEntries width path before es
+next_entries width tree path before [] up own fits short fitting = tt
+next_entries width tree path before (e ∷ es) up own fits short fitting =
     let o = and_parts (is_entry_of tree path e) (list_all (is_entry_of tree path) es) own in
     let f = and_parts (row_fits_types (entry_row path e)) (list_all row_fits_types (map (entry_row path) es)) fits in
     let s = and_parts (is_short (entry_row path e)) (list_all is_short (map (entry_row path) es)) short in
-    let w = and_parts (fits_width wide e.rec) (list_all (λ (v : Entry). fits_width wide v.rec) es) width in
-    (next_entry wide tree path before e (above before up) o.0 f.0 s.0 w.0, next_entries wide tree path (before ++ e ∷ []) es (ap (ascends entry_cmp) (append_assoc before (e ∷ []) es) ∙ up) o.1 f.1 s.1 w.1) where
+    let w = and_parts (fits_width width e.rec) (list_all (λ (v : Entry). fits_width width v.rec) es) fitting in
+    (next_entry width tree path before e (above before up) o.0 f.0 s.0 w.0, next_entries width tree path (before ++ e ∷ []) es (ap (ascends entry_cmp) (append_assoc before (e ∷ []) es) ∙ up) o.1 f.1 s.1 w.1) where
       above : (bs : List Entry) → ascends entry_cmp (bs ++ e ∷ es) ≡ true → entries.follows bs e.name ≡ true
       above [] h = refl
       above (b ∷ bs) h = above_last entry_cmp b bs e es h
@@ -89,29 +91,54 @@ own_all q (x ∷ tree) zero d all there =
 own_all q (x ∷ tree) (suc i) d all there = own_all q tree i d (own_parts q x tree all).1 there
 
 -- What is known of each directory of such a tree.
-record IsOwn (wide : Bool) (tree : List Directory) (d : Directory) : Type 0 where
+record IsOwn (width : Width) (tree : List Directory) (d : Directory) : Type 0 where
   pub sound : IsSound d.path
   pub parent : has_dir tree (parent_path d.path) ≡ true
-  pub rec : IsRecord wide Dir d.rec
+  pub rec : IsRecord width Dir d.rec
   pub each : list_all (is_entry_of tree d.path) d.entries ≡ true
-  pub entries : AreNextEntries wide d.path [] d.entries
+  pub entries : AreNextEntries width d.path [] d.entries
 
--- Where records are narrow, none has names.
-dir_fits : (wide : Bool) (d : Directory) → (wide || not (holds_xattrs d)) ≡ true → (fits_width wide d.rec ≡ true) × (list_all (λ (e : Entry). fits_width wide e.rec) d.entries ≡ true)
-dir_fits true d h = (refl, all d.entries) where
-  all : (es : List Entry) → list_all (λ (e : Entry). fits_width true e.rec) es ≡ true
+-- A directory that has nothing which only a greater width holds.
+abbrev dir_fits : Width → Directory → Bool
+dir_fits width d = (has_names width || not (directory_needs Named d)) && (has_acls width || not (directory_needs Guarded d))
+
+-- Its records are such records.
+held_in : (held : Bool) (need : Width) (d : Directory) → (held || not (directory_needs need d)) ≡ true → ((held || not (record_needs need d.rec)) ≡ true) × (list_all (λ (e : Entry). held || not (record_needs need e.rec)) d.entries ≡ true)
+held_in true need d h = (refl, all d.entries) where
+  all : (es : List Entry) → list_all (λ (e : Entry). true || not (record_needs need e.rec)) es ≡ true
   all [] = refl
   all (e ∷ es) = all es
-dir_fits false d h = let none = or_parts (is_named d.rec) (holds_named d.entries) (not_true _ h) in (ap not none.0, all d.entries none.1) where
-  all : (es : List Entry) → holds_named es ≡ false → list_all (λ (e : Entry). fits_width false e.rec) es ≡ true
+held_in false need d h = let none = or_parts (record_needs need d.rec) (entries_need need d.entries) (not_true _ h) in (ap not none.0, all d.entries none.1) where
+  all : (es : List Entry) → entries_need need es ≡ false → list_all (λ (e : Entry). false || not (record_needs need e.rec)) es ≡ true
   all [] none = refl
-  all (e ∷ es) none = let both = or_parts (is_named e.rec) (holds_named es) none in and_from _ _ (ap not both.0) (all es both.1)
+  all (e ∷ es) none = let both = or_parts (record_needs need e.rec) (entries_need need es) none in and_from _ _ (ap not both.0) (all es both.1)
 
-all_fit : (tree : List Directory) (i : ℕ) (d : Directory) → slice_get tree i ≡ Some d → (has_xattrs tree || not (holds_xattrs d)) ≡ true
-all_fit tree i d there = by (has_xattrs tree) refl where
-  by : (b : Bool) → has_xattrs tree ≡ b → (b || not (holds_xattrs d)) ≡ true
-  by true e = refl
-  by false e = ap not (false_from (holds_xattrs d) (λ named. absurd (false≢true (sym e ∙ any_there holds_xattrs tree i d there named))))
+both_all : (q r : Entry → Bool) (es : List Entry) → list_all q es ≡ true → list_all r es ≡ true → list_all (λ (e : Entry). q e && r e) es ≡ true
+both_all q r [] h k = refl
+both_all q r (e ∷ es) h k =
+    let p = and_parts (q e) (list_all q es) h in
+    let s = and_parts (r e) (list_all r es) k in
+    and_from _ _ (and_from (q e) (r e) p.0 s.0) (both_all q r es p.1 s.1)
+
+records_fit : (width : Width) (d : Directory) → dir_fits width d ≡ true → (fits_width width d.rec ≡ true) × (list_all (λ (e : Entry). fits_width width e.rec) d.entries ≡ true)
+records_fit width d h =
+    let both = and_parts (has_names width || not (directory_needs Named d)) (has_acls width || not (directory_needs Guarded d)) h in
+    let names = held_in (has_names width) Named d both.0 in
+    let acls = held_in (has_acls width) Guarded d both.1 in (
+      and_from _ _ names.0 acls.0,
+      both_all (λ (e : Entry). has_names width || not (record_needs Named e.rec)) (λ (e : Entry). has_acls width || not (record_needs Guarded e.rec)) d.entries names.1 acls.1,
+    )
+
+-- The least width holds all directories of the tree.
+all_fit : (tree : List Directory) (i : ℕ) (d : Directory) → slice_get tree i ≡ Some d → dir_fits (width_of tree) d ≡ true
+all_fit tree i d there = by (tree_needs Guarded tree) (tree_needs Named tree) refl refl where
+  none : (need : Width) → tree_needs need tree ≡ false → not (directory_needs need d) ≡ true
+  none need e = ap not (false_from (directory_needs need d) (λ needed. absurd (false≢true (sym e ∙ any_there (directory_needs need) tree i d there needed))))
+
+  by : (acls names : Bool) → tree_needs Guarded tree ≡ acls → tree_needs Named tree ≡ names → dir_fits (cond acls Guarded (cond names Named Narrow)) d ≡ true
+  by true names guarded named = refl
+  by false true guarded named = none Guarded guarded
+  by false false guarded named = and_from _ _ (none Named named) (none Guarded guarded)
 
 dir_only : (kind : Kind) → is_dir kind ≡ true → kind ≡ Dir
 dir_only Block h = absurd cc
@@ -122,9 +149,9 @@ dir_only Fifo h = absurd cc
 dir_only File h = absurd cc
 dir_only Socket h = absurd cc
 
-own_directory : (wide : Bool) (tree : List Directory) (d : Directory) → is_directory_of tree d ≡ true → list_all row_fits_types (own_rows d) ≡ true → list_all is_short (own_rows d) ≡ true → (wide || not (holds_xattrs d)) ≡ true → IsOwn wide tree d
-own_directory wide tree d own fits short width =
-    let w = dir_fits wide d width in
+own_directory : (width : Width) (tree : List Directory) (d : Directory) → is_directory_of tree d ≡ true → list_all row_fits_types (own_rows d) ≡ true → list_all is_short (own_rows d) ≡ true → dir_fits width d ≡ true → IsOwn width tree d
+own_directory width tree d own fits short fitting =
+    let w = records_fit width d fitting in
     let each = and_parts (is_dir d.rec.meta.kind && is_well_formed d.rec && list_all is_name d.path && has_dir tree (parent_path d.path) && ascends entry_cmp d.entries) (list_all (is_entry_of tree d.path) d.entries) own in
     let up = and_parts (is_dir d.rec.meta.kind && is_well_formed d.rec && list_all is_name d.path && has_dir tree (parent_path d.path)) (ascends entry_cmp d.entries) each.0 in
     let parent = and_parts (is_dir d.rec.meta.kind && is_well_formed d.rec && list_all is_name d.path) (has_dir tree (parent_path d.path)) up.0 in
@@ -136,9 +163,9 @@ own_directory wide tree d own fits short width =
     record {
       sound = record { named = named.1; bytes = types.0; short = not_true (is_too_long d.path) s.0 };
       parent = parent.1;
-      rec = subst (λ (k : Kind). IsRecord wide k d.rec) (dir_only d.rec.meta.kind kind.0) (record_parts wide d.rec kind.1 types.1 w.0);
+      rec = subst (λ (k : Kind). IsRecord width k d.rec) (dir_only d.rec.meta.kind kind.0) (record_parts width d.rec kind.1 types.1 w.0);
       each = each.1;
-      entries = next_entries wide tree d.path [] d.entries up.1 each.1 f.1 s.1 w.1;
+      entries = next_entries width tree d.path [] d.entries up.1 each.1 f.1 s.1 w.1;
     }
 
 -- the parent of a directory stands before it
@@ -196,9 +223,9 @@ there_itself : (before : List Directory) (d : Directory) (more : List Directory)
 there_itself [] d more = refl
 there_itself (x ∷ before) d more = there_itself before d more
 
-child : (wide : Bool) (first : Directory) (bs : List Directory) (d : Directory) (more : List Directory) → ascends dir_cmp ((first ∷ bs) ++ d ∷ more) ≡ true
-    → ((i : ℕ) (x : Directory) → slice_get ((first ∷ bs) ++ d ∷ more) i ≡ Some x → IsOwn wide ((first ∷ bs) ++ d ∷ more) x) → IsChild (first ∷ bs) d.path
-child wide first bs d more up each =
+child : (width : Width) (first : Directory) (bs : List Directory) (d : Directory) (more : List Directory) → ascends dir_cmp ((first ∷ bs) ++ d ∷ more) ≡ true
+    → ((i : ℕ) (x : Directory) → slice_get ((first ∷ bs) ++ d ∷ more) i ≡ Some x → IsOwn width ((first ∷ bs) ++ d ∷ more) x) → IsChild (first ∷ bs) d.path
+child width first bs d more up each =
     let dirs = first ∷ bs in
     let all = (first ∷ bs) ++ d ∷ more in
     let itself = there_itself (first ∷ bs) d more in
@@ -222,26 +249,26 @@ child wide first bs d more up each =
       above = above_last dir_cmp first bs d more up;
     }
 
-next_path : (wide : Bool) (before : List Directory) (d : Directory) (more : List Directory) → has_dir (before ++ d ∷ more) [] ≡ true → ascends dir_cmp (before ++ d ∷ more) ≡ true
-    → ((i : ℕ) (x : Directory) → slice_get (before ++ d ∷ more) i ≡ Some x → IsOwn wide (before ++ d ∷ more) x) → IsNextPath before d.path
-next_path wide [] d more root up each = root_first (d ∷ more) up root
-next_path wide (first ∷ bs) d more root up each = record { child = child wide first bs d more up each; sound = (each (length (first ∷ bs)) d (there_itself (first ∷ bs) d more)).sound }
+next_path : (width : Width) (before : List Directory) (d : Directory) (more : List Directory) → has_dir (before ++ d ∷ more) [] ≡ true → ascends dir_cmp (before ++ d ∷ more) ≡ true
+    → ((i : ℕ) (x : Directory) → slice_get (before ++ d ∷ more) i ≡ Some x → IsOwn width (before ++ d ∷ more) x) → IsNextPath before d.path
+next_path width [] d more root up each = root_first (d ∷ more) up root
+next_path width (first ∷ bs) d more root up each = record { child = child width first bs d more up each; sound = (each (length (first ∷ bs)) d (there_itself (first ∷ bs) d more)).sound }
 
-next_directories : (wide : Bool) (tree before ds : List Directory) → tree ≡ before ++ ds → has_dir tree [] ≡ true → ascends dir_cmp tree ≡ true → ((i : ℕ) (x : Directory) → slice_get tree i ≡ Some x → IsOwn wide tree x)
-    → AreNextDirectories wide (entry_count tree) before ds
-next_directories wide tree before [] whole root up each = tt
-next_directories wide tree before (d ∷ more) whole root up each =
+next_directories : (width : Width) (tree before ds : List Directory) → tree ≡ before ++ ds → has_dir tree [] ≡ true → ascends dir_cmp tree ≡ true → ((i : ℕ) (x : Directory) → slice_get tree i ≡ Some x → IsOwn width tree x)
+    → AreNextDirectories width (entry_count tree) before ds
+next_directories width tree before [] whole root up each = tt
+next_directories width tree before (d ∷ more) whole root up each =
     let all = before ++ d ∷ more in
     let own = each (length before) d (ap (λ (ds : List Directory). slice_get ds (length before)) whole ∙ there_itself before d more) in
     let count : entry_count tree ≡ entry_count before + entry_count (d ∷ more) = ap (λ (ds : List Directory). entry_count ds) whole ∙ sum_by-append (λ (v : Directory). length v.entries) before (d ∷ more) in
     let one = sum_by-cons (λ (v : Directory). length v.entries) d more in (
       record {
-        path = next_path wide before d more (ap (λ (ds : List Directory). has_dir ds []) (sym whole) ∙ root) (ap (ascends dir_cmp) (sym whole) ∙ up) (subst (λ (ds : List Directory). (i : ℕ) (x : Directory) → slice_get ds i ≡ Some x → IsOwn wide ds x) whole each);
+        path = next_path width before d more (ap (λ (ds : List Directory). has_dir ds []) (sym whole) ∙ root) (ap (ascends dir_cmp) (sym whole) ∙ up) (subst (λ (ds : List Directory). (i : ℕ) (x : Directory) → slice_get ds i ≡ Some x → IsOwn width ds x) whole each);
         rec = own.rec;
         few = omega (arith, count, one);
         entries = own.entries;
       },
-      next_directories wide tree (before ++ d ∷ []) more (whole ∙ sym (append_assoc before (d ∷ []) more)) root up each,
+      next_directories width tree (before ++ d ∷ []) more (whole ∙ sym (append_assoc before (d ∷ []) more)) root up each,
     )
 
 -- what is written is read
@@ -262,5 +289,5 @@ all_written tree limit h =
       few = ltb-false max_dirs (length tree) few.0;
       entries = ltb-false max_entries (entry_count tree) few.1;
       order = front.1;
-      next = next_directories (has_xattrs tree) tree [] tree refl front.0 front.1 (λ i x there. own_directory (has_xattrs tree) tree x (all_there (is_directory_of tree) tree i x t.1 there) (own_all row_fits_types tree i x p.1 there) (own_all is_short tree i x h.short there) (all_fit tree i x there));
+      next = next_directories (width_of tree) tree [] tree refl front.0 front.1 (λ i x there. own_directory (width_of tree) tree x (all_there (is_directory_of tree) tree i x t.1 there) (own_all row_fits_types tree i x p.1 there) (own_all is_short tree i x h.short there) (all_fit tree i x there));
     }

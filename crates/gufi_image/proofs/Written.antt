@@ -18,6 +18,7 @@ use Rattle.gufi_tree.specs.Tree.{Directory, own_rows, entry_row, entry_count, pl
 use Rattle.gufi_tree.specs.Places.{dir_id, path_at, parent_id}
 use Rattle.gufi_tree.proofs.Linked.{root_first}
 use Rattle.gufi_roll.specs.CanRoll.{can_roll}
+use Rattle.gufi_image.specs.declared.width.Width.{Width}
 use Rattle.gufi_image.specs.Image.{entry_image, entries_image, parent_number, parts_image, directory_image, directories_image}
 
 -- the last name of a path, by its kept text
@@ -63,33 +64,33 @@ directory_there (x ∷ tree) zero d lt = refl
 directory_there (x ∷ tree) (suc i) d lt = directory_there tree i d (omega (arith, lt))
 
 -- one directory more
-pub directories_more : (wide : Bool) (tree : List Directory) (limit i parent : ℕ) (flag : Bool) (path : Components) (rec : Rec) (es : List Entry)
+pub directories_more : (width : Width) (tree : List Directory) (limit i parent : ℕ) (flag : Bool) (path : Components) (rec : Rec) (es : List Entry)
     → parent ≡ parent_number tree (path_at tree i) → flag ≡ can_roll tree limit (path_at tree i) → path ≡ path_at tree i
     → ((d : Directory) → rec ≡ (get_or tree i d).rec) → ((d : Directory) → es ≡ (get_or tree i d).entries) → i < length tree
-    → directories_image wide tree limit (take (i + 1) tree) ≡ directories_image wide tree limit (take i tree) ++ parts_image wide parent flag path rec es
-directories_more wide tree limit i parent flag path rec es n f p r e lt =
+    → directories_image width tree limit (take (i + 1) tree) ≡ directories_image width tree limit (take i tree) ++ parts_image width parent flag path rec es
+directories_more width tree limit i parent flag path rec es n f p r e lt =
     let d : Directory = record { path = path; rec = rec; entries = es } in
     let here = get_or tree i d in
     let at : path ≡ here.path = p ∙ directory_there tree i d lt in
-    let own : directory_image wide tree limit here ≡ parts_image wide parent flag path rec es =
-    ap (λ (q : Components). parts_image wide (parent_number tree q) (can_roll tree limit q) q here.rec here.entries) (sym at)
-    ∙ ap (λ (v : Rec). parts_image wide (parent_number tree path) (can_roll tree limit path) path v here.entries) (sym (r d))
-    ∙ ap (λ (v : List Entry). parts_image wide (parent_number tree path) (can_roll tree limit path) path rec v) (sym (e d))
-    ∙ ap (λ (q : Components). parts_image wide (parent_number tree q) (can_roll tree limit path) path rec es) p
-    ∙ ap (λ k. parts_image wide k (can_roll tree limit path) path rec es) (sym n)
-    ∙ ap (λ (q : Components). parts_image wide parent (can_roll tree limit q) path rec es) p
-    ∙ ap (λ b. parts_image wide parent b path rec es) (sym f)
+    let own : directory_image width tree limit here ≡ parts_image width parent flag path rec es =
+    ap (λ (q : Components). parts_image width (parent_number tree q) (can_roll tree limit q) q here.rec here.entries) (sym at)
+    ∙ ap (λ (v : Rec). parts_image width (parent_number tree path) (can_roll tree limit path) path v here.entries) (sym (r d))
+    ∙ ap (λ (v : List Entry). parts_image width (parent_number tree path) (can_roll tree limit path) path rec v) (sym (e d))
+    ∙ ap (λ (q : Components). parts_image width (parent_number tree q) (can_roll tree limit path) path rec es) p
+    ∙ ap (λ k. parts_image width k (can_roll tree limit path) path rec es) (sym n)
+    ∙ ap (λ (q : Components). parts_image width parent (can_roll tree limit q) path rec es) p
+    ∙ ap (λ b. parts_image width parent b path rec es) (sym f)
     in
-    ap (directories_image wide tree limit) (take_more tree i d lt)
-    ∙ flat_map-append (directory_image wide tree limit) (take i tree) (here ∷ [])
-    ∙ ap (λ (t : List ℕ). directories_image wide tree limit (take i tree) ++ t) (append-nil (directory_image wide tree limit here) ∙ own)
+    ap (directories_image width tree limit) (take_more tree i d lt)
+    ∙ flat_map-append (directory_image width tree limit) (take i tree) (here ∷ [])
+    ∙ ap (λ (t : List ℕ). directories_image width tree limit (take i tree) ++ t) (append-nil (directory_image width tree limit here) ∙ own)
 
 -- one entry more
-pub entries_more : (wide : Bool) (es : List Entry) (i : ℕ) (e : Entry) → ((d : Entry) → e ≡ get_or es i d) → i < length es → entries_image wide (take (i + 1) es) ≡ entries_image wide (take i es) ++ entry_image wide e
-entries_more wide es i e is lt =
-    ap (λ (xs : List Entry). entries_image wide xs) (take_more es i e lt ∙ ap (λ (x : Entry). take i es ++ x ∷ []) (sym (is e)))
-    ∙ flat_map-append (entry_image wide) (take i es) (e ∷ [])
-    ∙ ap (λ (t : List ℕ). entries_image wide (take i es) ++ t) (append-nil (entry_image wide e))
+pub entries_more : (width : Width) (es : List Entry) (i : ℕ) (e : Entry) → ((d : Entry) → e ≡ get_or es i d) → i < length es → entries_image width (take (i + 1) es) ≡ entries_image width (take i es) ++ entry_image width e
+entries_more width es i e is lt =
+    ap (λ (xs : List Entry). entries_image width xs) (take_more es i e lt ∙ ap (λ (x : Entry). take i es ++ x ∷ []) (sym (is e)))
+    ∙ flat_map-append (entry_image width) (take i es) (e ∷ [])
+    ∙ ap (λ (t : List ℕ). entries_image width (take i es) ++ t) (append-nil (entry_image width e))
 
 -- entries are counted
 pub count_below : (tree : List Directory) → entry_count tree ≤ length (flat_map own_rows tree)

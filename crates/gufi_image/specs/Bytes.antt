@@ -3,6 +3,8 @@ use Rattle.std.specs.Prelude.{ℕ, Bool, true, false, List, [], ◌∷◌, ◌++
 use Rattle.std.specs.Int.{w16, w32, w64, to_le_bytes, cast_unsigned}
 use Rattle.gufi_base.specs.declared.record.Meta.{Meta}
 use Rattle.gufi_base.specs.declared.record.Rec.{Rec}
+use Rattle.gufi_image.specs.declared.width.Width.{Width}
+use Rattle.gufi_image.specs.Widths.{has_names, has_acls}
 
 abbrev pub magic : List ℕ
 magic = codes "GUFIX" ++ 0 ∷ []
@@ -32,18 +34,18 @@ size_image m = u64_bytes m.size ++ (u64_bytes m.blksize ++ u64_bytes m.blocks)
 unfoldable pub times_image : Meta → List ℕ
 times_image m = i64_bytes m.atime ++ (i64_bytes m.mtime ++ i64_bytes m.ctime)
 
--- a wide record holds names of extended attributes behind its link
-abbrev pub xattrs_image : Bool → List ℕ → List ℕ
-xattrs_image false names = []
-xattrs_image true names = u16_bytes (length names) ++ names
+-- bytes behind their length, in records that have them
+abbrev pub extra_image : Bool → List ℕ → List ℕ
+extra_image false bytes = []
+extra_image true bytes = u16_bytes (length bytes) ++ bytes
 
-unfoldable pub record_image : Bool → Rec → List ℕ
-record_image wide rec = owner_image rec.meta ++ (size_image rec.meta ++ (times_image rec.meta ++ (u16_bytes (length rec.link) ++ (rec.link ++ xattrs_image wide rec.xattrs))))
+-- names of extended attributes and an access control list behind the link
+abbrev pub extras_image : Width → Rec → List ℕ
+extras_image width rec = extra_image (has_names width) rec.xattrs ++ extra_image (has_acls width) rec.acl
 
--- the version of an image, by whether its records are wide
-abbrev pub version_of : Bool → ℕ
-version_of false = 1
-version_of true = 2
+unfoldable pub record_image : Width → Rec → List ℕ
+record_image width rec =
+    owner_image rec.meta ++ (size_image rec.meta ++ (times_image rec.meta ++ (u16_bytes (length rec.link) ++ (rec.link ++ extras_image width rec))))
 
 abbrev pub name_image : List ℕ → List ℕ
 name_image name = u8_bytes (length name) ++ name

@@ -11,6 +11,7 @@ use Rattle.gufi_tree.specs.Tree.{Directory, has_entry_named, entry_count}
 use Rattle.gufi_image.specs.declared.fault.Flaw.{Flaw}
 use Rattle.gufi_image.specs.declared.fault.ImageKind.TheVariants as kinds
 use Rattle.gufi_image.specs.declared.directory.Flag.{Flag}
+use Rattle.gufi_image.specs.declared.width.Width.{Width}
 use Rattle.gufi_image.specs.Fields.{flaw, wrong, number_at, record_at}
 use Rattle.gufi_image.specs.Names.{name_at}
 use Rattle.gufi_image.specs.Repeated.{repeated}
@@ -67,11 +68,11 @@ pub record Heading : Type 0 where
   pub count : ℕ
 
 -- that of a directory behind those before it, of which all entries together may be so many
-unfoldable pub heading_at : Bool → ℕ → List Directory → List ℕ → Result (Heading × List ℕ) Flaw
-heading_at wide total dirs bytes = do
+unfoldable pub heading_at : Width → ℕ → List Directory → List ℕ → Result (Heading × List ℕ) Flaw
+heading_at width total dirs bytes = do
   path ← path_at dirs bytes
   flag ← flag_at path.1
-  rec ← record_at wide Dir flag.1
+  rec ← record_at width Dir flag.1
   count ← number_at w32 rec.1
   wrong (nat_lt total (entry_count dirs + count.0)) rec.1 kinds.Number
   Ok (record { path = path.0; rec = rec.0; flag = flag.0; count = count.0 }, count.1)
@@ -84,10 +85,10 @@ pub record Flagged : Type 0 where
 abbrev pub with_entries : Heading → List Entry → Flagged
 with_entries h entries = record { dir = record { path = h.path; rec = h.rec; entries = entries }; flag = h.flag }
 
-unfoldable pub directory_at : Bool → ℕ → List Directory → List ℕ → Result (Flagged × List ℕ) Flaw
-directory_at wide total dirs bytes = do
-  heading ← heading_at wide total dirs bytes
-  entries ← entries_at wide heading.0.count heading.0.path heading.1
+unfoldable pub directory_at : Width → ℕ → List Directory → List ℕ → Result (Flagged × List ℕ) Flaw
+directory_at width total dirs bytes = do
+  heading ← heading_at width total dirs bytes
+  entries ← entries_at width heading.0.count heading.0.path heading.1
   Ok (with_entries heading.0 entries.0, entries.1)
 
 -- directories with their flags
@@ -98,11 +99,11 @@ pub record Front : Type 0 where
 abbrev pub with_one : Front → Flagged → Front
 with_one front found = record { dirs = front.dirs ++ found.dir ∷ []; flags = front.flags ++ found.flag ∷ [] }
 
-abbrev pub one_directory : Bool → ℕ → Front → List ℕ → Result (Front × List ℕ) Flaw
-one_directory wide total front bytes = directory_at wide total front.dirs bytes >>= λ found. Ok (with_one front found.0, found.1)
+abbrev pub one_directory : Width → ℕ → Front → List ℕ → Result (Front × List ℕ) Flaw
+one_directory width total front bytes = directory_at width total front.dirs bytes >>= λ found. Ok (with_one front found.0, found.1)
 
 abbrev pub no_front : Front
 no_front = record { dirs = []; flags = [] }
 
-unfoldable pub directories_at : Bool → ℕ → ℕ → List ℕ → Result (Front × List ℕ) Flaw
-directories_at wide count total bytes = repeated (one_directory wide total) count no_front bytes
+unfoldable pub directories_at : Width → ℕ → ℕ → List ℕ → Result (Front × List ℕ) Flaw
+directories_at width count total bytes = repeated (one_directory width total) count no_front bytes

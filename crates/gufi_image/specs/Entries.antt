@@ -11,6 +11,7 @@ use Rattle.gufi_base.specs.Paths.{Components}
 use Rattle.gufi_tree.specs.declared.tree.Entry.{Entry}
 use Rattle.gufi_image.specs.declared.fault.Flaw.{Flaw}
 use Rattle.gufi_image.specs.declared.fault.ImageKind.TheVariants as kinds
+use Rattle.gufi_image.specs.declared.width.Width.{Width}
 use Rattle.gufi_image.specs.Fields.{flaw, wrong, number_at, record_at}
 use Rattle.gufi_image.specs.Names.{name_at}
 use Rattle.gufi_image.specs.Repeated.{repeated}
@@ -25,17 +26,17 @@ follows [] name = true
 follows (entry ∷ entries) name = is_lt (slice_cmp nat_cmp (last_of entry entries).name name)
 
 -- an entry of the directory at a path, behind those before it
-unfoldable pub entry_at : Bool → Components → List Entry → List ℕ → Result (Entry × List ℕ) Flaw
-entry_at wide path before bytes = do
+unfoldable pub entry_at : Width → Components → List Entry → List ℕ → Result (Entry × List ℕ) Flaw
+entry_at width path before bytes = do
   letter ← number_at w8 bytes
   kind ← ok_or (entry_kind letter.0) (flaw bytes kinds.Number)
   name ← name_at path letter.1
   wrong (not (follows before name.0)) bytes kinds.Order
-  rec ← record_at wide kind name.1
+  rec ← record_at width kind name.1
   Ok (record { name = name.0; rec = rec.0 }, rec.1)
 
-abbrev pub one_entry : Bool → Components → List Entry → List ℕ → Result (List Entry × List ℕ) Flaw
-one_entry wide path before bytes = entry_at wide path before bytes >>= λ entry. Ok (before ++ entry.0 ∷ [], entry.1)
+abbrev pub one_entry : Width → Components → List Entry → List ℕ → Result (List Entry × List ℕ) Flaw
+one_entry width path before bytes = entry_at width path before bytes >>= λ entry. Ok (before ++ entry.0 ∷ [], entry.1)
 
-unfoldable pub entries_at : Bool → ℕ → Components → List ℕ → Result (List Entry × List ℕ) Flaw
-entries_at wide count path bytes = repeated (one_entry wide path) count [] bytes
+unfoldable pub entries_at : Width → ℕ → Components → List ℕ → Result (List Entry × List ℕ) Flaw
+entries_at width count path bytes = repeated (one_entry width path) count [] bytes

@@ -1,7 +1,7 @@
 -- The fields of an image, read from the left.
 use Rattle.std.specs.Prelude.{◌≡◌, ℕ, Bool, true, false, not, nat_lt, List, [], length, take, drop, Result, Ok, Err, ℤ, if◌then◌else◌}
 use Rattle.std.specs.List.{list_all}
-use Rattle.std.specs.Int.{Width, w16, w32, w64, byte_len, from_le_bytes, cast_signed}
+use Rattle.std.specs.Int.{Width as Bits, w16, w32, w64, byte_len, from_le_bytes, cast_signed}
 use Rattle.gufi_base.specs.declared.record.Kind.{Kind}
 use Rattle.gufi_base.specs.declared.record.Meta.{Meta}
 use Rattle.gufi_base.specs.declared.record.Rec.{Rec}
@@ -9,11 +9,14 @@ use Rattle.gufi_base.specs.Limits.{max_link, max_xattrs}
 use Rattle.gufi_base.specs.Basics.{◌>>=◌, ◌>>◌, refuse}
 use Rattle.gufi_base.specs.Names.{is_path_byte}
 use Rattle.gufi_base.specs.Xattrs.{are_xattrs}
+use Rattle.gufi_access.specs.Acl.{is_acl_or_none}
 use Rattle.gufi_image.specs.declared.fault.ImageKind.{ImageKind}
 use Rattle.gufi_image.specs.declared.fault.ImageKind.TheVariants as kinds
 use Rattle.gufi_image.specs.declared.fault.Flaw.{Flaw}
 use Rattle.gufi_image.specs.declared.fault.Refused.{Refused}
 use Rattle.gufi_image.specs.declared.fault.Refused.TheVariants as refusals
+use Rattle.gufi_image.specs.declared.width.Width.{Width}
+use Rattle.gufi_image.specs.Widths.{has_names, has_acls}
 
 -- A reader takes the bytes from some place on, and gives a value with the bytes behind it, or a fault of the field that begins there.
 abbrev pub flaw : List ℕ → ImageKind → Flaw
@@ -36,7 +39,7 @@ abbrev pub bytes_at : ℕ → List ℕ → Result (List ℕ × List ℕ) Flaw
 bytes_at count bytes = if nat_lt (length bytes) count then Err (flaw bytes kinds.Cut) else Ok (take count bytes, drop count bytes)
 
 -- numbers are little endian
-abbrev pub number_at : Width → List ℕ → Result (ℕ × List ℕ) Flaw
+abbrev pub number_at : Bits → List ℕ → Result (ℕ × List ℕ) Flaw
 number_at w bytes = bytes_at (byte_len w) bytes >>= λ field. Ok (from_le_bytes w field.0, field.1)
 
 abbrev pub signed_at : List ℕ → Result (ℤ × List ℕ) Flaw
@@ -77,15 +80,24 @@ names_at bytes = do
   wrong (not (are_xattrs names.0)) bytes kinds.Name
   Ok names
 
--- those of a record, which has some only where it is wide
-abbrev pub xattrs_at : Bool → List ℕ → Result (List ℕ × List ℕ) Flaw
-xattrs_at false bytes = Ok ([], bytes)
-xattrs_at true bytes = names_at bytes
+-- an access control list or none, behind its length
+unfoldable pub acl_at : List ℕ → Result (List ℕ × List ℕ) Flaw
+acl_at bytes = do
+  count ← number_at w16 bytes
+  acl ← bytes_at count.0 count.1
+  wrong (not (is_acl_or_none acl.0)) bytes kinds.Number
+  Ok acl
+
+-- what such a reader reads, in records that have it
+abbrev pub extra_at : (List ℕ → Result (List ℕ × List ℕ) Flaw) → Bool → List ℕ → Result (List ℕ × List ℕ) Flaw
+extra_at read false bytes = Ok ([], bytes)
+extra_at read true bytes = read bytes
 
 -- a record of this kind
-unfoldable pub record_at : Bool → Kind → List ℕ → Result (Rec × List ℕ) Flaw
-record_at wide kind bytes = do
+unfoldable pub record_at : Width → Kind → List ℕ → Result (Rec × List ℕ) Flaw
+record_at width kind bytes = do
   meta ← meta_at kind bytes
   link ← link_at meta.1
-  xattrs ← xattrs_at wide link.1
-  Ok (record { meta = meta.0; link = link.0; xattrs = xattrs.0 }, xattrs.1)
+  xattrs ← extra_at names_at (has_names width) link.1
+  acl ← extra_at acl_at (has_acls width) xattrs.1
+  Ok (record { meta = meta.0; link = link.0; xattrs = xattrs.0; acl = acl.0 }, acl.1)

@@ -1,6 +1,6 @@
 -- The bytes of an index image. Its version is the least that can hold the tree.
-use Rattle.std.specs.Prelude.{ℕ, ◌-◌, ◌^◌, Bool, true, false, not, ◌||◌, List, [], ◌++◌, length, unwrap_or, if◌then◌else◌}
-use Rattle.std.specs.List.{list_any, flat_map}
+use Rattle.std.specs.Prelude.{ℕ, ◌-◌, ◌^◌, Bool, true, false, List, [], ◌++◌, length, unwrap_or, if◌then◌else◌}
+use Rattle.std.specs.List.{flat_map}
 use Rattle.gufi_base.specs.declared.record.Rec.{Rec}
 use Rattle.gufi_base.specs.Basics.{is_empty, last_of}
 use Rattle.gufi_base.specs.Kinds.{kind_letter}
@@ -8,26 +8,15 @@ use Rattle.gufi_base.specs.Paths.{Components, parent_path}
 use Rattle.gufi_tree.specs.declared.tree.Entry.{Entry}
 use Rattle.gufi_tree.specs.Tree.{Directory, place_of, entry_count}
 use Rattle.gufi_roll.specs.CanRoll.{can_roll}
-use Rattle.gufi_image.specs.Bytes.{magic, u8_bytes, u16_bytes, u32_bytes, u64_bytes, name_image, record_image, version_of}
+use Rattle.gufi_image.specs.Bytes.{magic, u8_bytes, u16_bytes, u32_bytes, u64_bytes, name_image, record_image}
+use Rattle.gufi_image.specs.declared.width.Width.{Width}
+use Rattle.gufi_image.specs.Widths.{version_of, width_of}
 
--- a file has names of extended attributes; a directory or one of its entries has some; and some directory of a tree
-abbrev pub is_named : Rec → Bool
-is_named rec = not (is_empty rec.xattrs)
+unfoldable pub entry_image : Width → Entry → List ℕ
+entry_image width entry = u8_bytes (kind_letter entry.rec.meta.kind) ++ (name_image entry.name ++ record_image width entry.rec)
 
-abbrev pub holds_named : List Entry → Bool
-holds_named entries = list_any (λ (e : Entry). is_named e.rec) entries
-
-abbrev pub holds_xattrs : Directory → Bool
-holds_xattrs dir = is_named dir.rec || holds_named dir.entries
-
-abbrev pub has_xattrs : List Directory → Bool
-has_xattrs tree = list_any holds_xattrs tree
-
-unfoldable pub entry_image : Bool → Entry → List ℕ
-entry_image wide entry = u8_bytes (kind_letter entry.rec.meta.kind) ++ (name_image entry.name ++ record_image wide entry.rec)
-
-abbrev pub entries_image : Bool → List Entry → List ℕ
-entries_image wide entries = flat_map (entry_image wide) entries
+abbrev pub entries_image : Width → List Entry → List ℕ
+entries_image width entries = flat_map (entry_image width) entries
 
 -- the parent's place from 0, or all ones for the root's parent
 abbrev pub parent_number : List Directory → Components → ℕ
@@ -38,19 +27,19 @@ flag_byte true = 1
 flag_byte false = 0
 
 -- a directory of these parts
-unfoldable pub parts_image : Bool → ℕ → Bool → Components → Rec → List Entry → List ℕ
-parts_image wide parent flag path rec entries =
-    u32_bytes parent ++ (name_image (last_of [] path) ++ (u8_bytes (flag_byte flag) ++ (record_image wide rec ++ (u32_bytes (length entries) ++ entries_image wide entries))))
+unfoldable pub parts_image : Width → ℕ → Bool → Components → Rec → List Entry → List ℕ
+parts_image width parent flag path rec entries =
+    u32_bytes parent ++ (name_image (last_of [] path) ++ (u8_bytes (flag_byte flag) ++ (record_image width rec ++ (u32_bytes (length entries) ++ entries_image width entries))))
 
 -- a directory of a tree, with its flag by the rule of roll-up
-abbrev pub directory_image : Bool → List Directory → ℕ → Directory → List ℕ
-directory_image wide tree limit dir = parts_image wide (parent_number tree dir.path) (can_roll tree limit dir.path) dir.path dir.rec dir.entries
+abbrev pub directory_image : Width → List Directory → ℕ → Directory → List ℕ
+directory_image width tree limit dir = parts_image width (parent_number tree dir.path) (can_roll tree limit dir.path) dir.path dir.rec dir.entries
 
-abbrev pub directories_image : Bool → List Directory → ℕ → List Directory → List ℕ
-directories_image wide tree limit dirs = flat_map (directory_image wide tree limit) dirs
+abbrev pub directories_image : Width → List Directory → ℕ → List Directory → List ℕ
+directories_image width tree limit dirs = flat_map (directory_image width tree limit) dirs
 
-unfoldable pub head_image : Bool → List Directory → ℕ → List ℕ
-head_image wide tree limit = magic ++ (u16_bytes (version_of wide) ++ (u64_bytes limit ++ (u32_bytes (length tree) ++ u32_bytes (entry_count tree))))
+unfoldable pub head_image : Width → List Directory → ℕ → List ℕ
+head_image width tree limit = magic ++ (u16_bytes (version_of width) ++ (u64_bytes limit ++ (u32_bytes (length tree) ++ u32_bytes (entry_count tree))))
 
 unfoldable pub image_text : List Directory → ℕ → List ℕ
-image_text tree limit = head_image (has_xattrs tree) tree limit ++ directories_image (has_xattrs tree) tree limit tree
+image_text tree limit = head_image (width_of tree) tree limit ++ directories_image (width_of tree) tree limit tree

@@ -1,4 +1,5 @@
 pub mod Kinds
+pub mod Widths
 pub mod Bytes
 pub mod Fields
 pub mod Names

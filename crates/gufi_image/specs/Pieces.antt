@@ -17,7 +17,8 @@ use Rattle.gufi_image.specs.declared.head.Head.{Head}
 use Rattle.gufi_image.specs.declared.directory.Open.{Open}
 use Rattle.gufi_image.specs.declared.progress.Directories.{Directories as Kept}
 use Rattle.gufi_image.specs.declared.progress.Progress.{Progress}
-use Rattle.gufi_image.specs.Image.{has_xattrs}
+use Rattle.gufi_image.specs.declared.width.Width.{Width}
+use Rattle.gufi_image.specs.Widths.{has_names, tree_needs}
 use Rattle.gufi_image.specs.Repeated.{repeated}
 use Rattle.gufi_image.specs.Entries.{one_entry}
 use Rattle.gufi_image.specs.Directories.{Front, with_entries, with_one, one_directory}
@@ -56,20 +57,20 @@ Halts room read f = (more : List ℕ) → length more ≤ room → Stops f more 
 -- ---- what is still to come
 
 -- the entries of a directory
-abbrev pub entries_from : Bool → Components → ℕ → List Entry → List ℕ → Result (List Entry × List ℕ) Flaw
-entries_from wide path count before bytes = repeated (one_entry wide path) (count - length before) before bytes
+abbrev pub entries_from : Width → Components → ℕ → List Entry → List ℕ → Result (List Entry × List ℕ) Flaw
+entries_from width path count before bytes = repeated (one_entry width path) (count - length before) before bytes
 
 -- directories
-abbrev pub rest_from : Bool → ℕ → ℕ → Front → List ℕ → Result (Front × List ℕ) Flaw
-rest_from wide total count front bytes = repeated (one_directory wide total) (count - length front.dirs) front bytes
+abbrev pub rest_from : Width → ℕ → ℕ → Front → List ℕ → Result (Front × List ℕ) Flaw
+rest_from width total count front bytes = repeated (one_directory width total) (count - length front.dirs) front bytes
 
 -- directories behind one whose entries these are
-abbrev pub rest_with : Bool → ℕ → ℕ → ℕ → Front → Open → Result (List Entry × List ℕ) Flaw → Result (Front × List ℕ) Flaw
-rest_with wide total count k front part entries = entries >>= λ es. rest_from wide total count (with_one front (with_entries (headed k part) es.0)) es.1
+abbrev pub rest_with : Width → ℕ → ℕ → ℕ → Front → Open → Result (List Entry × List ℕ) Flaw → Result (Front × List ℕ) Flaw
+rest_with width total count k front part entries = entries >>= λ es. rest_from width total count (with_one front (with_entries (headed k part) es.0)) es.1
 
 abbrev pub rest_behind : ℕ → Head → Kept → Option Open → List ℕ → Result (Front × List ℕ) Flaw
-rest_behind k head before None bytes = rest_from head.wide head.entries head.dirs (front_near k before) bytes
-rest_behind k head before (Some part) bytes = rest_with head.wide head.entries head.dirs k (front_near k before) part (entries_from head.wide part.path part.count (entries_of before.packing.pending) bytes)
+rest_behind k head before None bytes = rest_from head.width head.entries head.dirs (front_near k before) bytes
+rest_behind k head before (Some part) bytes = rest_with head.width head.entries head.dirs k (front_near k before) part (entries_from head.width part.path part.count (entries_of before.packing.pending) bytes)
 
 abbrev pub rest_of : ℕ → Progress → List ℕ → Result (Front × List ℕ) Flaw
 rest_of k p bytes = rest_behind k p.head p.directories p.part bytes
@@ -100,7 +101,7 @@ Fails room read (errors.Fault offset kind) = (bytes more : List ℕ) → length 
 
 -- the directories are what the head says
 abbrev pub is_as_said : Head → List Directory → Bool
-is_as_said head dirs = (entry_count dirs == head.entries) && not (is_bare head.wide dirs)
+is_as_said head dirs = (entry_count dirs == head.entries) && not (is_bare head.width dirs)
 
 -- ---- what was read
 
@@ -120,7 +121,7 @@ pub record IsRead (p : Progress) : Type 0 where
   pub directories : AreDirectories (length p.directories.packing.dirs) p.head.entries p.directories.packing.dirs
   pub parents : AreParents p.directories.packing.dirs p.directories.parents.items
   pub count : p.directories.entries ≡ entry_count p.directories.packing.dirs
-  pub named : p.directories.named ≡ (p.head.wide && has_xattrs p.directories.packing.dirs)
+  pub needed : p.directories.needed ≡ (has_names p.head.width && tree_needs p.head.width p.directories.packing.dirs)
   pub part : IsNextOpen p.head.dirs p.head.entries p.directories.packing p.part
 
 abbrev pub IsReadBy : Option Progress → Type 0

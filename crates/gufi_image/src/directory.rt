@@ -13,6 +13,7 @@ ghost use Rattle.gufi_image.specs.Views.{heading};
 use crate::fault::{ImageKind, Refused};
 use crate::fields::{flaw, record_at, u8_at, u32_at};
 use crate::name::{Above, name_at};
+use crate::width::Width;
 use gufi_base::{Kind, Path, PathRef, Rec, text_cmp};
 use gufi_tree::{DirRef, Packing, has_entry};
 use std::alloc::{AllocError, Global};
@@ -191,21 +192,21 @@ fn flag_at(bytes: &[u8]) -> Result<(Flag, &[u8]), Refused>
 pub(crate) fn heading_at<'a>(
     alloc: Global,
     bytes: &'a [u8],
-    wide: bool,
+    width: Width,
     before: &Packing,
     so_far: u32,
     total: u32,
 ) -> Result<(Open, &'a [u8]), Refused>
     requires sorted { AreSorted before.now.dirs }
     requires so_far { so_far ≡ entry_count before.now.dirs }
-    ensures gives { Gives (λ x. (heading x.0, x.1.now)) result (heading_at wide total before.now.dirs bytes.now) }
+    ensures gives { Gives (λ x. (heading x.0, x.1.now)) result (heading_at width total before.now.dirs bytes.now) }
     ensures part { IfOk result (λ x. IsOpen total before.now.dirs x.0) }
     ensures left { IfOk result (λ x. x.0.flag.left < 2 ^ 63) }
 {
     let (located, rest) = path_at(alloc, bytes, before)?;
     let Located { path, parent } = located;
     let (flag, rest) = flag_at(rest)?;
-    let (own, counts) = record_at(rest, wide, Kind::Dir)?;
+    let (own, counts) = record_at(rest, width, Kind::Dir)?;
     let (count, rest) = u32_at(counts)?;
     if count as u64 + so_far as u64 > total as u64 {
         return Err(flaw(counts, ImageKind::Number));

@@ -13,6 +13,7 @@ ghost use Rattle.gufi_image.specs.Pieces.{OnFlaw, Stops, entries_from};
 use crate::fault::{ImageKind, Refused};
 use crate::fields::{Borrowed, flaw, record_at, u8_at};
 use crate::name::{Above, name_at};
+use crate::width::Width;
 use gufi_base::{Kind, read_kind};
 use gufi_tree::Packing;
 
@@ -48,11 +49,11 @@ struct EntryAt<'a> {
 #[tactic(auto, unfolding(crate::specs::Entries::entry_at))]
 fn entry_at<'a>(
     bytes: &'a [u8],
-    wide: bool,
+    width: Width,
     above: &Above<'_>,
     before: &Packing,
 ) -> Result<(EntryAt<'a>, &'a [u8]), Refused>
-    ensures gives { Gives (λ x. (entry_seen x.0, x.1.now)) result (entry_at wide above.now (entries_of before.now.pending) bytes.now) }
+    ensures gives { Gives (λ x. (entry_seen x.0, x.1.now)) result (entry_at width above.now (entries_of before.now.pending) bytes.now) }
     ensures name { IfOk result (λ x. IsTrue (is_name x.0.name.now)) }
     ensures kind { IfOk result (λ x. is_dir x.0.rec.meta.kind ≡ false) }
     ensures order { IfOk result (λ x. follows (entries_of before.now.pending) x.0.name.now ≡ true) }
@@ -65,7 +66,7 @@ fn entry_at<'a>(
     if !follows(before, name) {
         return Err(flaw(bytes, ImageKind::Order));
     }
-    let (rec, rest) = record_at(rest, wide, kind)?;
+    let (rec, rest) = record_at(rest, width, kind)?;
     Ok((EntryAt { name, rec }, rest))
 }
 
@@ -74,21 +75,21 @@ fn entry_at<'a>(
 /// The bytes of an entry go straight behind those of the others: none has memory of its own.
 pub(crate) fn take_entries<'a>(
     rest: &mut &'a [u8],
-    wide: bool,
+    width: Width,
     above: &Above<'_>,
     count: u32,
     packing: &mut Packing,
 ) -> Result<(), Refused>
     requires { AreEntries (entries_of packing.old.pending) }
     ensures dirs { packing.new.dirs ≡ packing.old.dirs }
-    ensures same { (more : List ℕ) → entries_from wide above.now count (entries_of packing.old.pending) (rest.old.now ++ more) ≡ entries_from wide above.now count (entries_of packing.new.pending) (rest.new.now ++ more) }
+    ensures same { (more : List ℕ) → entries_from width above.now count (entries_of packing.old.pending) (rest.old.now ++ more) ≡ entries_from width above.now count (entries_of packing.new.pending) (rest.new.now ++ more) }
     ensures entries { AreEntries (entries_of packing.new.pending) }
     ensures few { length (entries_of packing.old.pending) ≤ count → length (entries_of packing.new.pending) ≤ count }
     ensures whole { OnOk result (count ≤ length (entries_of packing.new.pending)) }
-    ensures halts { IfErr result (λ e. OnFlaw e (λ f. (more : List ℕ) → Stops f more (entries_from wide above.now count (entries_of packing.new.pending) (rest.new.now ++ more)))) }
+    ensures halts { IfErr result (λ e. OnFlaw e (λ f. (more : List ℕ) → Stops f more (entries_from width above.now count (entries_of packing.new.pending) (rest.new.now ++ more)))) }
 {
     'entries: while packing.pending_len() < count as usize {
-        let (entry, after) = entry_at(*rest, wide, above, packing)?;
+        let (entry, after) = entry_at(*rest, width, above, packing)?;
         packing.push(0, entry.name, &entry.rec.as_rec_ref())?;
         *rest = after;
     }

@@ -12,7 +12,7 @@ pub enum ImageKind {
     Magic,
     /// The field isn't wholly there.
     Cut,
-    /// No directory, a mode or flag or type that is none, counts of entries that aren't the head's, or a version that isn't the least.
+    /// No directory; a mode or flag or type or access control list that is none; counts of entries that aren't the head's; a version that isn't the least.
     Number,
     /// A directory that doesn't stand behind its parent.
     Parent,

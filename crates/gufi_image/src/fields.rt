@@ -4,13 +4,15 @@
 
 ghost use Rattle.std.specs.Prelude.{◌≡◌, IfOk};
 ghost use Rattle.std.specs.Int.{w8, w16, w32, w64};
-ghost use Rattle.std.specs.List.{list_all};
-ghost use Rattle.gufi_base.specs.Names.{is_path_byte};
-ghost use Rattle.gufi_image.specs.Fields.{Gives, flaw, bytes_at, number_at, signed_at, meta_at, link_at, names_at, xattrs_at, record_at};
+ghost use Rattle.gufi_access.specs.Acl.{is_acl_or_none};
+ghost use Rattle.gufi_image.specs.Widths.{has_names, has_acls};
+ghost use Rattle.gufi_image.specs.Fields.{Gives, flaw, bytes_at, number_at, signed_at, meta_at, link_at, names_at, acl_at, extra_at, record_at};
 
 use crate::fault::{Flaw, ImageKind, Refused};
+use crate::width::Width;
 use byteorder::{ByteOrder, LittleEndian};
-use gufi_base::{Kind, Meta, RecRef, are_xattrs};
+use gufi_access::acl_ok;
+use gufi_base::{Kind, Meta, RecRef, are_path_bytes, are_xattrs};
 
 const MAX_LINK: u16 = 4096;
 
@@ -115,12 +117,6 @@ fn meta_at(bytes: &[u8], kind: Kind) -> Result<(Meta, &[u8]), Refused>
     Ok((meta, rest))
 }
 
-fn are_path_bytes(bytes: &[u8]) -> bool
-    ensures { result ≡ list_all is_path_byte bytes.now }
-{
-    bytes.iter().all(|b| *b != 0 && *b != 10)
-}
-
 /// The target of a link, behind its length.
 #[inline(always)]
 #[tactic(auto, unfolding(crate::specs::Fields::link_at))]
@@ -154,30 +150,62 @@ fn names_at(bytes: &[u8]) -> Result<(&[u8], &[u8]), Refused>
     Ok((names, rest))
 }
 
-/// The names of a record's extended attributes. It has some only where it is wide.
-#[inline]
-fn xattrs_at(bytes: &[u8], wide: bool) -> Result<(&[u8], &[u8]), Refused>
-    ensures { Gives (λ x. (x.0.now, x.1.now)) result (xattrs_at wide bytes.now) }
+/// Whether bytes are an access control list, or none.
+fn is_acl_or_none(bytes: &[u8]) -> bool
+    ensures { result ≡ is_acl_or_none bytes.now }
 {
-    if wide {
+    bytes.is_empty() || acl_ok(bytes)
+}
+
+/// An access control list or none, behind its length.
+#[tactic(auto, unfolding(crate::specs::Fields::acl_at))]
+fn acl_at(bytes: &[u8]) -> Result<(&[u8], &[u8]), Refused>
+    ensures { Gives (λ x. (x.0.now, x.1.now)) result (acl_at bytes.now) }
+{
+    let (count, rest) = u16_at(bytes)?;
+    let (acl, rest) = bytes_at(rest, count as usize)?;
+    if !is_acl_or_none(acl) {
+        return Err(flaw(bytes, ImageKind::Number));
+    }
+    Ok((acl, rest))
+}
+
+/// The names of extended attributes, in records that have them.
+#[inline]
+fn held_names(bytes: &[u8], width: Width) -> Result<(&[u8], &[u8]), Refused>
+    ensures { Gives (λ x. (x.0.now, x.1.now)) result (extra_at names_at (has_names width) bytes.now) }
+{
+    if width.has_names() {
         return names_at(bytes);
     }
     Ok((&[], bytes))
 }
 
-/// A record whose link and names of extended attributes stay where they stand in the image.
+/// The access control list or none, in records that have one.
+#[inline]
+fn held_acl(bytes: &[u8], width: Width) -> Result<(&[u8], &[u8]), Refused>
+    ensures { Gives (λ x. (x.0.now, x.1.now)) result (extra_at acl_at (has_acls width) bytes.now) }
+{
+    if width.has_acls() {
+        return acl_at(bytes);
+    }
+    Ok((&[], bytes))
+}
+
+/// A record of which all but the numbers stays where it stands in the image.
 #[derive(Drop)]
 pub(crate) struct Borrowed<'a> {
     pub meta: Meta,
     pub link: &'a [u8],
     pub xattrs: &'a [u8],
+    pub acl: &'a [u8],
 }
 
 impl Borrowed<'_> {
     pub(crate) fn as_rec_ref(&self) -> RecRef<'_>
-        ensures { result ≡ record { meta = self.now.meta; link = self.now.link.now; xattrs = self.now.xattrs.now } }
+        ensures { result ≡ record { meta = self.now.meta; link = self.now.link.now; xattrs = self.now.xattrs.now; acl = self.now.acl.now } }
     {
-        RecRef::of(&self.meta, self.link, self.xattrs)
+        RecRef::of(&self.meta, self.link, self.xattrs, self.acl)
     }
 }
 
@@ -186,14 +214,21 @@ impl Borrowed<'_> {
 #[tactic(auto, unfolding(crate::specs::Fields::record_at))]
 pub(crate) fn record_at(
     bytes: &[u8],
-    wide: bool,
+    width: Width,
     kind: Kind,
 ) -> Result<(Borrowed<'_>, &[u8]), Refused>
-    ensures gives { Gives (λ x. (record { meta = x.0.meta; link = x.0.link.now; xattrs = x.0.xattrs.now }, x.1.now)) result (record_at wide kind bytes.now) }
+    ensures gives { Gives (λ x. (record { meta = x.0.meta; link = x.0.link.now; xattrs = x.0.xattrs.now; acl = x.0.acl.now }, x.1.now)) result (record_at width kind bytes.now) }
     ensures kind { IfOk result (λ x. x.0.meta.kind ≡ kind) }
 {
     let (meta, rest) = meta_at(bytes, kind)?;
     let (link, rest) = link_at(rest)?;
-    let (xattrs, rest) = xattrs_at(rest, wide)?;
-    Ok((Borrowed { meta, link, xattrs }, rest))
+    let (xattrs, rest) = held_names(rest, width)?;
+    let (acl, rest) = held_acl(rest, width)?;
+    let rec = Borrowed {
+        meta,
+        link,
+        xattrs,
+        acl,
+    };
+    Ok((rec, rest))
 }

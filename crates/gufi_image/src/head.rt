@@ -11,17 +11,16 @@ ghost use Rattle.gufi_image.specs.Parts.{counts};
 
 use crate::fault::{ImageKind, Refused};
 use crate::fields::{flaw, u16_at, u32_at, u64_at};
+use crate::width::{Width, width_in};
 
 const MAX_DIRS: u32 = 262144;
 
 const MAX_ENTRIES: u32 = 1048576;
 
-/// The counts of the head, whether the records are wide, and how many bytes are left from the count of entries on.
-///
-/// A wide record holds names of extended attributes. Those of version 2 are wide.
+/// The counts of the head, what the records hold, and how many bytes are left from the count of entries on.
 #[derive(Clone, Copy)]
 pub(crate) struct Head {
-    pub wide: bool,
+    pub width: Width,
     pub limit: u64,
     pub dirs: u32,
     pub entries: u32,
@@ -34,21 +33,21 @@ fn begins_with_mark(bytes: &[u8]) -> bool
     bytes.starts_with(b"GUFIX\0")
 }
 
-/// The version, which tells whether the records are wide.
+/// The version, which tells what the records hold.
 #[tactic(auto, unfolding(crate::specs::Reading::version_at))]
-fn version_at(bytes: &[u8]) -> Result<(bool, &[u8]), Refused>
+fn version_at(bytes: &[u8]) -> Result<(Width, &[u8]), Refused>
     ensures { Gives (λ x. (x.0, x.1.now)) result (version_at bytes.now) }
 {
     let (version, rest) = u16_at(bytes)?;
-    if version != 1 && version != 2 {
+    let Some(width) = width_in(version) else {
         return Err(flaw(bytes, ImageKind::Magic));
-    }
-    Ok((version == 2, rest))
+    };
+    Ok((width, rest))
 }
 
 #[tactic(auto, unfolding(crate::specs::Reading::counts_at))]
-fn counts_at(bytes: &[u8], wide: bool) -> Result<(Head, &[u8]), Refused>
-    ensures gives { Gives (λ x. (counts x.0, x.1.now)) result (counts_at wide bytes.now) }
+fn counts_at(bytes: &[u8], width: Width) -> Result<(Head, &[u8]), Refused>
+    ensures gives { Gives (λ x. (counts x.0, x.1.now)) result (counts_at width bytes.now) }
     ensures some { IfOk result (λ x. 0 < x.0.dirs) }
     ensures few { IfOk result (λ x. x.0.dirs ≤ max_dirs) }
     ensures entries { IfOk result (λ x. x.0.entries ≤ max_entries) }
@@ -67,7 +66,7 @@ fn counts_at(bytes: &[u8], wide: bool) -> Result<(Head, &[u8]), Refused>
         return Err(flaw(from_entries, ImageKind::TooMany { limit: 1048576 }));
     }
     let head = Head {
-        wide,
+        width,
         limit,
         dirs,
         entries,
@@ -87,6 +86,6 @@ pub(crate) fn head_at(bytes: &[u8]) -> Result<(Head, &[u8]), Refused>
     if !begins_with_mark(bytes) {
         return Err(flaw(bytes, ImageKind::Magic));
     }
-    let (wide, rest) = version_at(&bytes[6..])?;
-    counts_at(rest, wide)
+    let (width, rest) = version_at(&bytes[6..])?;
+    counts_at(rest, width)
 }

@@ -11,10 +11,10 @@ mod fields;
 mod head;
 mod laws;
 mod name;
-mod named;
 mod progress;
 mod put;
 mod reader;
+mod width;
 mod writer;
 
 pub use fault::{ImageError, ImageKind};

@@ -3,7 +3,7 @@
 ghost use Rattle.std.specs.Prelude.{◌≡◌, ◌≤◌, ◌<◌, ◌+◌, ◌-◌, ◌^◌, ◌++◌, ◌∷◌, [], ℕ, List, false, slice_index_or, ◌||◌, ◌&&◌, length, None, Some, Ok, IfOk, IfErr, OnOk};
 ghost use Rattle.gufi_base.specs.Limits.{max_image};
 ghost use Rattle.gufi_tree.specs.Tree.{Directory, entry_count};
-ghost use Rattle.gufi_image.specs.Image.{holds_xattrs};
+ghost use Rattle.gufi_image.specs.Widths.{has_names, directory_needs};
 ghost use Rattle.gufi_image.specs.Directories.{heading_at};
 ghost use Rattle.gufi_image.specs.Sorted.{AreSorted};
 ghost use Rattle.gufi_image.specs.Placed.{IsOpen};
@@ -16,12 +16,13 @@ use crate::entry::take_entries;
 use crate::fault::Refused;
 use crate::head::Head;
 use crate::name::Above;
-use crate::named::holds_xattrs;
+use crate::width::{Width, directory_needs};
 use gufi_base::Memory;
 use gufi_tree::Packing;
 use std::alloc::Global;
 
-/// Directories with the places of their parents and their flags, how many entries they have, and whether one of their wide records has names.
+/// Directories with the places of their parents and their flags, how many entries they have, and whether one of their rows has what no
+/// lesser width holds.
 ///
 /// A flag that is kept has as many bytes left as it would have if the image were as long as one may be.
 #[derive(Drop)]
@@ -30,7 +31,7 @@ pub(crate) struct Directories {
     pub parents: Vec<u32>,
     pub flags: Vec<Flag>,
     pub entries: u32,
-    pub named: bool,
+    pub needed: bool,
 }
 
 /// The next directory, of which no entry is read yet. So many bytes may still come behind those at hand.
@@ -39,18 +40,25 @@ fn next_open<'a>(
     rest: &mut &'a [u8],
     room: usize,
     before: &Directories,
-    wide: bool,
+    width: Width,
     total: u32,
 ) -> Result<Open, Refused>
     requires room { room ≤ max_image }
     requires sorted { AreSorted before.now.packing.dirs }
     requires entries { before.now.entries ≡ entry_count before.now.packing.dirs }
     ensures part { IfOk result (IsOpen total before.now.packing.dirs) }
-    ensures heading { IfOk result (λ dir. (more : List ℕ) → length more ≤ room → heading_at wide total before.now.packing.dirs (rest.old.now ++ more) ≡ Ok (headed (room - length more) dir, rest.new.now ++ more)) }
-    ensures halts { IfErr result (λ e. OnFlaw e (λ f. (more : List ℕ) → Stops f more (heading_at wide total before.now.packing.dirs (rest.old.now ++ more)))) }
+    ensures heading { IfOk result (λ dir. (more : List ℕ) → length more ≤ room → heading_at width total before.now.packing.dirs (rest.old.now ++ more) ≡ Ok (headed (room - length more) dir, rest.new.now ++ more)) }
+    ensures halts { IfErr result (λ e. OnFlaw e (λ f. (more : List ℕ) → Stops f more (heading_at width total before.now.packing.dirs (rest.old.now ++ more)))) }
     ensures rest { IfErr result (λ e. rest.new.now ≡ rest.old.now) }
 {
-    let (mut part, after) = heading_at(alloc, *rest, wide, &before.packing, before.entries, total)?;
+    let (mut part, after) = heading_at(
+        alloc,
+        *rest,
+        width,
+        &before.packing,
+        before.entries,
+        total,
+    )?;
     part.flag.left += room;
     *rest = after;
     Ok(part)
@@ -62,33 +70,34 @@ impl Directories {
         ensures parents { result.parents.items ≡ [] }
         ensures flags { result.flags.items ≡ [] }
         ensures entries { result.entries ≡ 0 }
-        ensures named { result.named ≡ false }
+        ensures needed { result.needed ≡ false }
     {
         Directories {
             packing: Packing::new(alloc),
             parents: Vec::new(alloc),
             flags: Vec::new(alloc),
             entries: 0,
-            named: false,
+            needed: false,
         }
     }
 
-    /// Whether a wide record before the last directory has names, or one of the last directory and its entries.
-    fn is_named(&self, wide: bool) -> bool
+    /// Whether a row before the last directory has what no lesser width holds, or the last directory or one of its entries.
+    fn is_needed(&self, width: Width) -> bool
         requires { 0 < length self.now.packing.dirs }
-        ensures { (d : Directory) → result ≡ (self.now.named || wide && holds_xattrs (slice_index_or self.now.packing.dirs (length self.now.packing.dirs - 1) d)) }
+        ensures { (d : Directory) → result ≡ (self.now.needed || has_names width && directory_needs width (slice_index_or self.now.packing.dirs (length self.now.packing.dirs - 1) d)) }
     {
-        self.named || wide && holds_xattrs(&self.packing.at(self.packing.len() - 1))
+        self.needed
+            || width.has_names() && directory_needs(width, &self.packing.at(self.packing.len() - 1))
     }
 
     /// Takes one more, whose entries are packed.
-    fn close(&mut self, alloc: Global, wide: bool, dir: Open) -> Result<(), Memory>
+    fn close(&mut self, alloc: Global, width: Width, dir: Open) -> Result<(), Memory>
         requires { self.old.entries + length (entries_of self.old.packing.pending) < 2 ^ 32 }
         ensures packing { OnOk result (self.new.packing ≡ record { dirs = self.old.packing.dirs ++ directory_in dir (entries_of self.old.packing.pending) ∷ []; pending = [] }) }
         ensures parents { OnOk result (self.new.parents.items ≡ self.old.parents.items ++ dir.parent ∷ []) }
         ensures flags { OnOk result (self.new.flags.items ≡ self.old.flags.items ++ dir.flag ∷ []) }
         ensures entries { OnOk result (self.new.entries ≡ self.old.entries + length (entries_of self.old.packing.pending)) }
-        ensures named { OnOk result (self.new.named ≡ (self.old.named || wide && holds_xattrs (directory_in dir (entries_of self.old.packing.pending)))) }
+        ensures needed { OnOk result (self.new.needed ≡ (self.old.needed || has_names width && directory_needs width (directory_in dir (entries_of self.old.packing.pending)))) }
     {
         let Open {
             path,
@@ -102,7 +111,7 @@ impl Directories {
         self.flags.push(flag)?;
         self.packing
             .close(alloc, &path.as_path_ref(), &rec.as_rec_ref())?;
-        self.named = self.is_named(wide);
+        self.needed = self.is_needed(width);
         Ok(())
     }
 }
@@ -143,13 +152,13 @@ impl Progress {
         let above = Above::of(dir.path.as_path_ref());
         match take_entries(
             rest,
-            self.head.wide,
+            self.head.width,
             &above,
             dir.count,
             &mut self.directories.packing,
         ) {
             Ok(()) => {
-                self.directories.close(alloc, self.head.wide, dir)?;
+                self.directories.close(alloc, self.head.width, dir)?;
                 Ok(())
             }
             Err(refused) => {
@@ -183,7 +192,7 @@ impl Progress {
                     rest,
                     room,
                     &self.directories,
-                    self.head.wide,
+                    self.head.width,
                     self.head.entries,
                 )?;
                 self.fill(alloc, rest, part)

@@ -2,8 +2,9 @@
 
 ghost use Rattle.std.specs.Prelude.{◌≡◌, ◌<◌, ◌^◌, ◌++◌, length, IsTrue, OnOk};
 ghost use Rattle.gufi_base.specs.Names.{is_name};
-ghost use Rattle.gufi_image.specs.Bytes.{u8_bytes, u16_bytes, u32_bytes, u64_bytes, owner_image, size_image, times_image, xattrs_image, record_image, name_image};
+ghost use Rattle.gufi_image.specs.Bytes.{u8_bytes, u16_bytes, u32_bytes, u64_bytes, owner_image, size_image, times_image, extra_image, extras_image, record_image, name_image};
 
+use crate::width::Width;
 use byteorder::{ByteOrder, LittleEndian};
 use gufi_base::{Memory, Meta, RecRef, put};
 
@@ -82,7 +83,7 @@ fn put_times(out: &mut Vec<u8>, meta: &Meta) -> Result<(), Memory>
     )
 }
 
-/// The length of a link or of names in two bytes.
+/// The length of a link or of what stands behind it, in two bytes.
 #[tactic(auto, unfolding(crate::specs::Bytes::u16_bytes))]
 fn put_length(out: &mut Vec<u8>, bytes: &[u8]) -> Result<(), Memory>
     ensures { OnOk result (out.new.items ≡ out.old.items ++ u16_bytes (length bytes.now)) }
@@ -98,20 +99,28 @@ pub(crate) fn put_count(out: &mut Vec<u8>, count: usize) -> Result<(), Memory>
     put_u32(out, (count % 4294967296) as u32)
 }
 
-/// The names of a record's extended attributes behind their length, where it is wide.
-fn put_xattrs(out: &mut Vec<u8>, wide: bool, names: &[u8]) -> Result<(), Memory>
-    ensures { OnOk result (out.new.items ≡ out.old.items ++ xattrs_image wide names.now) }
+/// Bytes behind their length, in records that have them.
+fn put_extra(out: &mut Vec<u8>, held: bool, bytes: &[u8]) -> Result<(), Memory>
+    ensures { OnOk result (out.new.items ≡ out.old.items ++ extra_image held bytes.now) }
 {
-    if !wide {
+    if !held {
         return Ok(());
     }
-    put_length(out, names)?;
-    put(out, names)
+    put_length(out, bytes)?;
+    put(out, bytes)
+}
+
+/// The names of a record's extended attributes and its access control list, in records that have them.
+fn put_extras(out: &mut Vec<u8>, width: Width, rec: &RecRef<'_>) -> Result<(), Memory>
+    ensures { OnOk result (out.new.items ≡ out.old.items ++ extras_image width rec.now) }
+{
+    put_extra(out, width.has_names(), rec.xattrs())?;
+    put_extra(out, width.has_acls(), rec.acl())
 }
 
 #[tactic(auto, unfolding(crate::specs::Bytes::record_image))]
-pub(crate) fn put_record(out: &mut Vec<u8>, wide: bool, rec: &RecRef<'_>) -> Result<(), Memory>
-    ensures { OnOk result (out.new.items ≡ out.old.items ++ record_image wide rec.now) }
+pub(crate) fn put_record(out: &mut Vec<u8>, width: Width, rec: &RecRef<'_>) -> Result<(), Memory>
+    ensures { OnOk result (out.new.items ≡ out.old.items ++ record_image width rec.now) }
 {
     let meta = rec.meta();
     put_owner(out, meta)?;
@@ -120,7 +129,7 @@ pub(crate) fn put_record(out: &mut Vec<u8>, wide: bool, rec: &RecRef<'_>) -> Res
     let link = rec.link();
     put_length(out, link)?;
     put(out, link)?;
-    put_xattrs(out, wide, rec.xattrs())
+    put_extras(out, width, rec)
 }
 
 /// A name or the root's nothing, behind its length.

@@ -55,15 +55,15 @@ fn begin<'a>(alloc: Global, rest: &mut &'a [u8], room: usize) -> Result<Progress
     Ok(Progress::new(alloc, head))
 }
 
-/// Whether no row has names, though the records are wide.
+/// Whether no row has what no lesser width holds, so that a lesser version holds them all.
 fn is_bare(progress: &Progress) -> bool
     requires { IsRead progress.now }
-    ensures { result ≡ is_bare progress.now.head.wide progress.now.directories.packing.dirs }
+    ensures { result ≡ is_bare progress.now.head.width progress.now.directories.packing.dirs }
 {
-    progress.head.wide && !progress.directories.named
+    progress.head.width.has_names() && !progress.directories.needed
 }
 
-/// Whether the directories are what the head says: so many entries, and some names where the version is that of names.
+/// Whether the directories are what the head says: so many entries, and in the least version that holds them.
 fn is_as_said(progress: &Progress) -> bool
     requires { IsRead progress.now }
     ensures { result ≡ is_as_said progress.now.head progress.now.directories.packing.dirs }

@@ -4,11 +4,11 @@ ghost use Rattle.std.specs.Prelude.{◌≡◌, ◌<◌, ◌++◌, [], length, On
 ghost use Rattle.gufi_base.specs.Basics.{last_of};
 ghost use Rattle.gufi_tree.specs.Tree.{entry_count, HasTreeShape};
 ghost use Rattle.gufi_tree.specs.Places.{path_at};
-ghost use Rattle.gufi_image.specs.Bytes.{name_image, version_of};
+ghost use Rattle.gufi_image.specs.Bytes.{name_image};
 ghost use Rattle.gufi_image.specs.Image.{entry_image, entries_image, parent_number, flag_byte, parts_image, directories_image, head_image, image_text};
 
-use crate::named::has_xattrs;
 use crate::put::{put_count, put_name, put_record, put_u8, put_u16, put_u32, put_u64};
+use crate::width::{Width, width_of};
 use gufi_base::{Memory, PathRef, RecRef, put};
 use gufi_snap::Snapshot;
 use gufi_tree::{DirId, EntriesRef, EntryRef, Tree};
@@ -17,24 +17,24 @@ use std::alloc::Global;
 /// The bytes of the fields before the directories.
 const HEAD: usize = 24;
 
-/// The bytes of a row besides its name, its link and its names of extended attributes: at most those of a directory.
-const RECORD: usize = 88;
+/// The bytes of a row besides its name, its link and what stands behind that: at most those of a directory.
+const RECORD: usize = 90;
 
 #[tactic(auto, unfolding(crate::specs::Image::entry_image))]
-fn put_entry(out: &mut Vec<u8>, wide: bool, entry: &EntryRef<'_>) -> Result<(), Memory>
-    ensures { OnOk result (out.new.items ≡ out.old.items ++ entry_image wide entry.now) }
+fn put_entry(out: &mut Vec<u8>, width: Width, entry: &EntryRef<'_>) -> Result<(), Memory>
+    ensures { OnOk result (out.new.items ≡ out.old.items ++ entry_image width entry.now) }
 {
     let rec = entry.rec();
     put_u8(out, rec.meta().kind.letter())?;
     put_entry_name(out, entry)?;
-    put_record(out, wide, &rec)
+    put_record(out, width, &rec)
 }
 
-fn put_entries(out: &mut Vec<u8>, wide: bool, entries: &EntriesRef<'_>) -> Result<(), Memory>
-    ensures { OnOk result (out.new.items ≡ out.old.items ++ entries_image wide entries.now) }
+fn put_entries(out: &mut Vec<u8>, width: Width, entries: &EntriesRef<'_>) -> Result<(), Memory>
+    ensures { OnOk result (out.new.items ≡ out.old.items ++ entries_image width entries.now) }
 {
     for place in 0..entries.len() {
-        put_entry(out, wide, &entries.at(place))?;
+        put_entry(out, width, &entries.at(place))?;
     }
     Ok(())
 }
@@ -65,21 +65,21 @@ fn flag_byte(flag: bool) -> u8
 #[tactic(auto, unfolding(crate::specs::Image::parts_image))]
 fn put_directory(
     out: &mut Vec<u8>,
-    wide: bool,
+    width: Width,
     parent: u32,
     flag: bool,
     path: &PathRef<'_>,
     rec: &RecRef<'_>,
     entries: &EntriesRef<'_>,
 ) -> Result<(), Memory>
-    ensures { OnOk result (out.new.items ≡ out.old.items ++ parts_image wide parent flag path.now rec.now entries.now) }
+    ensures { OnOk result (out.new.items ≡ out.old.items ++ parts_image width parent flag path.now rec.now entries.now) }
 {
     put_u32(out, parent)?;
     put_last_name(out, path)?;
     put_u8(out, flag_byte(flag))?;
-    put_record(out, wide, rec)?;
+    put_record(out, width, rec)?;
     put_count(out, entries.len())?;
-    put_entries(out, wide, entries)
+    put_entries(out, width, entries)
 }
 
 /// The place of a directory's parent, or all ones for the root.
@@ -98,15 +98,15 @@ fn parent_number(tree: &Tree, id: DirId) -> u32
 }
 
 /// The directories of a snapshot, in path order.
-fn put_directories(out: &mut Vec<u8>, wide: bool, snap: &Snapshot) -> Result<(), Memory>
-    ensures { OnOk result (out.new.items ≡ out.old.items ++ directories_image wide snap.now.tree snap.now.limit snap.now.tree) }
+fn put_directories(out: &mut Vec<u8>, width: Width, snap: &Snapshot) -> Result<(), Memory>
+    ensures { OnOk result (out.new.items ≡ out.old.items ++ directories_image width snap.now.tree snap.now.limit snap.now.tree) }
 {
     let tree = snap.tree();
     for number in 0..tree.dirs() {
         let id = DirId(number);
         put_directory(
             out,
-            wide,
+            width,
             parent_number(tree, id),
             snap.rolled(id),
             &tree.path(id),
@@ -128,19 +128,12 @@ fn entry_count(tree: &Tree) -> u32
     count
 }
 
-/// The version of an image. That of wide records is 2.
-fn version_of(wide: bool) -> u16
-    ensures { result ≡ version_of wide }
-{
-    if wide { 2 } else { 1 }
-}
-
 #[tactic(auto, unfolding(crate::specs::Image::head_image))]
-fn put_head(out: &mut Vec<u8>, wide: bool, tree: &Tree, limit: u64) -> Result<(), Memory>
-    ensures { OnOk result (out.new.items ≡ out.old.items ++ head_image wide tree.now limit) }
+fn put_head(out: &mut Vec<u8>, width: Width, tree: &Tree, limit: u64) -> Result<(), Memory>
+    ensures { OnOk result (out.new.items ≡ out.old.items ++ head_image width tree.now limit) }
 {
     put(out, b"GUFIX\0")?;
-    put_u16(out, version_of(wide))?;
+    put_u16(out, width.version())?;
     put_u64(out, limit)?;
     put_u32(out, tree.dirs())?;
     put_u32(out, entry_count(tree))
@@ -150,6 +143,7 @@ fn put_head(out: &mut Vec<u8>, wide: bool, tree: &Tree, limit: u64) -> Result<()
 fn row_size(name: usize, rec: &RecRef<'_>) -> usize {
     name.saturating_add(rec.link().len())
         .saturating_add(rec.xattrs().len())
+        .saturating_add(rec.acl().len())
         .saturating_add(RECORD)
 }
 
@@ -184,8 +178,8 @@ pub fn write_image(alloc: Global, snap: &Snapshot) -> Result<Vec<u8>, Memory>
     ensures { IfOk result (λ image. image.items ≡ image_text snap.now.tree snap.now.limit) }
 {
     let mut image = Vec::with_capacity(alloc, image_size(snap.tree()))?;
-    let wide = has_xattrs(snap.tree());
-    put_head(&mut image, wide, snap.tree(), snap.limit())?;
-    put_directories(&mut image, wide, snap)?;
+    let width = width_of(snap.tree());
+    put_head(&mut image, width, snap.tree(), snap.limit())?;
+    put_directories(&mut image, width, snap)?;
     Ok(image)
 }

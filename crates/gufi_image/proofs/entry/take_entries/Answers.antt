@@ -13,7 +13,7 @@ returns-in_err-entry-clause-halts c =
     let p = err_from_is_err_and c.from_residual.result c.from_residual.ensures.1 in
     let before : List Entry = entries_of c.entries.packing.pending in
     let lt : length before < c.args.count = omega (arith, c.entries-test.true, c.pending_len.ensures, length-map c.entries.packing.pending (λ (p : Placed). p.entry)) in
-    rw (p.1, p.2) (entry_refused c.args.wide c.args.above.now c.args.count before before c.entries.rest.now c.in_err-entry.field-0.0 refl lt c.in_err-entry.ensures.gives)
+    rw (p.1, p.2) (entry_refused c.args.width c.args.above.now c.args.count before before c.entries.rest.now c.in_err-entry.field-0.0 refl lt c.in_err-entry.ensures.gives)
 
 pub entries-preserved : goal.entries-preserved
 entries-preserved c =
@@ -28,7 +28,7 @@ entries-preserved c =
     let longer = ap (λ (es : List Entry). length es) push ∙ length-append before (entry ∷ []) in
     record {
       dirs = ap (λ (p : Packs). p.dirs) c.in_ok-push.ensures.pushed ∙ c.entries.invariant.dirs;
-      same = λ more. c.entries.invariant.same more ∙ entry_goes_on c.args.wide c.args.above.now c.args.count before before (entries_of new) c.entries.rest.now c.in_ok-entry.after.now more entry
+      same = λ more. c.entries.invariant.same more ∙ entry_goes_on c.args.width c.args.above.now c.args.count before before (entries_of new) c.entries.rest.now c.in_ok-entry.after.now more entry
           refl lt c.in_ok-entry.ensures.gives push;
       entries = one_more before before (entries_of new) entry refl push c.entries.invariant.entries c.in_ok-entry.ensures.order c.in_ok-entry.ensures.kind;
       few = λ within. omega (arith, lt, longer);

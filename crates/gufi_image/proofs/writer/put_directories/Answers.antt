@@ -12,14 +12,14 @@ loop-number-preserved c =
     let limit = c.args.snap.now.limit in
     let seen = c.tree-tree.result.now in
     let i = c.loop-number.number in
-    let own = parts_image c.args.wide c.parent_number.result c.rolled.result c.path.result c.rec.result c.entries.result in
+    let own = parts_image c.args.width c.parent_number.result c.rolled.result c.path.result c.rec.result c.entries.result in
     let same = c.tree-tree.ensures.tree in
     let flag = subst (λ (t : List Directory). c.rolled.result ≡ can_roll t limit (path_at t i)) (sym same) c.rolled.ensures in
-    let more = directories_more c.args.wide seen limit i c.parent_number.result c.rolled.result c.path.result c.rec.result c.entries.result c.parent_number.ensures flag c.path.ensures c.rec.ensures c.entries.ensures.value
+    let more = directories_more c.args.width seen limit i c.parent_number.result c.rolled.result c.path.result c.rec.result c.entries.result c.parent_number.ensures flag c.path.ensures c.rec.ensures c.entries.ensures.value
     (omega (arith, c.loop-number-test.true, c.dirs-number-end.ensures.count))
     in
-    let there = subst (λ (t : List Directory). directories_image c.args.wide t limit (take (i + 1) t) ≡ directories_image c.args.wide t limit (take i t) ++ own) same more in
+    let there = subst (λ (t : List Directory). directories_image c.args.width t limit (take (i + 1) t) ≡ directories_image c.args.width t limit (take i t) ++ own) same more in
     c.in_ok-put_directory.ensures
     ∙ ap (λ (t : List ℕ). t ++ own) c.loop-number.invariant
-    ∙ append_assoc c.args.out.now.items (directories_image c.args.wide tree limit (take i tree)) own
+    ∙ append_assoc c.args.out.now.items (directories_image c.args.width tree limit (take i tree)) own
     ∙ ap (λ (t : List ℕ). c.args.out.now.items ++ t) (sym there)

@@ -3,4 +3,4 @@ use Rattle.gufi_image.specs.Image.{entries_image}
 use Rattle.gufi_image.proofs.writer.put_entries.Given as goal
 
 abbrev pub invariant-loop-place : goal.invariant-loop-place
-invariant-loop-place l = l.out.items ≡ l.fn.out.items ++ entries_image l.wide (take l.place l.entries)
+invariant-loop-place l = l.out.items ≡ l.fn.out.items ++ entries_image l.width (take l.place l.entries)

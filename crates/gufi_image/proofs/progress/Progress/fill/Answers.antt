@@ -18,7 +18,7 @@ returns-in_ok-close-in-Ok-clause-read c =
     (record { heading = open_.1.heading; entries_are = t.entries; within = t.few open_.1.within }) open_.0 refl c.requires.none
     (ap (λ (p : Packs). p.dirs) c.in_ok-close-in-Ok.ensures.packing ∙ ap (λ (ds : List Directory). ds ++ directory_in c.args.dir all ∷ []) t.dirs)
     (ap (λ (p : Packs). p.pending) c.in_ok-close-in-Ok.ensures.packing)
-    c.in_ok-close-in-Ok.ensures.parents c.in_ok-close-in-Ok.ensures.entries c.in_ok-close-in-Ok.ensures.named
+    c.in_ok-close-in-Ok.ensures.parents c.in_ok-close-in-Ok.ensures.entries c.in_ok-close-in-Ok.ensures.needed
 
 pub returns-in_ok-close-in-Ok-clause-same : goal.returns-in_ok-close-in-Ok-clause-same
 returns-in_ok-close-in-Ok-clause-same c = λ k more.
@@ -27,7 +27,7 @@ returns-in_ok-close-in-Ok-clause-same c = λ k more.
     let mid = record self.directories { packing = c.take_entries.new.packing } in
     let bytes = c.take_entries.new.rest.now ++ more in
     let same = subst
-    (λ (p : Components). entries_from self.head.wide p c.args.dir.count (entries_of self.directories.packing.pending) (c.args.rest.now.now ++ more) ≡ entries_from self.head.wide p c.args.dir.count (entries_of mid.packing.pending) bytes)
+    (λ (p : Components). entries_from self.head.width p c.args.dir.count (entries_of self.directories.packing.pending) (c.args.rest.now.now ++ more) ≡ entries_from self.head.width p c.args.dir.count (entries_of mid.packing.pending) bytes)
     (c.of-above.ensures ∙ c.as_path_ref.ensures) (t.same more) in
     rest_filled k self.head self.directories mid c.args.dir (c.args.rest.now.now ++ more) bytes t.dirs refl same
     ∙ rest_closed k self.head mid c.args.dir c.close.new.self bytes c.in-Ok.ensures.whole (ap (λ (p : Packs). p.dirs) c.in_ok-close-in-Ok.ensures.packing) c.in_ok-close-in-Ok.ensures.flags
