@@ -18,6 +18,7 @@ use Rattle.gufi_tree.proofs.RowHomes.{Has-flat_map}
 use Rattle.gufi_trace.specs.TraceWriting.{holds_byte}
 use Rattle.gufi_trace.proofs.FieldsBack.{is_plain, plain_field}
 use Rattle.gufi_trace.proofs.LinesBack.{IsWritable}
+use Rattle.gufi_trace.proofs.ListTexts.{no_list_holds}
 use Rattle.gufi_trace.proofs.MetaRead.{fits_below}
 use Rattle.gufi_gen.specs.Generated.{directory_path, directory_mode, made_meta, made_file, made_dir, made_dirs, made_root}
 use Rattle.gufi_gen.proofs.MadeNames.{is_made_name, entry_name, directory_named, path_depth, not_too_long}
@@ -66,12 +67,12 @@ time_fits (suc i) h =
     ap fits_i64 (cond-false (ltb 1700000000 (suc i)) (negsuc (suc i - suc 1700000000)) (pos (1700000000 - suc i)) (le-ltb 1700000000 (suc i) (omega arith)))
     ∙ fits_below (1700000000 - suc i) (omega arith)
 
-meta_fits : (kind : Kind) (i inode mode size : ℕ) → inode < 2 ^ 64 → mode ≤ 4095 → size < 2 ^ 64 → i ≤ max_dirs → fits_types (record { meta = made_meta kind i inode mode size; link = []; xattrs = [] }) ≡ true
+meta_fits : (kind : Kind) (i inode mode size : ℕ) → inode < 2 ^ 64 → mode ≤ 4095 → size < 2 ^ 64 → i ≤ max_dirs → fits_types (record { meta = made_meta kind i inode mode size; link = []; xattrs = []; acl = [] }) ≡ true
 meta_fits kind i inode mode size a b c few =
     let time = time_fits i few in
-    and_from _ _ (and_from _ _ (and_from _ _ (and_from _ _ (and_from _ _ (and_from _ _ (and_from _ _ (and_from _ _ (and_from _ _ (and_from _ _ (and_from _ _ (and_from _ _
+    and_from _ _ (and_from _ _ (and_from _ _ (and_from _ _ (and_from _ _ (and_from _ _ (and_from _ _ (and_from _ _ (and_from _ _ (and_from _ _ (and_from _ _ (and_from _ _ (and_from _ _
     (lt-ltb inode (2 ^ 64) a) (lt-ltb mode (2 ^ 16) (omega arith))) refl) (lt-ltb (1000 + i % 7) (2 ^ 32) (omega arith))) (lt-ltb (100 + i % 3) (2 ^ 32) (omega arith)))
-    (lt-ltb size (2 ^ 64) c)) refl) refl) time) time) time) refl) refl
+    (lt-ltb size (2 ^ 64) c)) refl) refl) time) time) time) refl) refl) refl
 
 mode_small : (k : ℕ) → k < 8 → slice_index (493 ∷ 493 ∷ 488 ∷ 448 ∷ 457 ∷ 493 ∷ 504 ∷ 493 ∷ []) k ≤ 4095
 mode_small zero h = omega arith
@@ -88,13 +89,13 @@ mode_small (suc (suc (suc (suc (suc (suc (suc (suc k)))))))) h = absurd (omega a
 
 module _ (delim : ℕ) (may : may_delimit delim ≡ true) where
   row_writable : (path : Components) (kind : Kind) (i inode mode size : ℕ) → list_all is_made_name path ≡ true → length path ≤ 7 → inode < 2 ^ 64 → mode ≤ 4095 → size < 2 ^ 64 → i ≤ max_dirs
-      → IsWritable made_root delim (record { path = path; rec = record { meta = made_meta kind i inode mode size; link = []; xattrs = [] } })
+      → IsWritable made_root delim (record { path = path; rec = record { meta = made_meta kind i inode mode size; link = []; xattrs = []; acl = [] } })
   row_writable path kind i inode mode size named short a b c few = record {
     named = and_from _ _ refl (made_names path named);
     apart = or_from _ _ (has_none delim (103 ∷ []) (plain_field delim may (103 ∷ []) refl).apart) (made_apart delim may path named);
     short = not_too_long path named short;
-    rec_apart = refl;
-    sound = and_from _ _ (and_from _ _ (and_from _ _ (le-leb mode 4095 b) refl) refl) refl;
+    rec_apart = no_list_holds delim;
+    sound = and_from _ _ (and_from _ _ (and_from _ _ (and_from _ _ (le-leb mode 4095 b) refl) refl) refl) refl;
     fits = meta_fits kind i inode mode size a b c few;
   }
 

@@ -46,7 +46,7 @@ abbrev pub entry_meta : ℕ → ℕ → Meta
 entry_meta i j = made_meta File i (1000000 + 5 * i + j) 420 ((37 * i + 1001 * j) % 5000)
 
 abbrev pub linkless : Meta → Rec
-linkless meta = record { meta = meta; link = []; xattrs = [] }
+linkless meta = record { meta = meta; link = []; xattrs = []; acl = [] }
 
 abbrev pub made_file : ℕ → ℕ → Entry
 made_file i j = record { name = codes "f" ++ decimal j; rec = linkless (entry_meta i j) }

@@ -6,7 +6,7 @@ ghost use Rattle.gufi_gen.specs.Generated.{directory_path, gen_text};
 ghost use Rattle.gufi_gen.specs.Lines.{made_path_text, directory_line, entry_line, entry_lines, stanza_text};
 
 use crate::made::{directory_meta, entry_meta};
-use gufi_base::{Memory, put, put_u64};
+use gufi_base::{Memory, RecRef, put, put_u64};
 use gufi_trace::put_record;
 use std::alloc::Global;
 
@@ -40,7 +40,8 @@ fn put_directory(out: &mut Vec<u8>, delim: u8, path: &[u8], number: u32) -> Resu
     ensures { OnOk result (out.new.items ≡ out.old.items ++ directory_line delim number) }
 {
     put(out, path)?;
-    put_record(out, delim, &directory_meta(number), b"", b"")
+    let meta = directory_meta(number);
+    put_record(out, delim, &RecRef::of(&meta, b"", b"", b""))
 }
 
 fn put_entry(
@@ -56,7 +57,8 @@ fn put_entry(
     put(out, path)?;
     put(out, b"/f")?;
     put_u64(out, u64::from(place))?;
-    put_record(out, delim, &entry_meta(number, place), b"", b"")
+    let meta = entry_meta(number, place);
+    put_record(out, delim, &RecRef::of(&meta, b"", b"", b""))
 }
 
 fn put_entries(out: &mut Vec<u8>, delim: u8, path: &[u8], number: u32) -> Result<(), Memory>

@@ -10,6 +10,7 @@ use Rattle.gufi_tree.specs.Build.{tree_of}
 use Rattle.gufi_tree.specs.Graft.{graft}
 use Rattle.gufi_tree.specs.Resolve.{resolve}
 use Rattle.gufi_walk.specs.Answer.{answer}
+use Rattle.gufi_trace.specs.AclField.{acl_field}
 use Rattle.gufi_trace.specs.AttributeField.{xattrs_of}
 use Rattle.gufi_trace.specs.TraceText.{trace_means, trace_lines, read_line, read_lines, read_meta, read_line_path}
 use Rattle.gufi_sums.specs.Total.{total}
@@ -94,59 +95,59 @@ three_and_one = Publish 100 (codes "a") ∷ Barrier ∷ find_from 1 [] ∷ find_
 
 each_at_its_number : text_of three_and_one (1 ∷ 1 ∷ 2 ∷ 2 ∷ [])
     ≡ codes "publish 1 number 1\nreply 1 at 1 rows 1\n/\nreply 2 at 1 rows 1\n/\nreply 3 at 2 rows 2\n/\n/x\npublish 2 number 2\nreply 4 at 2 rows 2\n/\n/x\n"
-unfolding plan planned_act search_of query_of run_of phase_bytes fits reply_body session_text phases_text a1 x1 b1 trace_means trace_lines read_lines read_line read_line_path read_meta xattrs_of read_path tree_of resolve principal_of read_find read_find_words wants_primary primary_named total digits can_list is_granted class_for entries answer
+unfolding plan planned_act search_of query_of run_of phase_bytes fits reply_body session_text phases_text a1 x1 b1 trace_means trace_lines read_lines read_line read_line_path read_meta xattrs_of acl_field read_path tree_of resolve principal_of read_find read_find_words wants_primary primary_named total digits can_list is_granted class_for entries answer
 each_at_its_number = refl
 
 rising_numbers_fit : fits_script three_and_one (1 ∷ 1 ∷ 2 ∷ 2 ∷ []) ≡ true
-unfolding plan planned_act search_of query_of run_of phase_bytes fits reply_body session_text phases_text a1 x1 b1 trace_means trace_lines read_lines read_line read_line_path read_meta xattrs_of read_path tree_of resolve principal_of read_find read_find_words wants_primary primary_named total digits can_list is_granted class_for entries answer
+unfolding plan planned_act search_of query_of run_of phase_bytes fits reply_body session_text phases_text a1 x1 b1 trace_means trace_lines read_lines read_line read_line_path read_meta xattrs_of acl_field read_path tree_of resolve principal_of read_find read_find_words wants_primary primary_named total digits can_list is_granted class_for entries answer
 rising_numbers_fit = refl
 
 falling_numbers_do_not : fits_script three_and_one (1 ∷ 2 ∷ 1 ∷ 2 ∷ []) ≡ false
-unfolding plan planned_act search_of query_of run_of phase_bytes fits reply_body session_text phases_text a1 x1 b1 trace_means trace_lines read_lines read_line read_line_path read_meta xattrs_of read_path tree_of resolve principal_of read_find read_find_words wants_primary primary_named total digits can_list is_granted class_for entries answer
+unfolding plan planned_act search_of query_of run_of phase_bytes fits reply_body session_text phases_text a1 x1 b1 trace_means trace_lines read_lines read_line read_line_path read_meta xattrs_of acl_field read_path tree_of resolve principal_of read_find read_find_words wants_primary primary_named total digits can_list is_granted class_for entries answer
 falling_numbers_do_not = refl
 
 damaged_line : text_of (Publish 0 (codes "a") ∷ Publish 0 (codes "w") ∷ Barrier ∷ find_from 1 [] ∷ []) (1 ∷ [])
     ≡ codes "publish 1 number 1\npublish 2 refused 2 BadNumber 8\nreply 1 at 1 rows 1\n/\n"
-unfolding plan planned_act search_of query_of run_of phase_bytes fits reply_body session_text phases_text a1 x1 b1 trace_means trace_lines read_lines read_line read_line_path read_meta xattrs_of read_path tree_of resolve principal_of read_find read_find_words wants_primary primary_named total digits can_list is_granted class_for entries answer w1
+unfolding plan planned_act search_of query_of run_of phase_bytes fits reply_body session_text phases_text a1 x1 b1 trace_means trace_lines read_lines read_line read_line_path read_meta xattrs_of acl_field read_path tree_of resolve principal_of read_find read_find_words wants_primary primary_named total digits can_list is_granted class_for entries answer w1
 damaged_line = refl
 
 none_published : text_of (find_from 1 [] ∷ []) (0 ∷ []) ≡ codes "reply 1 at 0 no index\n"
-unfolding plan planned_act search_of query_of run_of phase_bytes fits reply_body session_text phases_text a1 x1 b1 trace_means trace_lines read_lines read_line read_line_path read_meta xattrs_of read_path tree_of resolve principal_of read_find read_find_words wants_primary primary_named total digits can_list is_granted class_for entries answer
+unfolding plan planned_act search_of query_of run_of phase_bytes fits reply_body session_text phases_text a1 x1 b1 trace_means trace_lines read_lines read_line read_line_path read_meta xattrs_of acl_field read_path tree_of resolve principal_of read_find read_find_words wants_primary primary_named total digits can_list is_granted class_for entries answer
 none_published = refl
 
 rollups_and_a_total : text_of (Rollup 5 ∷ Publish 0 (codes "b") ∷ Rollup 100 ∷ Barrier ∷ Ask 1 (codes "103") [] forms.Total [] ∷ []) (2 ∷ [])
     ≡ codes "rollup 1 refused nothing\npublish 2 number 1\nrollup 3 number 2\nreply 1 at 2 total dirs 2 files 1 links 0 others 0 bytes 7 size 7 7 mtime 20 22 uid 101 102 gid 100 200\n"
-unfolding plan planned_act search_of query_of run_of phase_bytes fits reply_body session_text phases_text a1 x1 b1 trace_means trace_lines read_lines read_line read_line_path read_meta xattrs_of read_path tree_of resolve principal_of read_find read_find_words wants_primary primary_named total digits can_list is_granted class_for entries answer
+unfolding plan planned_act search_of query_of run_of phase_bytes fits reply_body session_text phases_text a1 x1 b1 trace_means trace_lines read_lines read_line read_line_path read_meta xattrs_of acl_field read_path tree_of resolve principal_of read_find read_find_words wants_primary primary_named total digits can_list is_granted class_for entries answer
 rollups_and_a_total = refl
 
 -- what the subtree held before is gone
 subtree_replaced : text_of (Publish 0 (codes "b") ∷ Refresh (codes "c" ∷ []) (codes "a") ∷ Refresh (codes "zz" ∷ []) (codes "a") ∷ Barrier ∷ find_from 1 [] ∷ []) (2 ∷ [])
     ≡ codes "publish 1 number 1\nrefresh 2 number 2\nrefresh 3 refused NotThere\nreply 1 at 2 rows 2\n/\n/c\n"
-unfolding plan planned_act search_of query_of run_of phase_bytes fits reply_body session_text phases_text a1 x1 b1 trace_means trace_lines read_lines read_line read_line_path read_meta xattrs_of read_path tree_of resolve principal_of read_find read_find_words wants_primary primary_named total digits can_list is_granted class_for entries answer graft
+unfolding plan planned_act search_of query_of run_of phase_bytes fits reply_body session_text phases_text a1 x1 b1 trace_means trace_lines read_lines read_line read_line_path read_meta xattrs_of acl_field read_path tree_of resolve principal_of read_find read_find_words wants_primary primary_named total digits can_list is_granted class_for entries answer graft
 subtree_replaced = refl
 
 -- a trace's fault comes first
 damaged_part : text_of (Refresh [] (codes "w") ∷ Refresh [] (codes "a") ∷ []) [] ≡ codes "refresh 1 refused 2 BadNumber 8\nrefresh 2 refused nothing\n"
-unfolding plan planned_act search_of query_of run_of phase_bytes fits reply_body session_text phases_text a1 x1 b1 trace_means trace_lines read_lines read_line read_line_path read_meta xattrs_of read_path tree_of resolve principal_of read_find read_find_words wants_primary primary_named total digits can_list is_granted class_for entries answer graft w1
+unfolding plan planned_act search_of query_of run_of phase_bytes fits reply_body session_text phases_text a1 x1 b1 trace_means trace_lines read_lines read_line read_line_path read_meta xattrs_of acl_field read_path tree_of resolve principal_of read_find read_find_words wants_primary primary_named total digits can_list is_granted class_for entries answer graft w1
 damaged_part = refl
 
 denied_start : text_of (Publish 0 (codes "b") ∷ Barrier ∷ find_from 1 (codes "c" ∷ []) ∷ []) (1 ∷ []) ≡ codes "publish 1 number 1\nreply 1 at 1 denied at depth 1 class owner\n"
-unfolding plan planned_act search_of query_of run_of phase_bytes fits reply_body session_text phases_text a1 x1 b1 trace_means trace_lines read_lines read_line read_line_path read_meta xattrs_of read_path tree_of resolve principal_of read_find read_find_words wants_primary primary_named total digits can_list is_granted class_for entries answer
+unfolding plan planned_act search_of query_of run_of phase_bytes fits reply_body session_text phases_text a1 x1 b1 trace_means trace_lines read_lines read_line read_line_path read_meta xattrs_of acl_field read_path tree_of resolve principal_of read_find read_find_words wants_primary primary_named total digits can_list is_granted class_for entries answer
 denied_start = refl
 
 -- a phase sees no publication of a later one, also at a number that doesn't fit
 no_later_number : text_of (find_from 1 [] ∷ Barrier ∷ Publish 100 (codes "a") ∷ []) (1 ∷ []) ≡ codes "reply 1 at 1 no index\npublish 1 number 1\n"
-unfolding plan planned_act search_of query_of run_of phase_bytes fits reply_body session_text phases_text a1 x1 b1 trace_means trace_lines read_lines read_line read_line_path read_meta xattrs_of read_path tree_of resolve principal_of read_find read_find_words wants_primary primary_named total digits can_list is_granted class_for entries answer
+unfolding plan planned_act search_of query_of run_of phase_bytes fits reply_body session_text phases_text a1 x1 b1 trace_means trace_lines read_lines read_line read_line_path read_meta xattrs_of acl_field read_path tree_of resolve principal_of read_find read_find_words wants_primary primary_named total digits can_list is_granted class_for entries answer
 no_later_number = refl
 
 -- numbers go on behind a phase
 numbers_go_on : text_of (find_from 1 [] ∷ Publish 100 (codes "a") ∷ Barrier ∷ Rollup 5 ∷ find_from 1 [] ∷ []) (0 ∷ 2 ∷ [])
     ≡ codes "reply 1 at 0 no index\npublish 1 number 1\nrollup 2 number 2\nreply 2 at 2 rows 1\n/\n"
-unfolding plan planned_act search_of query_of run_of phase_bytes fits reply_body session_text phases_text a1 x1 b1 trace_means trace_lines read_lines read_line read_line_path read_meta xattrs_of read_path tree_of resolve principal_of read_find read_find_words wants_primary primary_named total digits can_list is_granted class_for entries answer
+unfolding plan planned_act search_of query_of run_of phase_bytes fits reply_body session_text phases_text a1 x1 b1 trace_means trace_lines read_lines read_line read_line_path read_meta xattrs_of acl_field read_path tree_of resolve principal_of read_find read_find_words wants_primary primary_named total digits can_list is_granted class_for entries answer
 numbers_go_on = refl
 
 stops_at_the_first : stop_or (plan setting (placed 1 (Publish 0 (codes "a") ∷ Barrier ∷ Publish 0 (codes "gone") ∷ Publish 0 (codes "lost") ∷ []))) ≡ Some (NoFile (codes "gone"))
-unfolding plan planned_act search_of query_of run_of phase_bytes fits reply_body session_text phases_text a1 x1 b1 trace_means trace_lines read_lines read_line read_line_path read_meta xattrs_of read_path tree_of resolve principal_of read_find read_find_words wants_primary primary_named total digits can_list is_granted class_for entries answer
+unfolding plan planned_act search_of query_of run_of phase_bytes fits reply_body session_text phases_text a1 x1 b1 trace_means trace_lines read_lines read_line read_line_path read_meta xattrs_of acl_field read_path tree_of resolve principal_of read_find read_find_words wants_primary primary_named total digits can_list is_granted class_for entries answer
 stops_at_the_first = refl
 
 -- ---- hits
@@ -164,25 +165,25 @@ find_as lane user = Ask lane user [] forms.Find []
 
 -- one ask comes again in its lane; another user's and another lane's are their own
 hit_in_its_lane : hits_of (Publish 100 (codes "a") ∷ Barrier ∷ find_as 1 (codes "102") ∷ find_as 1 (codes "102") ∷ find_as 1 (codes "103") ∷ find_as 2 (codes "102") ∷ []) 4 (1 ∷ 1 ∷ 1 ∷ 1 ∷ []) ≡ Some 1
-unfolding plan planned_act search_of query_of phase_bytes reply_body a1 x1 trace_means trace_lines read_lines read_line read_line_path read_meta xattrs_of read_path tree_of resolve principal_of read_find read_find_words wants_primary primary_named total digits can_list is_granted class_for entries answer phases_over load_phase all_made made last_of_acts hits_in
+unfolding plan planned_act search_of query_of phase_bytes reply_body a1 x1 trace_means trace_lines read_lines read_line read_line_path read_meta xattrs_of acl_field read_path tree_of resolve principal_of read_find read_find_words wants_primary primary_named total digits can_list is_granted class_for entries answer phases_over load_phase all_made made last_of_acts hits_in
 hit_in_its_lane = refl
 
 abbrev there_and_back : List Act
 there_and_back = Publish 100 (codes "a") ∷ Barrier ∷ find_as 1 (codes "102") ∷ find_as 1 (codes "103") ∷ find_as 1 (codes "102") ∷ []
 
 dropped_for_another : hits_of there_and_back 1 (1 ∷ 1 ∷ 1 ∷ []) ≡ Some 0
-unfolding plan planned_act search_of query_of phase_bytes reply_body a1 x1 trace_means trace_lines read_lines read_line read_line_path read_meta xattrs_of read_path tree_of resolve principal_of read_find read_find_words wants_primary primary_named total digits can_list is_granted class_for entries answer phases_over load_phase all_made made last_of_acts hits_in
+unfolding plan planned_act search_of query_of phase_bytes reply_body a1 x1 trace_means trace_lines read_lines read_line read_line_path read_meta xattrs_of acl_field read_path tree_of resolve principal_of read_find read_find_words wants_primary primary_named total digits can_list is_granted class_for entries answer phases_over load_phase all_made made last_of_acts hits_in
 dropped_for_another = refl
 
 kept_beside_another : hits_of there_and_back 2 (1 ∷ 1 ∷ 1 ∷ []) ≡ Some 1
-unfolding plan planned_act search_of query_of phase_bytes reply_body a1 x1 trace_means trace_lines read_lines read_line read_line_path read_meta xattrs_of read_path tree_of resolve principal_of read_find read_find_words wants_primary primary_named total digits can_list is_granted class_for entries answer phases_over load_phase all_made made last_of_acts hits_in
+unfolding plan planned_act search_of query_of phase_bytes reply_body a1 x1 trace_means trace_lines read_lines read_line read_line_path read_meta xattrs_of acl_field read_path tree_of resolve principal_of read_find read_find_words wants_primary primary_named total digits can_list is_granted class_for entries answer phases_over load_phase all_made made last_of_acts hits_in
 kept_beside_another = refl
 
 -- a reply from an earlier publication is none from a later one, and lanes keep theirs over a barrier
 hits_at_each_number : hits_of three_and_one 4 (1 ∷ 1 ∷ 2 ∷ 2 ∷ []) ≡ Some 2
-unfolding plan planned_act search_of query_of phase_bytes reply_body a1 x1 trace_means trace_lines read_lines read_line read_line_path read_meta xattrs_of read_path tree_of resolve principal_of read_find read_find_words wants_primary primary_named total digits can_list is_granted class_for entries answer phases_over load_phase all_made made last_of_acts hits_in
+unfolding plan planned_act search_of query_of phase_bytes reply_body a1 x1 trace_means trace_lines read_lines read_line read_line_path read_meta xattrs_of acl_field read_path tree_of resolve principal_of read_find read_find_words wants_primary primary_named total digits can_list is_granted class_for entries answer phases_over load_phase all_made made last_of_acts hits_in
 hits_at_each_number = refl
 
 none_kept : hits_of three_and_one 0 (1 ∷ 1 ∷ 2 ∷ 2 ∷ []) ≡ Some 0
-unfolding plan planned_act search_of query_of phase_bytes reply_body a1 x1 trace_means trace_lines read_lines read_line read_line_path read_meta xattrs_of read_path tree_of resolve principal_of read_find read_find_words wants_primary primary_named total digits can_list is_granted class_for entries answer phases_over load_phase all_made made last_of_acts hits_in
+unfolding plan planned_act search_of query_of phase_bytes reply_body a1 x1 trace_means trace_lines read_lines read_line read_line_path read_meta xattrs_of acl_field read_path tree_of resolve principal_of read_find read_find_words wants_primary primary_named total digits can_list is_granted class_for entries answer phases_over load_phase all_made made last_of_acts hits_in
 none_kept = refl

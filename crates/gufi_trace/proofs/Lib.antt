@@ -4,6 +4,8 @@ pub mod Counts
 pub mod Feeds
 pub mod FieldsBack
 pub mod AttributeNames
+pub mod AclFields
+pub mod ListTexts
 pub mod NumbersBack
 pub mod PathsBack
 pub mod LinesBack

@@ -13,6 +13,7 @@ use Rattle.gufi_trace.specs.declared.fault.TraceKind.TheVariants.{Short, NotUnde
 use Rattle.gufi_tree.specs.StanzaLines.{stanza_holds}
 use Rattle.gufi_trace.specs.TraceText.{read_line_path, read_meta, read_line, is_in_stanza, too_many}
 use Rattle.gufi_trace.specs.AttributeField.{xattrs_of}
+use Rattle.gufi_trace.specs.AclField.{acl_field}
 use Rattle.gufi_trace.specs.Fields.{fields_of}
 use Rattle.gufi_trace.specs.Lines.{meta_in, dirs_of, entries_of, place_fault, unless_fault, below_root, line_in, line_of}
 
@@ -48,10 +49,11 @@ behind_short root earlier fields = do
   path ← read_line_path fields
   meta ← read_meta fields
   xattrs ← xattrs_of (part_at fields 15)
+  acl ← acl_field (part_at fields 16)
   refuse (not (is_prefix root path)) NotUnderRoot
   refuse (not (is_in_stanza earlier meta.kind (drop (length root) path))) WrongStanza
   too_many earlier meta.kind
-  Ok (record { number = length earlier + 1; path = drop (length root) path; rec = record { meta = meta; link = part_at fields 14; xattrs = xattrs } })
+  Ok (record { number = length earlier + 1; path = drop (length root) path; rec = record { meta = meta; link = part_at fields 14; xattrs = xattrs; acl = acl } })
 
 from_fields : (root : Components) (earlier : List Line) (fields : List (List ℕ))
     → (refuse (nat_lt (length fields) 14) Short >> behind_short root earlier fields) ≡ (ok_or (fields_of fields) Short >>= line_in root earlier)
@@ -73,7 +75,7 @@ from_fields root earlier (a ∷ b ∷ c ∷ d ∷ e ∷ f ∷ g ∷ h ∷ i ∷ 
 from_fields root earlier (a ∷ b ∷ c ∷ d ∷ e ∷ f ∷ g ∷ h ∷ i ∷ j ∷ k ∷ l ∷ m ∷ n ∷ more) =
     let fields : List (List ℕ) = a ∷ b ∷ c ∷ d ∷ e ∷ f ∷ g ∷ h ∷ i ∷ j ∷ k ∷ l ∷ m ∷ n ∷ more in
     ap (λ t. refuse t Short >> behind_short root earlier fields) (le-ltb (length fields) 14 (omega arith))
-    ∙ bind_same (read_line_path fields) _ _ (λ path. bind_same (read_meta fields) _ _ (λ meta. bind_same (xattrs_of (part_at fields 15)) _ _ (λ xattrs. below_is root path _ _ (place_is earlier meta.kind (drop (length root) path) (record { number = length earlier + 1; path = drop (length root) path; rec = record { meta = meta; link = n; xattrs = xattrs } })))))
+    ∙ bind_same (read_line_path fields) _ _ (λ path. bind_same (read_meta fields) _ _ (λ meta. bind_same (xattrs_of (part_at fields 15)) _ _ (λ xattrs. bind_same (acl_field (part_at fields 16)) _ _ (λ acl. below_is root path _ _ (place_is earlier meta.kind (drop (length root) path) (record { number = length earlier + 1; path = drop (length root) path; rec = record { meta = meta; link = n; xattrs = xattrs; acl = acl } }))))))
 
 pub line_is : (delim : ℕ) (root : Components) (earlier : List Line) (text : List ℕ) → read_line delim root earlier text ≡ line_of delim root earlier text
 unfolding read_line behind_short

@@ -1,5 +1,5 @@
 -- A row that is written as a line is read again.
-use Rattle.std.proofs.Common.{◌≡◌, ℕ, ◌+◌, ◌^◌, ◌<◌, ◌≤◌, true, false, ◌&&◌, leb, List, [], ◌∷◌, ◌++◌, length, refl, ap, ◌∙◌, arith}
+use Rattle.std.proofs.Common.{◌≡◌, ℕ, ◌+◌, ◌^◌, ◌<◌, ◌≤◌, true, false, ◌&&◌, ◌||◌, leb, List, [], ◌∷◌, ◌++◌, length, refl, ap, ◌∙◌, arith}
 use Rattle.std.specs.Prelude.{Some, None, Ok, ok_or, decimal}
 use Rattle.std.specs.Fmt.{signed_decimal}
 use Rattle.std.specs.List.{list_all, list_any, join_with_byte}
@@ -18,19 +18,24 @@ use Rattle.gufi_base.specs.Limits.{max_link}
 use Rattle.gufi_base.specs.Names.{is_path_byte, is_name}
 use Rattle.gufi_base.specs.Paths.{Components, read_path, path_text, is_prefix, is_too_long}
 use Rattle.gufi_base.specs.Kinds.{kind_letter, read_kind}
-use Rattle.gufi_base.specs.Rows.{is_well_formed, fits_i64, fits_types}
-use Rattle.gufi_trace.specs.TraceRows.{row_fields, xattrs_fields}
+use Rattle.gufi_base.specs.Rows.{are_bytes, fits_i64, fits_types}
+use Rattle.gufi_access.specs.Acl.{is_acl_or_none}
+use Rattle.gufi_acl.specs.AclTexts.{acl_text}
+use Rattle.gufi_acl.proofs.Plain.{acl_texts_are_plain}
+use Rattle.gufi_tree.specs.Tree.{is_well_formed}
+use Rattle.gufi_trace.specs.TraceRows.{names_text, row_fields, xattrs_fields, extra_fields}
 use Rattle.gufi_base.specs.Xattrs.{mark, are_xattrs}
 use Rattle.gufi_base.specs.Delimiters.{may_delimit}
 use Rattle.gufi_trace.specs.declared.fault.TraceKind.TheVariants.{Short}
 use Rattle.gufi_trace.specs.TraceText.{read_line}
 use Rattle.gufi_trace.specs.TraceWriting.{holds_byte, rec_holds}
 use Rattle.gufi_trace.specs.AttributeField.{xattrs_of}
+use Rattle.gufi_trace.specs.AclField.{acl_field}
 use Rattle.gufi_trace.specs.Fields.{Texts, fields_of}
 use Rattle.gufi_trace.specs.Lines.{path_with_link, meta_in, place_fault, below_root, line_in}
 use Rattle.gufi_trace.proofs.LineIs.{line_is}
 use Rattle.gufi_trace.proofs.FieldsBack.{is_plain, IsField, AreFields, plain_field, field_append, split_joined}
-use Rattle.gufi_trace.proofs.AttributeNames.{xattrs_back}
+use Rattle.gufi_trace.proofs.AclFields.{names_back, acl_back}
 use Rattle.gufi_trace.proofs.NumbersBack.{read_below-decimal, read_i64-signed_decimal, decimal_plain, signed_plain}
 use Rattle.gufi_trace.proofs.PathsBack.{read_path-path_text, path_field, absent, no_newline, no_zero}
 
@@ -58,7 +63,8 @@ record Bounds (m : Meta) : Type 0 where
 
 bounds : (rec : Rec) → fits_types rec ≡ true → Bounds rec.meta
 bounds rec h =
-    let x = and_parts _ _ h in
+    let y = and_parts _ _ h in
+    let x = and_parts _ _ y.0 in
     let l = and_parts _ _ x.0 in
     let c = and_parts _ _ l.0 in
     let m = and_parts _ _ c.0 in
@@ -89,13 +95,15 @@ record Sound (rec : Rec) : Type 0 where
   short : length rec.link ≤ max_link
   bytes : list_all is_path_byte rec.link ≡ true
   names : are_xattrs rec.xattrs ≡ true
+  list : is_acl_or_none rec.acl ≡ true
 
 sound_parts : (rec : Rec) → is_well_formed rec ≡ true → Sound rec
 sound_parts rec h =
-    let whole = and_parts (leb rec.meta.mode 4095 && leb (length rec.link) max_link && list_all is_path_byte rec.link) (are_xattrs rec.xattrs) h in
+    let all = and_parts (leb rec.meta.mode 4095 && leb (length rec.link) max_link && list_all is_path_byte rec.link && are_xattrs rec.xattrs) (is_acl_or_none rec.acl) h in
+    let whole = and_parts (leb rec.meta.mode 4095 && leb (length rec.link) max_link && list_all is_path_byte rec.link) (are_xattrs rec.xattrs) all.0 in
     let outer = and_parts (leb rec.meta.mode 4095 && leb (length rec.link) max_link) (list_all is_path_byte rec.link) whole.0 in
     let inner = and_parts (leb rec.meta.mode 4095) (leb (length rec.link) max_link) outer.0 in
-    record { mode = leb-true _ _ inner.0; short = leb-true _ _ inner.1; bytes = outer.1; names = whole.1 }
+    record { mode = leb-true _ _ inner.0; short = leb-true _ _ inner.1; bytes = outer.1; names = whole.1; list = all.1 }
 
 letter_plain : (kind : Kind) → list_all is_plain (kind_letter kind ∷ []) ≡ true
 letter_plain Block = refl
@@ -115,12 +123,20 @@ read_kind-letter Fifo = refl
 read_kind-letter File = refl
 read_kind-letter Socket = refl
 
-xattrs_field : (delim : ℕ) (names : List ℕ) → may_delimit delim ≡ true → holds_byte delim names ≡ false → are_xattrs names ≡ true → AreFields delim (xattrs_fields names)
-unfolding AreFields
-xattrs_field delim [] may apart sound = tt
-xattrs_field delim (b ∷ names) may apart sound =
+names_field : (delim : ℕ) (names : List ℕ) → may_delimit delim ≡ true → holds_byte delim names ≡ false → are_xattrs names ≡ true → IsField delim (names_text names)
+names_field delim [] may apart sound = record { apart = refl; line = refl }
+names_field delim (b ∷ names) may apart sound =
     let bytes = (and_parts _ _ (and_parts _ _ sound).0).1 in
-    (field_append delim mark (b ∷ names) (plain_field delim may mark refl) (record { apart = absent delim (b ∷ names) apart; line = no_newline (b ∷ names) bytes }), tt)
+    field_append delim mark (b ∷ names) (plain_field delim may mark refl) (record { apart = absent delim (b ∷ names) apart; line = no_newline (b ∷ names) bytes })
+
+list_field : (delim : ℕ) (acl : List ℕ) → holds_byte delim (acl_text acl) ≡ false → IsField delim (acl_text acl)
+list_field delim acl apart = let text = acl_texts_are_plain acl in record { apart = absent delim (acl_text acl) apart; line = no_newline (acl_text acl) text.plain }
+
+extras_are_fields : (delim : ℕ) (names acl : List ℕ) → may_delimit delim ≡ true → holds_byte delim names ≡ false → holds_byte delim (acl_text acl) ≡ false → are_xattrs names ≡ true → AreFields delim (extra_fields names acl)
+unfolding AreFields
+extras_are_fields delim [] [] may apart list_apart sound = tt
+extras_are_fields delim (b ∷ names) [] may apart list_apart sound = (names_field delim (b ∷ names) may apart sound, tt)
+extras_are_fields delim names (a ∷ acl) may apart list_apart sound = (names_field delim names may apart sound, (list_field delim (a ∷ acl) list_apart, tt))
 
 pub are_fields : (root : Components) (delim : ℕ) (row : Row) → may_delimit delim ≡ true → IsWritable root delim row → AreFields delim (row_fields root row)
 unfolding AreFields
@@ -130,7 +146,8 @@ are_fields root delim row may h =
     let number : (n : ℕ) → n < 2 ^ 64 → IsField delim (decimal n) = λ n small. plain (decimal n) (decimal_plain n small) in
     let m = row.rec.meta in
     let s = sound_parts row.rec h.sound in
-    let apart = or_parts (holds_byte delim row.rec.link) (holds_byte delim row.rec.xattrs) h.rec_apart in
+    let both = or_parts (holds_byte delim row.rec.link || holds_byte delim row.rec.xattrs) (holds_byte delim (acl_text row.rec.acl)) h.rec_apart in
+    let apart = or_parts (holds_byte delim row.rec.link) (holds_byte delim row.rec.xattrs) both.0 in
     let link : IsField delim row.rec.link = record { apart = absent delim row.rec.link apart.0; line = no_newline row.rec.link s.bytes } in (
       path_field delim may (root ++ row.path) h.named h.apart,
       (
@@ -157,7 +174,7 @@ are_fields root delim row may h =
                             plain (signed_decimal m.mtime) (signed_plain m.mtime b.mtime),
                             (
                               plain (signed_decimal m.ctime) (signed_plain m.ctime b.ctime),
-                              (link, xattrs_field delim row.rec.xattrs may apart.1 s.names),
+                              (link, extras_are_fields delim row.rec.xattrs row.rec.acl may apart.1 both.1 s.names),
                             ),
                           ),
                         ),
@@ -189,7 +206,8 @@ row_texts root row =
       mtime = signed_decimal m.mtime;
       ctime = signed_decimal m.ctime;
       link = row.rec.link;
-      xattrs = part_at (xattrs_fields row.rec.xattrs) 1;
+      xattrs = part_at (extra_fields row.rec.xattrs row.rec.acl) 1;
+      acl = part_at (extra_fields row.rec.xattrs row.rec.acl) 2;
     }
 
 path_back : (root : Components) (delim : ℕ) (row : Row) → IsWritable root delim row → path_with_link (read_path (path_text (root ++ row.path))) row.rec.link ≡ Ok (root ++ row.path)
@@ -230,10 +248,10 @@ below_back root path = cond-true (is_prefix root (root ++ path)) _ _ (prefix_app
 abbrev pub line_at : List Line → Row → Line
 line_at earlier row = record { number = length earlier + 1; path = row.path; rec = row.rec }
 
-line_from : (root : Components) (earlier : List Line) (f : Texts) (path full : Components) (meta : Meta) (names : List ℕ) → path_with_link (read_path f.path) f.link ≡ Ok full → meta_in f ≡ Ok meta → xattrs_of f.xattrs ≡ Ok names → below_root root full ≡ Ok path → place_fault earlier meta.kind path ≡ None
-    → line_in root earlier f ≡ Ok (record { number = length earlier + 1; path = path; rec = record { meta = meta; link = f.link; xattrs = names } })
+line_from : (root : Components) (earlier : List Line) (f : Texts) (path full : Components) (meta : Meta) (names acl : List ℕ) → path_with_link (read_path f.path) f.link ≡ Ok full → meta_in f ≡ Ok meta → xattrs_of f.xattrs ≡ Ok names → acl_field f.acl ≡ Ok acl → below_root root full ≡ Ok path → place_fault earlier meta.kind path ≡ None
+    → line_in root earlier f ≡ Ok (record { number = length earlier + 1; path = path; rec = record { meta = meta; link = f.link; xattrs = names; acl = acl } })
 unfolding line_in
-line_from root earlier f path full meta names a b c d e = rw (a, b, c, d, e) refl
+line_from root earlier f path full meta names acl a b c g d e = rw (a, b, c, g, d, e) refl
 
 pub line_back : (root : Components) (delim : ℕ) (earlier : List Line) (row : Row) → may_delimit delim ≡ true → IsWritable root delim row → place_fault earlier row.rec.meta.kind row.path ≡ None
     → read_line delim root earlier (join_with_byte delim (row_fields root row)) ≡ Ok (line_at earlier row)
@@ -241,4 +259,4 @@ unfolding fields_of
 line_back root delim earlier row may h placed =
     line_is delim root earlier (join_with_byte delim (row_fields root row))
     ∙ ap (λ (parts : List (List ℕ)). ok_or (fields_of parts) Short >>= line_in root earlier) (split_joined delim _ _ (are_fields root delim row may h))
-    ∙ line_from root earlier (row_texts root row) row.path (root ++ row.path) row.rec.meta row.rec.xattrs (path_back root delim row h) (meta_back root row h.sound h.fits) (xattrs_back row.rec.xattrs (sound_parts row.rec h.sound).names) (below_back root row.path) placed
+    ∙ line_from root earlier (row_texts root row) row.path (root ++ row.path) row.rec.meta row.rec.xattrs row.rec.acl (path_back root delim row h) (meta_back root row h.sound h.fits) (names_back row.rec.xattrs row.rec.acl (sound_parts row.rec h.sound).names) (acl_back row.rec.xattrs row.rec.acl (sound_parts row.rec h.sound).list (and_parts _ (are_bytes row.rec.acl) h.fits).1) (below_back root row.path) placed

@@ -15,7 +15,8 @@ use Rattle.gufi_base.specs.Basics.{split, part_at, result_map_err}
 use Rattle.gufi_base.proofs.Parts.{has_no}
 use Rattle.gufi_base.specs.Names.{is_name}
 use Rattle.gufi_base.specs.Paths.{Components, read_path, is_prefix, path_text}
-use Rattle.gufi_base.specs.Rows.{are_bytes, is_well_formed, row_fits_types}
+use Rattle.gufi_base.specs.Rows.{are_bytes, row_fits_types}
+use Rattle.gufi_tree.specs.Tree.{is_well_formed}
 use Rattle.gufi_tree.specs.Build.{is_dir_line}
 use Rattle.gufi_tree.specs.Gathered.{row_of_line}
 use Rattle.gufi_tree.proofs.Built.{Has}
@@ -24,14 +25,17 @@ use Rattle.gufi_tree.proofs.RowHomes.{Has-IsPermutation}
 use Rattle.gufi_trace.specs.declared.fault.TraceKind.{TraceKind}
 use Rattle.gufi_trace.specs.declared.fault.TraceKind.TheVariants.{BadPath, LongName, NotUnderRoot, Short}
 use Rattle.gufi_trace.specs.TraceText.{is_bad_path, read_line, read_lines, fault_at}
+use Rattle.gufi_acl.specs.AclTexts.{IsReadAcl}
 use Rattle.gufi_trace.specs.AttributeField.{xattrs_of}
+use Rattle.gufi_trace.specs.AclField.{acl_field}
 use Rattle.gufi_trace.specs.Fields.{Texts, fields_of, fields_in}
 use Rattle.gufi_trace.specs.Lines.{path_with_link, meta_in, dirs_of, entries_of, place_fault, unless_fault, below_root, line_in}
 use Rattle.gufi_trace.proofs.AttributeNames.{AreReadNames, names_read}
+use Rattle.gufi_trace.proofs.AclFields.{acl_read}
 use Rattle.gufi_trace.proofs.Counts.{dir_room, entry_room, count_yes, count_no, count_reversed}
 use Rattle.gufi_trace.proofs.LineIs.{line_is}
 use Rattle.gufi_trace.proofs.PathsRead.{size, slashed_size, split_all, at_all, path_bytes, path_read, IsReadPath}
-use Rattle.gufi_trace.proofs.MetaRead.{bound, passed, some_given, IsReadMeta, meta_read}
+use Rattle.gufi_trace.proofs.MetaRead.{bound, passed, some_given, map_err_ok, IsReadMeta, meta_read}
 
 -- ---- the fields
 
@@ -120,9 +124,9 @@ some_size [] some = absurd (some refl)
 some_size (name ∷ root) some = omega arith
 
 -- a path below the root
-below_read : (bytes : List ℕ) (root below : Components) (meta : Meta) (link names : List ℕ) (n : ℕ) → IsReadPath bytes (root ++ below) → are_bytes bytes ≡ true → IsReadMeta meta → IsReadLink link → are_bytes link ≡ true → has_no 10 link ≡ true → AreReadNames names
-    → IsReadLine root (record { number = n; path = below; rec = record { meta = meta; link = link; xattrs = names } })
-below_read bytes root below meta link attributes n path bytes_fit m l link_fits link_open x =
+below_read : (bytes : List ℕ) (root below : Components) (meta : Meta) (link names acl : List ℕ) (n : ℕ) → IsReadPath bytes (root ++ below) → are_bytes bytes ≡ true → IsReadMeta meta → IsReadLink link → are_bytes link ≡ true → has_no 10 link ≡ true → AreReadNames names → IsReadAcl acl
+    → IsReadLine root (record { number = n; path = below; rec = record { meta = meta; link = link; xattrs = names; acl = acl } })
+below_read bytes root below meta link attributes acl n path bytes_fit m l link_fits link_open x a =
     let named = and_parts (list_all is_name root) (list_all is_name below) (sym (list_all-append is_name root below) ∙ path.named) in
     let fits = and_parts (list_all are_bytes root) (list_all are_bytes below) (sym (list_all-append are_bytes root below) ∙ path.fits bytes_fit) in
     let names = length-append root below in
@@ -131,8 +135,8 @@ below_read bytes root below meta link attributes n path bytes_fit m l link_fits 
     let close = path.close in
     record {
       named = named.1;
-      sound = and_from _ _ (and_from _ _ (and_from _ _ m.mode (le-leb _ _ l.short)) (path_bytes link l.no_zero link_open)) x.sound;
-      fits = and_from _ _ fits.1 (m.fits link attributes link_fits x.bytes);
+      sound = and_from _ _ (and_from _ _ (and_from _ _ (and_from _ _ m.mode (le-leb _ _ l.short)) (path_bytes link l.no_zero link_open)) x.sound) a.sound;
+      fits = and_from _ _ fits.1 (m.fits link attributes acl link_fits x.bytes a.bytes);
       few = omega arith;
       close = text_size below (max_path + 1) (omega arith) (omega arith);
       short = λ some. let room = some_size root some in text_size below max_path (omega arith) (omega arith);
@@ -149,15 +153,16 @@ line_read delim root earlier text line t e =
     let path = bound (path_with_link (read_path f.path) f.link) _ line fields.2 in
     let meta = bound (meta_in f) _ line path.2 in
     let names = bound (xattrs_of f.xattrs) _ line meta.2 in
-    let below = bound (below_root root path.0) _ line names.2 in
+    let acl = bound (acl_field f.acl) _ line names.2 in
+    let below = bound (below_root root path.0) _ line acl.2 in
     let linked = path_linked (read_path f.path) f.link path.0 path.1 in
     let under = below_parts (is_prefix root path.0) (length root) path.0 below.0 below.1 in
     let rest = is_prefix-rest root path.0 under.0 in
     let same : rest.0 ≡ below.0 = sym (drop-append_seam root rest.0) ∙ ap (drop (length root)) (sym rest.1) ∙ under.1 in
     let whole : path.0 ≡ root ++ below.0 = rest.1 ∙ ap (λ (p : Components). root ++ p) same in
-    let placed = no_fault (place_fault earlier meta.0.kind below.0) (record { number = length earlier + 1; path = below.0; rec = record { meta = meta.0; link = f.link; xattrs = names.0 } }) line below.2 in
+    let placed = no_fault (place_fault earlier meta.0.kind below.0) (record { number = length earlier + 1; path = below.0; rec = record { meta = meta.0; link = f.link; xattrs = names.0; acl = acl.0 } }) line below.2 in
     subst (IsNextLine root earlier) placed.1 (record {
-      sound = below_read f.path root below.0 meta.0 f.link names.0 (length earlier + 1) (subst (IsReadPath f.path) whole (path_read f.path path.0 linked.0)) fit.0 (meta_read f meta.0 meta.1) linked.1 fit.1 whole_fields.1 (names_read f.xattrs names.0 names.1 fit.2 whole_fields.2);
+      sound = below_read f.path root below.0 meta.0 f.link names.0 acl.0 (length earlier + 1) (subst (IsReadPath f.path) whole (path_read f.path path.0 linked.0)) fit.0 (meta_read f meta.0 meta.1) linked.1 fit.1 whole_fields.1 (names_read f.xattrs names.0 names.1 fit.2 whole_fields.2) (acl_read f.acl acl.0 acl.1);
       place = placed.0;
     })
 
@@ -203,10 +208,6 @@ next_lines root earlier line h n = record { each = each; dirs = counted.0; entri
         let more = count_yes (λ l. not (is_dir_line l)) line earlier (not_from_false _ e) in
         let few = h.dirs in
         (omega arith, omega arith)
-
-pub map_err_ok : {A E F : Type 0} (f : E → F) (r : Result A E) (x : A) → result_map_err f r ≡ Ok x → r ≡ Ok x
-map_err_ok f (Ok y) x e = cc
-map_err_ok f (Err w) x e = absurd cc
 
 pub lines_read : (delim : ℕ) (root : Components) (texts : List (List ℕ)) (earlier lines : List Line) → AllByRecursion IsLineText texts → AreReadLines root earlier → read_lines delim root earlier texts ≡ Ok lines → AreReadLines root lines
 unfolding read_lines

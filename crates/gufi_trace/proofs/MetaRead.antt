@@ -4,7 +4,7 @@ use Rattle.std.specs.Prelude.{Option, Some, None, Result, Ok, Err, ok_or, option
 use Rattle.std.specs.Str.Parse.{digits_value, starts_with_minus}
 use Rattle.std.proofs.lemmas.Bool.{and_parts, and_from, ltb-true, lt-ltb, le-leb}
 use Rattle.gufi_base.specs.declared.record.Meta.{Meta}
-use Rattle.gufi_base.specs.Basics.{◌>>=◌, ◌>>◌, refuse}
+use Rattle.gufi_base.specs.Basics.{◌>>=◌, ◌>>◌, refuse, result_map_err}
 use Rattle.gufi_base.specs.Numbers.{is_numeral, read_below, read_u32, read_u64, read_i64}
 use Rattle.gufi_base.specs.Kinds.{read_kind}
 use Rattle.gufi_base.specs.Rows.{are_bytes, fits_i64, fits_types}
@@ -27,6 +27,10 @@ module _ {E : Type 0} where
   pub some_given : {A : Type 0} (o : Option A) (w : E) (x : A) → ok_or o w ≡ Ok x → o ≡ Some x
   some_given None w x e = absurd cc
   some_given (Some y) w x e = cc
+
+pub map_err_ok : {A E F : Type 0} (f : E → F) (r : Result A E) (x : A) → result_map_err f r ≡ Ok x → r ≡ Ok x
+map_err_ok f (Ok y) x e = cc
+map_err_ok f (Err w) x e = absurd cc
 
 -- ---- numbers
 
@@ -64,7 +68,7 @@ signed_fits bytes z e = by (starts_with_minus bytes) e where
 
 pub record IsReadMeta (meta : Meta) : Type 0 where
   pub mode : nat_le meta.mode 4095 ≡ true
-  pub fits : (link names : List ℕ) → are_bytes link ≡ true → are_bytes names ≡ true → fits_types (record { meta = meta; link = link; xattrs = names }) ≡ true
+  pub fits : (link names acl : List ℕ) → are_bytes link ≡ true → are_bytes names ≡ true → are_bytes acl ≡ true → fits_types (record { meta = meta; link = link; xattrs = names; acl = acl }) ≡ true
 
 mode_fits : (m : ℕ) → nat_lt (m % 4096) (2 ^ 16) ≡ true
 mode_fits m = lt-ltb _ _ (omega arith)
@@ -100,9 +104,9 @@ meta_read f meta e =
     let same : made ≡ meta = meta_same (Ok made) made meta refl ctime.2 in
     subst IsReadMeta same (record {
       mode = mode_small mode.0;
-      fits = λ link names bytes names_bytes.
-          and_from _ _ (and_from _ _ (and_from _ _ (and_from _ _ (and_from _ _ (and_from _ _ (and_from _ _ (and_from _ _ (and_from _ _ (and_from _ _ (and_from _ _ (and_from _ _
+      fits = λ link names acl bytes names_bytes acl_bytes.
+          and_from _ _ (and_from _ _ (and_from _ _ (and_from _ _ (and_from _ _ (and_from _ _ (and_from _ _ (and_from _ _ (and_from _ _ (and_from _ _ (and_from _ _ (and_from _ _ (and_from _ _
           (u64 f.inode inode.0 (some_given _ _ _ inode.1)) (mode_fits mode.0)) (u64 f.nlink nlink.0 (some_given _ _ _ nlink.1))) (u32 f.uid uid.0 (some_given _ _ _ uid.1))) (u32 f.gid gid.0 (some_given _ _ _ gid.1)))
           (u64 f.size size.0 (some_given _ _ _ size.1))) (u64 f.blksize blksize.0 (some_given _ _ _ blksize.1))) (u64 f.blocks blocks.0 (some_given _ _ _ blocks.1)))
-          (signed_fits f.atime atime.0 (some_given _ _ _ atime.1))) (signed_fits f.mtime mtime.0 (some_given _ _ _ mtime.1))) (signed_fits f.ctime ctime.0 (some_given _ _ _ ctime.1))) bytes) names_bytes;
+          (signed_fits f.atime atime.0 (some_given _ _ _ atime.1))) (signed_fits f.mtime mtime.0 (some_given _ _ _ mtime.1))) (signed_fits f.ctime ctime.0 (some_given _ _ _ ctime.1))) bytes) names_bytes) acl_bytes;
     })

@@ -22,6 +22,7 @@ use Rattle.gufi_trace.specs.declared.quick.Owner.{Owner}
 use Rattle.gufi_trace.specs.declared.quick.Sizes.{Sizes}
 use Rattle.gufi_trace.specs.declared.lines.Progress.{Progress}
 use Rattle.gufi_trace.specs.AttributeField.{xattrs_of}
+use Rattle.gufi_trace.specs.AclField.{acl_field}
 use Rattle.gufi_trace.specs.Fields.{Texts, fields_of}
 use Rattle.gufi_trace.specs.Lines.{dirs_of, entries_of, place_fault, path_with_link, below_root, unless_fault, meta_in, line_in}
 use Rattle.gufi_trace.specs.Progress.{root_behind}
@@ -75,6 +76,7 @@ taken_meta p q r s t u owner sizes atime mtime ctime o z a m c =
         ctime = c.field;
         link = [];
         xattrs = [];
+        acl = [];
       };
       is = behind _ _ _ _ o.kind.is (behind _ _ _ _ o.inode.is (behind _ _ _ _ o.mode.is (behind _ _ _ _ o.nlink.is (behind _ _ _ _ o.uid.is (behind _ _ _ _ o.gid.is
           (behind _ _ _ _ z.size.is (behind _ _ _ _ z.blksize.is (behind _ _ _ _ z.blocks.is (behind _ _ _ _ a.is (behind _ _ _ _ m.is c.is))))))))));
@@ -83,11 +85,11 @@ taken_meta p q r s t u owner sizes atime mtime ctime o z a m c =
     }
 
 -- the path, the record, the link and the names of extended attributes of a line's parts
-pub taken_content : (p0 p1 p2 p3 : List (List ℕ)) (content : Content) → p0 ≡ content.path.now ∷ p1 → TakesMeta p1 p2 content.meta → p2 ≡ content.link.now ∷ p3 → list_any (λ b. b == 0) content.link.now ≡ false → length content.link.now ≤ max_link → xattrs_of (part_at p3 1) ≡ Ok content.xattrs.now → TakesContent p0 content
+pub taken_content : (p0 p1 p2 p3 : List (List ℕ)) (content : Content) → p0 ≡ content.path.now ∷ p1 → TakesMeta p1 p2 content.meta → p2 ≡ content.link.now ∷ p3 → list_any (λ b. b == 0) content.link.now ≡ false → length content.link.now ≤ max_link → xattrs_of (part_at p3 1) ≡ Ok content.xattrs.now → part_at p3 2 ≡ content.acl.now → TakesContent p0 content
 unfolding fields_of meta_in
-taken_content p0 p1 p2 p3 content e m h no_zero short names =
+taken_content p0 p1 p2 p3 content e m h no_zero short names list =
     record {
-      f = record m.f { path = content.path.now; link = content.link.now; xattrs = part_at p3 1 };
+      f = record m.f { path = content.path.now; link = content.link.now; xattrs = part_at p3 1; acl = part_at p3 2 };
       fields = ap fields_of (e ∙ ap (λ (ps : List (List ℕ)). content.path.now ∷ ps) m.is ∙ ap (λ (ps : List (List ℕ)). content.path.now ∷ m.f.kind ∷ m.f.inode ∷ m.f.mode ∷ m.f.nlink ∷ m.f.uid ∷ m.f.gid ∷ m.f.size ∷ m.f.blksize ∷ m.f.blocks ∷ m.f.atime ∷ m.f.mtime ∷ m.f.ctime ∷ ps) h);
       path = refl;
       link = refl;
@@ -95,6 +97,7 @@ taken_content p0 p1 p2 p3 content e m h no_zero short names =
       no_zero = no_zero;
       short = short;
       xattrs = names;
+      acl = list;
     }
 
 refuse_no : {A : Type 0} (b : Bool) (kind : TraceKind) (next out : Result A TraceKind) → b ≡ false → next ≡ out → (refuse b kind >> next) ≡ out
@@ -111,39 +114,40 @@ bind_ok {A} r x f out e h = ap (λ (o : Result A TraceKind). o >>= f) e ∙ h
 root_off : (root path : Components) → below_root root (root ++ path) ≡ Ok path
 root_off root path = cond-true (is_prefix root (root ++ path)) _ _ (is_prefix-append root path) ∙ ap Ok (drop-append_seam root path)
 
-sound_fields : (root : Components) (earlier : List Line) (f : Texts) (content : Content) (path : Components) (link : List ℕ) → f.path ≡ content.path.now → f.link ≡ content.link.now → meta_in f ≡ Ok content.meta
-    → list_any (λ b. b == 0) content.link.now ≡ false → length content.link.now ≤ max_link → xattrs_of f.xattrs ≡ Ok content.xattrs.now → IsPlaced root earlier content.meta.kind content.path.now path → link ≡ content.link.now
-    → line_in root earlier f ≡ Ok (record { number = length earlier + 1; path = path; rec = record { meta = content.meta; link = link; xattrs = content.xattrs.now } })
+sound_fields : (root : Components) (earlier : List Line) (f : Texts) (content : Content) (acl : List ℕ) (path : Components) (link : List ℕ) → f.path ≡ content.path.now → f.link ≡ content.link.now → meta_in f ≡ Ok content.meta
+    → list_any (λ b. b == 0) content.link.now ≡ false → length content.link.now ≤ max_link → xattrs_of f.xattrs ≡ Ok content.xattrs.now → acl_field f.acl ≡ Ok acl → IsPlaced root earlier content.meta.kind content.path.now path → link ≡ content.link.now
+    → line_in root earlier f ≡ Ok (record { number = length earlier + 1; path = path; rec = record { meta = content.meta; link = link; xattrs = content.xattrs.now; acl = acl } })
 unfolding line_in
-sound_fields root earlier f content path link p l meta no_zero short names placed is =
+sound_fields root earlier f content acl path link p l meta no_zero short names list placed is =
     bind_ok _ _ _ _ (path_read f.path f.link (root ++ path) (ap read_path p ∙ placed.reads) (ap (list_any (λ b. b == 0)) l ∙ no_zero) (subst (λ (t : List ℕ). length t ≤ max_link) (sym l) short))
     (bind_ok _ _ _ _ meta
     (bind_ok _ _ _ _ names
+    (bind_ok _ _ _ _ list
     (bind_ok _ _ _ _ (root_off root path)
-    (ap (λ (o : Option TraceKind). unless_fault o (line_as f.link)) placed.place ∙ ap (λ (t : List ℕ). Ok (line_as t)) (l ∙ sym is)))))
+    (ap (λ (o : Option TraceKind). unless_fault o (line_as f.link)) placed.place ∙ ap (λ (t : List ℕ). Ok (line_as t)) (l ∙ sym is))))))
   where
     line_as : List ℕ → Line
-    line_as t = record { number = length earlier + 1; path = path; rec = record { meta = content.meta; link = t; xattrs = content.xattrs.now } }
+    line_as t = record { number = length earlier + 1; path = path; rec = record { meta = content.meta; link = t; xattrs = content.xattrs.now; acl = acl } }
 
 -- the line of such parts, at its place
-pub sound_line : (delim : ℕ) (root : Components) (earlier : List Line) (text : List ℕ) (parts : List (List ℕ)) (content : Content) (path : Components) → parts ≡ split delim text → TakesContent parts content → IsPlaced root earlier content.meta.kind content.path.now path
-    → 0 < length earlier → IsSoundBehind delim root earlier text (line_with earlier content path)
-sound_line delim root earlier text parts content path e taken placed some =
+pub sound_line : (delim : ℕ) (root : Components) (earlier : List Line) (text : List ℕ) (parts : List (List ℕ)) (content : Content) (acl : List ℕ) (path : Components) → parts ≡ split delim text → TakesContent parts content → acl_field content.acl.now ≡ Ok acl → IsPlaced root earlier content.meta.kind content.path.now path
+    → 0 < length earlier → IsSoundBehind delim root earlier text (line_with earlier content acl path)
+sound_line delim root earlier text parts content acl path e taken list placed some =
     record {
-      reads = ap (λ (ps : List (List ℕ)). ok_or (fields_of ps) Short >>= line_in root earlier) (sym e) ∙ step _ _ _ _ _ taken.fields (sound_fields root earlier taken.f content path content.link.now taken.path taken.link taken.meta taken.no_zero taken.short taken.xattrs placed refl);
+      reads = ap (λ (ps : List (List ℕ)). ok_or (fields_of ps) Short >>= line_in root earlier) (sym e) ∙ step _ _ _ _ _ taken.fields (sound_fields root earlier taken.f content acl path content.link.now taken.path taken.link taken.meta taken.no_zero taken.short taken.xattrs (ap acl_field taken.acl ∙ list) placed refl);
       behind = some;
     }
 
 -- content that was taken, or not, is the line of its text
-pub sound_next : (taken : Bool) (delim : ℕ) (root : Components) (text : List ℕ) (parts : List (List ℕ)) (content : Content) (old new : List Line) → parts ≡ split delim text → TakesContent parts content → 0 < length old → Adds taken root content old new
+pub sound_next : (taken : Bool) (delim : ℕ) (root : Components) (text : List ℕ) (parts : List (List ℕ)) (content : Content) (acl : List ℕ) (old new : List Line) → parts ≡ split delim text → TakesContent parts content → acl_field content.acl.now ≡ Ok acl → 0 < length old → Adds taken root content acl old new
     → AddsNext taken delim root text old new
-sound_next true delim root text parts content old new e holds some h = (line_with old content h.0, sound_line delim root old text parts content h.0 e holds h.1 some, h.2)
-sound_next false delim root text parts content old new e holds some h = h
+sound_next true delim root text parts content acl old new e holds list some h = (line_with old content acl h.0, sound_line delim root old text parts content acl h.0 e holds list h.1 some, h.2)
+sound_next false delim root text parts content acl old new e holds list some h = h
 
-pub sound_result : (given : Result Bool AllocError) (delim : ℕ) (root : Components) (text : List ℕ) (parts : List (List ℕ)) (content : Content) (old new : List Line) → parts ≡ split delim text → TakesContent parts content → 0 < length old
-    → IfOk given (λ taken. Adds taken root content old new) → IfOk given (λ taken. AddsNext taken delim root text old new)
-sound_result (Ok taken) delim root text parts content old new e holds some h = sound_next taken delim root text parts content old new e holds some h
-sound_result (Err error) delim root text parts content old new e holds some h = tt
+pub sound_result : (given : Result Bool AllocError) (delim : ℕ) (root : Components) (text : List ℕ) (parts : List (List ℕ)) (content : Content) (acl : List ℕ) (old new : List Line) → parts ≡ split delim text → TakesContent parts content → acl_field content.acl.now ≡ Ok acl → 0 < length old
+    → IfOk given (λ taken. Adds taken root content acl old new) → IfOk given (λ taken. AddsNext taken delim root text old new)
+sound_result (Ok taken) delim root text parts content acl old new e holds list some h = sound_next taken delim root text parts content acl old new e holds list some h
+sound_result (Err error) delim root text parts content acl old new e holds list some h = tt
 
 -- a reader that has a line has its root
 pub settled_behind : (delim : ℕ) (known : Progress) (text : List ℕ) → 0 < length known.lines → known ≡ progress_of (root_behind known.lines known.root delim (text ∷ [])) known.lines

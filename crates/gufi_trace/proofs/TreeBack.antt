@@ -13,11 +13,11 @@ use Rattle.gufi_base.specs.declared.record.Row.{Row}
 use Rattle.gufi_base.specs.Basics.{is_empty, ascends}
 use Rattle.gufi_base.specs.Names.{is_name}
 use Rattle.gufi_base.specs.Kinds.{is_dir}
-use Rattle.gufi_base.specs.Rows.{is_well_formed, row_cmp}
+use Rattle.gufi_base.specs.Rows.{row_cmp}
 use Rattle.gufi_base.specs.Paths.{Components, path_cmp, path_eq, parent_path}
 use Rattle.gufi_base.proofs.SortedOnce.{times, Once, Once-from_ascends, below_all, ascends-tail}
 use Rattle.gufi_tree.specs.declared.tree.Entry.{Entry}
-use Rattle.gufi_tree.specs.Tree.{Directory, has_dir, dir_cmp, entry_cmp, entry_row, own_rows, is_entry_of, is_directory_of, is_tree}
+use Rattle.gufi_tree.specs.Tree.{Directory, has_dir, dir_cmp, entry_cmp, entry_row, own_rows, is_well_formed, is_entry_of, is_directory_of, is_tree}
 use Rattle.gufi_tree.specs.Build.{is_dir_line, is_orphan, tree_of}
 use Rattle.gufi_tree.specs.Tree.{is_kinded}
 use Rattle.gufi_tree.specs.Gathered.{row_of_line}

@@ -14,11 +14,11 @@ use Rattle.gufi_base.specs.Names.{is_name}
 use Rattle.gufi_base.specs.Kinds.{is_dir}
 use Rattle.gufi_base.specs.Basics.{is_empty, ascends, sort_by, split, result_map_err}
 use Rattle.gufi_base.specs.Paths.{Components, parent_path, path_text, is_too_long}
-use Rattle.gufi_base.specs.Rows.{are_bytes, is_well_formed, row_fits_types}
+use Rattle.gufi_base.specs.Rows.{are_bytes, row_fits_types}
 use Rattle.gufi_base.proofs.Parts.{has_no}
 use Rattle.gufi_base.proofs.Sorting.{IsPermutation-sort_by}
 use Rattle.gufi_tree.specs.declared.tree.Entry.{Entry}
-use Rattle.gufi_tree.specs.Tree.{Directory, dir_cmp, entry_cmp, dir_row, entry_row, own_rows, has_dir, is_kinded, entry_count, is_entry_of, is_directory_of, is_tree, is_too_large, HasTreeShape}
+use Rattle.gufi_tree.specs.Tree.{Directory, dir_cmp, entry_cmp, dir_row, entry_row, own_rows, has_dir, is_kinded, entry_count, is_well_formed, is_entry_of, is_directory_of, is_tree, is_too_large, HasTreeShape}
 use Rattle.gufi_tree.specs.Build.{is_dir_line, directory_of_line, directories_of_lines, tree_of}
 use Rattle.gufi_tree.specs.Gathered.{row_of_line}
 use Rattle.gufi_tree.proofs.Built.{Has}
@@ -30,8 +30,8 @@ use Rattle.gufi_trace.specs.TraceText.{whole_lines, cut_line, lines_so_far, trac
 use Rattle.gufi_trace.specs.declared.fault.TraceKind.TheVariants.{CutLine}
 use Rattle.gufi_trace.specs.TraceTrees.{trace_root, is_close, IsTraceTree, TracesMeanSoundTrees}
 use Rattle.gufi_trace.proofs.LineTrees.{rows_of_lines, lines_shape, tree_given}
-use Rattle.gufi_trace.proofs.LinesRead.{IsLineText, IsReadLine, AreReadLines, map_err_ok, lines_read}
-use Rattle.gufi_trace.proofs.MetaRead.{bound, passed}
+use Rattle.gufi_trace.proofs.LinesRead.{IsLineText, IsReadLine, AreReadLines, lines_read}
+use Rattle.gufi_trace.proofs.MetaRead.{bound, passed, map_err_ok}
 use Rattle.gufi_trace.proofs.PathsRead.{split_all, split_apart, front_all}
 
 -- ---- rows of a directory

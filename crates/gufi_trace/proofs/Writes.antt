@@ -8,9 +8,10 @@ use Rattle.std.proofs.lemmas.List.Concat.{flat_map-append}
 use Rattle.gufi_base.specs.declared.record.Row.{Row}
 use Rattle.gufi_base.specs.Paths.{Components, path_text, slashed_text}
 use Rattle.gufi_base.specs.Kinds.{kind_letter}
-use Rattle.gufi_trace.specs.TraceRows.{row_line, xattrs_fields}
+use Rattle.gufi_acl.specs.AclTexts.{acl_text}
+use Rattle.gufi_trace.specs.TraceRows.{names_text, row_line, extra_fields}
 use Rattle.gufi_base.specs.Xattrs.{mark}
-use Rattle.gufi_trace.specs.Writing.{xattrs_text, rec_text}
+use Rattle.gufi_trace.specs.Writing.{extras_text, rec_text}
 
 -- what two calls append
 pub append_ok : {E : Type 0} (r : Result (Unit {0}) E) (old mid new z y x : List ℕ) → mid ≡ old ++ z → OnOk r (new ≡ mid ++ y) → x ≡ z ++ y → OnOk r (new ≡ old ++ x)
@@ -35,9 +36,10 @@ regrouped : (delim letter : ℕ) (p i m n u g s bs bl at mt ct last end : List �
     ≡ p ++ ((delim ∷ letter ∷ delim ∷ (i ++ (delim ∷ (m ++ (delim ∷ (n ++ (delim ∷ (u ++ (delim ∷ g))))))))) ++ ((delim ∷ (s ++ (delim ∷ (bs ++ (delim ∷ bl))))) ++ ((delim ∷ (at ++ (delim ∷ (mt ++ (delim ∷ ct))))) ++ (delim ∷ end))))
 regrouped delim letter p i m n u g s bs bl at mt ct last end e = simp (append_assoc, e)
 
-last_text : (delim : ℕ) (link names : List ℕ) → join_with_byte delim (link ∷ xattrs_fields names) ++ 10 ∷ [] ≡ link ++ (xattrs_text delim names ++ 10 ∷ [])
-last_text delim link [] = refl
-last_text delim link (b ∷ names) = append_assoc link (delim ∷ mark ++ b ∷ names) (10 ∷ [])
+last_text : (delim : ℕ) (link names acl : List ℕ) → join_with_byte delim (link ∷ extra_fields names acl) ++ 10 ∷ [] ≡ link ++ (extras_text delim names acl ++ 10 ∷ [])
+last_text delim link [] [] = refl
+last_text delim link (b ∷ names) [] = append_assoc link (delim ∷ mark ++ b ∷ names) (10 ∷ [])
+last_text delim link names (a ∷ acl) = append_assoc link (delim ∷ names_text names ++ delim ∷ acl_text (a ∷ acl)) (10 ∷ [])
 
 -- a line is its path and what follows it
 pub line_text : (delim : ℕ) (root : Components) (row : Row) → row_line delim root row ≡ path_text (root ++ row.path) ++ rec_text delim row.rec
@@ -45,4 +47,4 @@ unfolding rec_text
 line_text delim root row =
     let m = row.rec.meta in
     regrouped delim (kind_letter m.kind) (path_text (root ++ row.path)) (decimal m.inode) (decimal m.mode) (decimal m.nlink) (decimal m.uid) (decimal m.gid) (decimal m.size) (decimal m.blksize) (decimal m.blocks)
-    (signed_decimal m.atime) (signed_decimal m.mtime) (signed_decimal m.ctime) _ _ (last_text delim row.rec.link row.rec.xattrs)
+    (signed_decimal m.atime) (signed_decimal m.mtime) (signed_decimal m.ctime) _ _ (last_text delim row.rec.link row.rec.xattrs row.rec.acl)

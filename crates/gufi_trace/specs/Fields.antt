@@ -21,6 +21,7 @@ pub record Texts : Type 0 where
   pub ctime : List ℕ
   pub link : List ℕ
   pub xattrs : List ℕ
+  pub acl : List ℕ
 
 -- what the fields of the code point to
 abbrev pub texts : Fields → Texts
@@ -40,9 +41,10 @@ texts f = record {
   ctime = f.ctime.now;
   link = f.link.now;
   xattrs = f.xattrs.now;
+  acl = f.acl.now;
 }
 
--- the first fourteen parts, where there are so many, and the fifteenth, or nothing; the others are skipped unread
+-- the first fourteen parts, where there are so many, and the fifteenth and sixteenth, or nothing; the others are skipped unread
 unfoldable pub fields_of : List (List ℕ) → Option Texts
 fields_of (path ∷ kind ∷ inode ∷ mode ∷ nlink ∷ uid ∷ gid ∷ size ∷ blksize ∷ blocks ∷ atime ∷ mtime ∷ ctime ∷ link ∷ more) =
     Some (record {
@@ -61,6 +63,7 @@ fields_of (path ∷ kind ∷ inode ∷ mode ∷ nlink ∷ uid ∷ gid ∷ size �
       ctime = ctime;
       link = link;
       xattrs = part_at more 1;
+      acl = part_at more 2;
     })
 fields_of _ = None
 

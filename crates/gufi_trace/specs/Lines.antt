@@ -17,6 +17,7 @@ use Rattle.gufi_trace.specs.declared.fault.TraceKind.{TraceKind}
 use Rattle.gufi_trace.specs.declared.fault.TraceKind.TheVariants.{BadPath, LongName, BadType, BadNumber, NotUnderRoot, WrongStanza, TooMany}
 use Rattle.gufi_trace.specs.TraceText.{is_bad_path}
 use Rattle.gufi_trace.specs.AttributeField.{xattrs_of}
+use Rattle.gufi_trace.specs.AclField.{acl_field}
 use Rattle.gufi_trace.specs.Fields.{Texts, fields_in}
 
 -- a number, or the fault of its field
@@ -73,8 +74,9 @@ line_in root earlier f = do
   path ← path_with_link (read_path f.path) f.link
   meta ← meta_in f
   xattrs ← xattrs_of f.xattrs
+  acl ← acl_field f.acl
   below ← below_root root path
-  unless_fault (place_fault earlier meta.kind below) (record { number = length earlier + 1; path = below; rec = record { meta = meta; link = f.link; xattrs = xattrs } })
+  unless_fault (place_fault earlier meta.kind below) (record { number = length earlier + 1; path = below; rec = record { meta = meta; link = f.link; xattrs = xattrs; acl = acl } })
 
 -- a line from its text
 abbrev pub line_of : ℕ → Components → List Line → List ℕ → Result Line TraceKind

@@ -64,7 +64,7 @@ pub record TakesMeta (old new : List (List ℕ)) (meta : Meta) : Type 0 where
   pub is : old ≡ f.kind ∷ f.inode ∷ f.mode ∷ f.nlink ∷ f.uid ∷ f.gid ∷ f.size ∷ f.blksize ∷ f.blocks ∷ f.atime ∷ f.mtime ∷ f.ctime ∷ new
   pub reads : meta_in f ≡ Ok meta
 
--- the fields of a line whose parts these are, with a sound link and sound names of extended attributes
+-- the fields of a line whose parts these are, with a sound link and sound names of extended attributes, and what may hold a list
 pub record TakesContent (parts : List (List ℕ)) (content : Content) : Type 0 where
   pub f : Texts
   pub fields : fields_of parts ≡ Some f
@@ -74,20 +74,22 @@ pub record TakesContent (parts : List (List ℕ)) (content : Content) : Type 0 w
   pub no_zero : list_any (λ b. b == 0) content.link.now ≡ false
   pub short : length content.link.now ≤ max_link
   pub xattrs : xattrs_of f.xattrs ≡ Ok content.xattrs.now
+  pub acl : f.acl ≡ content.acl.now
 
 -- bytes that spell a path below the root, which stands at its place
 pub record IsPlaced (root : Components) (earlier : List Line) (kind : Kind) (bytes : List ℕ) (path : Components) : Type 0 where
   pub reads : read_path bytes ≡ Ok (root ++ path)
   pub place : place_fault earlier kind path ≡ None
 
--- the line that such content makes behind others, at a path
-abbrev pub line_with : List Line → Content → Components → Line
-line_with earlier content path = record { number = length earlier + 1; path = path; rec = record { meta = content.meta; link = content.link.now; xattrs = content.xattrs.now } }
+-- the line that such content and a list make behind others, at a path
+abbrev pub line_with : List Line → Content → List ℕ → Components → Line
+line_with earlier content acl path =
+    record { number = length earlier + 1; path = path; rec = record { meta = content.meta; link = content.link.now; xattrs = content.xattrs.now; acl = acl } }
 
 -- whether content was taken: then its line has come to the others, at its place; else they are as they were
-abbrev pub Adds : Bool → Components → Content → List Line → List Line → Type 0
-Adds true root content old new = (path : Components) × IsPlaced root old content.meta.kind content.path.now path × (new ≡ line_with old content path ∷ old)
-Adds false root content old new = new ≡ old
+abbrev pub Adds : Bool → Components → Content → List ℕ → List Line → List Line → Type 0
+Adds true root content acl old new = (path : Components) × IsPlaced root old content.meta.kind content.path.now path × (new ≡ line_with old content acl path ∷ old)
+Adds false root content acl old new = new ≡ old
 
 -- a line that is sound behind others
 pub record IsSoundBehind (delim : ℕ) (root : Components) (earlier : List Line) (text : List ℕ) (line : Line) : Type 0 where

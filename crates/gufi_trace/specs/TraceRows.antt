@@ -1,4 +1,5 @@
--- A row as a line of a trace: fourteen fields, decimal numbers without leading zeros, and one more where there are names of extended attributes.
+-- A row as a line of a trace: fourteen fields, decimal numbers without leading zeros, and up to the last one that isn't empty the names of extended
+-- attributes and the access control list.
 use Rattle.std.specs.Prelude.{ℕ, List, [], ◌∷◌, ◌++◌, decimal, if◌then◌else◌}
 use Rattle.std.specs.Fmt.{signed_decimal}
 use Rattle.std.specs.List.{join_with_byte}
@@ -7,16 +8,24 @@ use Rattle.gufi_base.specs.Basics.{is_empty, line}
 use Rattle.gufi_base.specs.Paths.{Components, path_text}
 use Rattle.gufi_base.specs.Kinds.{kind_letter}
 use Rattle.gufi_base.specs.Xattrs.{mark}
+use Rattle.gufi_acl.specs.AclTexts.{acl_text}
 
--- the field behind the link
+-- the names behind their mark, where there are some
+abbrev pub names_text : List ℕ → List ℕ
+names_text names = if is_empty names then [] else mark ++ names
+
+-- the fields behind the link: none, one, or two where there is a list
 abbrev pub xattrs_fields : List ℕ → List (List ℕ)
 xattrs_fields names = if is_empty names then [] else (mark ++ names) ∷ []
+
+abbrev pub extra_fields : List ℕ → List ℕ → List (List ℕ)
+extra_fields names acl = if is_empty acl then xattrs_fields names else names_text names ∷ acl_text acl ∷ []
 
 abbrev pub row_fields : Components → Row → List (List ℕ)
 row_fields root row =
     let m = row.rec.meta in
     path_text (root ++ row.path) ∷ (kind_letter m.kind ∷ []) ∷ decimal m.inode ∷ decimal m.mode ∷ decimal m.nlink ∷ decimal m.uid ∷ decimal m.gid
-    ∷ decimal m.size ∷ decimal m.blksize ∷ decimal m.blocks ∷ signed_decimal m.atime ∷ signed_decimal m.mtime ∷ signed_decimal m.ctime ∷ row.rec.link ∷ xattrs_fields row.rec.xattrs
+    ∷ decimal m.size ∷ decimal m.blksize ∷ decimal m.blocks ∷ signed_decimal m.atime ∷ signed_decimal m.mtime ∷ signed_decimal m.ctime ∷ row.rec.link ∷ extra_fields row.rec.xattrs row.rec.acl
 
 abbrev pub row_line : ℕ → Components → Row → List ℕ
 row_line delim root row = line (join_with_byte delim (row_fields root row))

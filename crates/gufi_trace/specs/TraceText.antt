@@ -18,8 +18,9 @@ use Rattle.gufi_tree.specs.Tree.{Directory}
 use Rattle.gufi_tree.specs.Build.{is_dir_line, tree_of}
 use Rattle.gufi_tree.specs.StanzaLines.{stanza_holds}
 use Rattle.gufi_trace.specs.declared.fault.TraceKind.{TraceKind}
-use Rattle.gufi_trace.specs.declared.fault.TraceKind.TheVariants.{Short, BadPath, LongName, BadType, BadNumber, BadXattr, NotUnderRoot, WrongStanza, TooMany, CutLine}
+use Rattle.gufi_trace.specs.declared.fault.TraceKind.TheVariants.{Short, BadPath, LongName, BadType, BadNumber, BadXattr, BadAcl, TooManyEntries, NotUnderRoot, WrongStanza, TooMany, CutLine}
 use Rattle.gufi_trace.specs.AttributeField.{xattrs_of}
+use Rattle.gufi_trace.specs.AclField.{acl_field}
 use Rattle.gufi_trace.specs.declared.fault.TraceFault.{TraceFault}
 use Rattle.gufi_trace.specs.declared.fault.TraceError.{TraceError}
 use Rattle.gufi_trace.specs.declared.fault.TraceError.TheVariants.{Fault, Memory}
@@ -77,10 +78,11 @@ read_line delim root earlier text =
       path ← read_line_path fields
       meta ← read_meta fields
       xattrs ← xattrs_of (part_at fields 15)
+      acl ← acl_field (part_at fields 16)
       refuse (not (is_prefix root path)) NotUnderRoot
       refuse (not (is_in_stanza earlier meta.kind (drop (length root) path))) WrongStanza
       too_many earlier meta.kind
-      Ok (record { number = length earlier + 1; path = drop (length root) path; rec = record { meta = meta; link = part_at fields 14; xattrs = xattrs } })
+      Ok (record { number = length earlier + 1; path = drop (length root) path; rec = record { meta = meta; link = part_at fields 14; xattrs = xattrs; acl = acl } })
 
 abbrev pub fault_at : ℕ → TraceKind → TraceError
 fault_at n kind = Fault (record { line = n; kind = kind })
@@ -132,6 +134,8 @@ trace_kind_text LongName = codes "LongName"
 trace_kind_text BadType = codes "BadType"
 trace_kind_text (BadNumber field) = codes "BadNumber " ++ decimal field
 trace_kind_text BadXattr = codes "BadXattr"
+trace_kind_text BadAcl = codes "BadAcl"
+trace_kind_text TooManyEntries = codes "TooManyEntries"
 trace_kind_text NotUnderRoot = codes "NotUnderRoot"
 trace_kind_text WrongStanza = codes "WrongStanza"
 trace_kind_text (TooMany limit) = codes "TooMany " ++ decimal limit

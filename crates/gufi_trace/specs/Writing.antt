@@ -8,8 +8,9 @@ use Rattle.gufi_base.specs.declared.record.Rec.{Rec}
 use Rattle.gufi_base.specs.Basics.{is_empty}
 use Rattle.gufi_base.specs.Kinds.{kind_letter}
 use Rattle.gufi_base.specs.Xattrs.{mark}
+use Rattle.gufi_acl.specs.AclTexts.{acl_text}
 use Rattle.gufi_base.specs.Paths.{Components, is_too_long}
-use Rattle.gufi_trace.specs.TraceRows.{row_line}
+use Rattle.gufi_trace.specs.TraceRows.{names_text, row_line}
 use Rattle.gufi_tree.specs.declared.tree.Entry.{Entry}
 use Rattle.gufi_tree.specs.Tree.{Directory, own_rows}
 use Rattle.gufi_trace.specs.declared.writer.WriteTraceFault.{WriteTraceFault}
@@ -37,13 +38,17 @@ times_text delim m = signed_text delim m.atime ++ (signed_text delim m.mtime ++ 
 abbrev pub xattrs_text : ℕ → List ℕ → List ℕ
 xattrs_text delim names = if is_empty names then [] else delim ∷ mark ++ names
 
--- the link, the names and the line's end
-abbrev pub end_text : ℕ → List ℕ → List ℕ → List ℕ
-end_text delim link names = delim ∷ link ++ (xattrs_text delim names ++ 10 ∷ [])
+-- the names and the list, where there is a list
+abbrev pub extras_text : ℕ → List ℕ → List ℕ → List ℕ
+extras_text delim names acl = if is_empty acl then xattrs_text delim names else delim ∷ names_text names ++ delim ∷ acl_text acl
+
+-- the link, the names, the list and the line's end
+abbrev pub end_text : ℕ → Rec → List ℕ
+end_text delim rec = delim ∷ rec.link ++ (extras_text delim rec.xattrs rec.acl ++ 10 ∷ [])
 
 -- what follows the path in a line
 unfoldable pub rec_text : ℕ → Rec → List ℕ
-rec_text delim rec = owner_text delim rec.meta ++ (size_text delim rec.meta ++ (times_text delim rec.meta ++ end_text delim rec.link rec.xattrs))
+rec_text delim rec = owner_text delim rec.meta ++ (size_text delim rec.meta ++ (times_text delim rec.meta ++ end_text delim rec))
 
 -- the directory of these parts
 abbrev pub directory : Components → Rec → List Entry → Directory

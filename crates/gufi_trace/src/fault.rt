@@ -23,6 +23,10 @@ pub enum TraceKind {
     BadNumber { field: u32 },
     #[error("BadXattr")]
     BadXattr,
+    #[error("BadAcl")]
+    BadAcl,
+    #[error("TooManyEntries")]
+    TooManyEntries,
     #[error("NotUnderRoot")]
     NotUnderRoot,
     #[error("WrongStanza")]

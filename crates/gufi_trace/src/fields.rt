@@ -132,7 +132,7 @@ impl<'a> Parts<'a> {
     }
 }
 
-/// The first fourteen fields of a line, and the fifteenth or nothing.
+/// The first fourteen fields of a line, and the fifteenth and sixteenth or nothing.
 #[derive(Clone, Copy)]
 pub(crate) struct Fields<'a> {
     pub path: &'a [u8],
@@ -150,6 +150,7 @@ pub(crate) struct Fields<'a> {
     pub ctime: &'a [u8],
     pub link: &'a [u8],
     pub xattrs: &'a [u8],
+    pub acl: &'a [u8],
 }
 
 #[tactic(auto, unfolding(crate::specs::Fields::fields_of))]
@@ -171,6 +172,7 @@ fn next_fields<'a>(parts: &mut Parts<'a>) -> Option<Fields<'a>>
     let ctime = parts.next_part()?;
     let link = parts.next_part()?;
     let xattrs = parts.next_part().unwrap_or(b"");
+    let acl = parts.next_part().unwrap_or(b"");
     Some(Fields {
         path,
         kind,
@@ -187,10 +189,11 @@ fn next_fields<'a>(parts: &mut Parts<'a>) -> Option<Fields<'a>>
         ctime,
         link,
         xattrs,
+        acl,
     })
 }
 
-/// The fields of a line, where it has fourteen; those behind the fifteenth are skipped unread.
+/// The fields of a line, where it has fourteen; those behind the sixteenth are skipped unread.
 pub(crate) fn read_fields(text: &[u8], delim: u8) -> Result<Fields<'_>, Refused>
     ensures { Gives texts result (fields_in delim text.now) }
 {

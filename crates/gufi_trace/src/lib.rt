@@ -1,9 +1,10 @@
 //! The trace: a line a directory or entry, read into lines or refused by its least fault, and written.
 //!
 //! Contracts see a reader as what it has read of the whole stream of bytes, however that was cut.
-//! It stands on `gufi_base` and `gufi_tree`; the top call and sessions stand on it.
+//! It stands on `gufi_base`, `gufi_acl` and `gufi_tree`; the top call and sessions stand on it.
 #![tactic(auto)]
 
+mod acls;
 mod attributes;
 mod content;
 mod digits;

@@ -13,6 +13,7 @@ ghost use Rattle.gufi_trace.specs.Lines.{dirs_of, entries_of, place_fault, line_
 ghost use Rattle.gufi_trace.specs.Reading.{Gives};
 ghost use Rattle.gufi_trace.specs.Progress.{root_behind, lines_from, Stops};
 
+use crate::acls::read_list;
 use crate::attributes::read_xattrs;
 use crate::content::{read_meta, read_path};
 use crate::digits::DigitPairs;
@@ -184,6 +185,7 @@ fn read_line(
     let path = read_path(alloc, fields.path, fields.link)?;
     let meta = read_meta(&fields)?;
     let xattrs = read_xattrs(alloc, fields.xattrs)?;
+    let acl = read_list(alloc, fields.acl)?;
     let Some(path) = path.below(root) else {
         return Err(Refused::Fault(TraceKind::NotUnderRoot));
     };
@@ -194,7 +196,12 @@ fn read_line(
     Ok(Line {
         number: lines.len() as u32 + 1,
         path,
-        rec: Rec { meta, link, xattrs },
+        rec: Rec {
+            meta,
+            link,
+            xattrs,
+            acl,
+        },
     })
 }
 

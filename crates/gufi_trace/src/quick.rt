@@ -7,6 +7,7 @@ ghost use Rattle.gufi_base.specs.Numbers.{read_u32, read_u64, read_i64};
 ghost use Rattle.gufi_trace.specs.AttributeField.{xattrs_of};
 ghost use Rattle.gufi_trace.specs.Taken.{Takes, TakesOwner, TakesSizes, TakesMeta, TakesContent, Adds, AddsNext};
 
+use crate::acls::read_list;
 use crate::attributes::behind_mark;
 use crate::content::{MAX_LINK, MODES, has_zero};
 use crate::digits::DigitPairs;
@@ -120,28 +121,48 @@ fn next_meta(parts: &mut Parts<'_>, pairs: &DigitPairs) -> Option<Meta>
     })
 }
 
-/// What a line holds, its path, its link and the names of extended attributes as they stand in it.
+/// What a line holds, its path, its link, the names of extended attributes, and what may hold its list, as they stand in it.
 #[derive(Clone, Copy)]
 pub(crate) struct Content<'a> {
     pub path: &'a [u8],
     pub meta: Meta,
     pub link: &'a [u8],
     pub xattrs: &'a [u8],
+    pub acl: &'a [u8],
 }
 
-/// The names of extended attributes behind the link, where they stand there as they are read; most lines have none.
-#[inline(always)]
-fn next_xattrs<'a>(parts: &mut Parts<'a>) -> Option<&'a [u8]>
-    ensures { IfSome result (λ names. xattrs_of (part_at parts.old 1) ≡ Ok names.now) }
+/// The names of extended attributes of a field, where they stand there as they are read.
+fn sound_names(field: &[u8]) -> Option<&[u8]>
+    ensures { IfSome result (λ names. xattrs_of field.now ≡ Ok names.now) }
 {
-    let Some(field) = parts.next_part() else {
-        return Some(b"");
-    };
     match behind_mark(field) {
         None => Some(b""),
         Some(names) if are_xattrs(names) => Some(names),
         Some(_) => None,
     }
+}
+
+/// What stands behind the link: names of extended attributes, and a field that may hold a list.
+#[derive(Clone, Copy)]
+pub(crate) struct Extras<'a> {
+    pub xattrs: &'a [u8],
+    pub acl: &'a [u8],
+}
+
+/// The parts behind the link; most lines have none.
+#[inline(always)]
+fn next_extras<'a>(parts: &mut Parts<'a>) -> Option<Extras<'a>>
+    ensures names { IfSome result (λ extras. xattrs_of (part_at parts.old 1) ≡ Ok extras.xattrs.now) }
+    ensures list { IfSome result (λ extras. part_at parts.old 2 ≡ extras.acl.now) }
+{
+    let Some(field) = parts.next_part() else {
+        let xattrs = b"";
+        let acl = b"";
+        return Some(Extras { xattrs, acl });
+    };
+    let xattrs = sound_names(field)?;
+    let acl = parts.next_part().unwrap_or(b"");
+    Some(Extras { xattrs, acl })
 }
 
 fn content_of<'a>(parts: &mut Parts<'a>, pairs: &DigitPairs) -> Option<Content<'a>>
@@ -153,12 +174,13 @@ fn content_of<'a>(parts: &mut Parts<'a>, pairs: &DigitPairs) -> Option<Content<'
     if link.len() > MAX_LINK || has_zero(link) {
         return None;
     }
-    let xattrs = next_xattrs(parts)?;
+    let Extras { xattrs, acl } = next_extras(parts)?;
     Some(Content {
         path,
         meta,
         link,
         xattrs,
+        acl,
     })
 }
 
@@ -179,9 +201,10 @@ fn add_directory(
     root: &Path,
     lines: &mut Lines,
     content: &Content<'_>,
+    acl: Bytes,
 ) -> Result<bool, AllocError>
     requires { is_dir content.now.meta.kind ≡ true }
-    ensures { IfOk result (λ taken. Adds taken root.now content.now lines.old lines.new) }
+    ensures { IfOk result (λ taken. Adds taken root.now content.now acl lines.old lines.new) }
 {
     if lines.has_max_dirs() {
         return Ok(false);
@@ -193,7 +216,13 @@ fn add_directory(
     let link = copy_bytes(alloc, content.link)?;
     let xattrs = copy_bytes(alloc, content.xattrs)?;
     let meta = content.meta;
-    lines.push_dir(alloc, path, Rec { meta, link, xattrs })?;
+    let rec = Rec {
+        meta,
+        link,
+        xattrs,
+        acl,
+    };
+    lines.push_dir(alloc, path, rec)?;
     Ok(true)
 }
 
@@ -203,9 +232,10 @@ fn add_entry(
     root: &Path,
     lines: &mut Lines,
     content: &Content<'_>,
+    acl: &[u8],
 ) -> Result<bool, AllocError>
     requires { is_dir content.now.meta.kind ≡ false }
-    ensures { IfOk result (λ taken. Adds taken root.now content.now lines.old lines.new) }
+    ensures { IfOk result (λ taken. Adds taken root.now content.now acl.now lines.old lines.new) }
 {
     if lines.has_max_entries() {
         return Ok(false);
@@ -216,7 +246,7 @@ fn add_entry(
     let Some(name) = parent.child_name(root, content.path) else {
         return Ok(false);
     };
-    let rec = RecRef::of(&content.meta, content.link, content.xattrs);
+    let rec = RecRef::of(&content.meta, content.link, content.xattrs, acl);
     lines.push_entry(alloc, name, &rec)?;
     Ok(true)
 }
@@ -239,9 +269,12 @@ pub(crate) fn add_sound(
     let Some(content) = content_of(&mut parts, pairs) else {
         return Ok(false);
     };
+    let Ok(acl) = read_list(alloc, content.acl) else {
+        return Ok(false);
+    };
     if content.meta.kind.is_dir() {
-        add_directory(alloc, root, lines, &content)
+        add_directory(alloc, root, lines, &content, acl)
     } else {
-        add_entry(alloc, root, lines, &content)
+        add_entry(alloc, root, lines, &content, acl.as_slice())
     }
 }

@@ -4,9 +4,10 @@ ghost use Rattle.std.specs.Prelude.{◌≡◌, ◌∷◌, [], ◌++◌, OnOk, de
 ghost use Rattle.std.specs.Fmt.{signed_decimal};
 ghost use Rattle.gufi_base.specs.declared.record.Row.{Row};
 ghost use Rattle.gufi_base.specs.Paths.{path_text, slashed_text};
-ghost use Rattle.gufi_trace.specs.TraceRows.{row_line};
-ghost use Rattle.gufi_trace.specs.Writing.{number_text, signed_text, owner_text, size_text, times_text, xattrs_text, end_text, rec_text};
+ghost use Rattle.gufi_trace.specs.TraceRows.{names_text, row_line};
+ghost use Rattle.gufi_trace.specs.Writing.{number_text, signed_text, owner_text, size_text, times_text, extras_text, end_text, rec_text};
 
+use gufi_acl::put_acl;
 use gufi_base::{Memory, Meta, PathRef, RecRef, put, put_i64, put_u64};
 
 fn put_number(out: &mut Vec<u8>, delim: u8, number: u64) -> Result<(), Memory>
@@ -50,41 +51,51 @@ fn put_times(out: &mut Vec<u8>, delim: u8, meta: &Meta) -> Result<(), Memory>
     put_signed(out, delim, meta.ctime)
 }
 
-fn put_xattrs(out: &mut Vec<u8>, delim: u8, names: &[u8]) -> Result<(), Memory>
-    ensures { OnOk result (out.new.items ≡ out.old.items ++ xattrs_text delim names.now) }
+fn put_names(out: &mut Vec<u8>, names: &[u8]) -> Result<(), Memory>
+    ensures { OnOk result (out.new.items ≡ out.old.items ++ names_text names.now) }
 {
     if names.is_empty() {
         return Ok(());
     }
-    put(out, &[delim])?;
     put(out, b"xattrs/")?;
     put(out, names)
 }
 
-fn put_end(out: &mut Vec<u8>, delim: u8, link: &[u8], names: &[u8]) -> Result<(), Memory>
-    ensures { OnOk result (out.new.items ≡ out.old.items ++ end_text delim link.now names.now) }
+/// Appends the fields behind the link, up to the last one that isn't empty.
+fn put_extras(out: &mut Vec<u8>, delim: u8, names: &[u8], acl: &[u8]) -> Result<(), Memory>
+    ensures { OnOk result (out.new.items ≡ out.old.items ++ extras_text delim names.now acl.now) }
+{
+    if names.is_empty() && acl.is_empty() {
+        return Ok(());
+    }
+    put(out, &[delim])?;
+    put_names(out, names)?;
+    if acl.is_empty() {
+        return Ok(());
+    }
+    put(out, &[delim])?;
+    put_acl(out, acl)
+}
+
+fn put_end(out: &mut Vec<u8>, delim: u8, rec: &RecRef<'_>) -> Result<(), Memory>
+    ensures { OnOk result (out.new.items ≡ out.old.items ++ end_text delim rec.now) }
 {
     put(out, &[delim])?;
-    put(out, link)?;
-    put_xattrs(out, delim, names)?;
+    put(out, rec.link())?;
+    put_extras(out, delim, rec.xattrs(), rec.acl())?;
     put(out, b"\n")
 }
 
-/// Appends what follows the path in the line of a record with this link and these names of extended attributes.
+/// Appends what follows the path in the line of a record.
 #[tactic(auto, unfolding(crate::specs::Writing::rec_text))]
-pub fn put_record(
-    out: &mut Vec<u8>,
-    delim: u8,
-    meta: &Meta,
-    link: &[u8],
-    xattrs: &[u8],
-) -> Result<(), Memory>
-    ensures { OnOk result (out.new.items ≡ out.old.items ++ rec_text delim (record { meta = meta.now; link = link.now; xattrs = xattrs.now })) }
+pub fn put_record(out: &mut Vec<u8>, delim: u8, rec: &RecRef<'_>) -> Result<(), Memory>
+    ensures { OnOk result (out.new.items ≡ out.old.items ++ rec_text delim rec.now) }
 {
+    let meta = rec.meta();
     put_owner(out, delim, meta)?;
     put_size(out, delim, meta)?;
     put_times(out, delim, meta)?;
-    put_end(out, delim, link, xattrs)
+    put_end(out, delim, rec)
 }
 
 fn put_slashed(out: &mut Vec<u8>, path: &PathRef<'_>) -> Result<(), Memory>
@@ -131,7 +142,7 @@ pub(crate) fn put_directory(
     ensures { OnOk result (out.new.items ≡ out.old.items ++ row_line delim root.now (record { path = path.now; rec = rec.now })) }
 {
     put_path(out, root, path)?;
-    put_record(out, delim, rec.meta(), rec.link(), rec.xattrs())
+    put_record(out, delim, rec)
 }
 
 /// The line of an entry of a directory.
@@ -146,5 +157,5 @@ pub(crate) fn put_entry(
     ensures { OnOk result (out.new.items ≡ out.old.items ++ row_line delim root.now (record { path = path.now ++ name.now ∷ []; rec = rec.now })) }
 {
     put_entry_path(out, root, path, name)?;
-    put_record(out, delim, rec.meta(), rec.link(), rec.xattrs())
+    put_record(out, delim, rec)
 }

@@ -19,6 +19,8 @@ impl TraceKind {
             TraceKind::BadType => put(out, b"BadType"),
             TraceKind::BadNumber { field } => put_named(out, b"BadNumber ", u64::from(field)),
             TraceKind::BadXattr => put(out, b"BadXattr"),
+            TraceKind::BadAcl => put(out, b"BadAcl"),
+            TraceKind::TooManyEntries => put(out, b"TooManyEntries"),
             TraceKind::NotUnderRoot => put(out, b"NotUnderRoot"),
             TraceKind::WrongStanza => put(out, b"WrongStanza"),
             TraceKind::TooMany { limit } => put_named(out, b"TooMany ", u64::from(limit)),

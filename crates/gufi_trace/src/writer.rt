@@ -9,6 +9,7 @@ ghost use Rattle.gufi_tree.specs.Tree.{own_rows};
 ghost use Rattle.gufi_trace.specs.TraceWriting.{holds_byte, rec_holds as of_rec, row_holds, trace_text, written_trace, TraceReadsBack};
 ghost use Rattle.gufi_trace.specs.Writing.{directory, own_holds, own_too_long, own_text, is_over as passes_limits, GivesText};
 
+use crate::acls::list_holds;
 use crate::row::{put_directory, put_entry};
 use gufi_base::{Memory, Path, PathRef, RecRef};
 use gufi_tree::{DirId, EntriesRef, EntryRef, Tree};
@@ -18,7 +19,7 @@ use thiserror::Error;
 /// Why a tree isn't written as a trace.
 #[derive(Clone, Copy, Debug, PartialEq, Eq, Error)]
 pub enum WriteTraceFault {
-    #[error("a name, a link or the names of extended attributes hold the delimiter")]
+    #[error("a name, a link, the names of extended attributes or an access control list hold the delimiter")]
     DelimUsed,
     #[error("a path is too long")]
     TooLong,
@@ -39,20 +40,23 @@ fn path_holds(path: &PathRef<'_>, delim: u8) -> bool
     holds(path.text(), delim)
 }
 
-/// Whether the link or the names of extended attributes hold the delimiter.
+/// Whether the link, the names of extended attributes or the text of the list hold the delimiter.
 fn rec_holds(rec: &RecRef<'_>, delim: u8) -> bool
+    requires { IsTrue (may_delimit delim) }
     ensures { result ≡ of_rec delim rec.now }
 {
-    holds(rec.link(), delim) || holds(rec.xattrs(), delim)
+    holds(rec.link(), delim) || holds(rec.xattrs(), delim) || list_holds(rec.acl(), delim)
 }
 
 fn entry_holds(entry: &EntryRef<'_>, delim: u8) -> bool
+    requires { IsTrue (may_delimit delim) }
     ensures { result ≡ (holds_byte delim entry.now.name || of_rec delim entry.now.rec) }
 {
     holds(entry.name(), delim) || rec_holds(&entry.rec(), delim)
 }
 
 fn any_entry_holds(entries: &EntriesRef<'_>, delim: u8) -> bool
+    requires { IsTrue (may_delimit delim) }
     ensures { result ≡ list_any (λ entry. holds_byte delim entry.name || of_rec delim entry.rec) entries.now }
 {
     for place in 0..entries.len() {
@@ -185,8 +189,10 @@ fn put_tree(out: &mut Vec<u8>, tree: &Tree, root: &PathRef<'_>, delim: u8) -> Re
 
 /// The trace of a tree: a stanza for each directory, in path order, with the root's names before each path.
 ///
-/// `DelimUsed` where a name of the tree or the root, a link, or the names of extended attributes hold the delimiter; else
-/// `TooLong` where a path so written has more than 256 names or 4,096 bytes.
+/// A line ends behind its last field that isn't empty, and never before the fourteenth.
+///
+/// `DelimUsed` where a name of the tree or the root, a link, the names of extended attributes, or the text of an access control
+/// list hold the delimiter; else `TooLong` where a path so written has more than 256 names or 4,096 bytes.
 pub fn write_trace(
     alloc: Global,
     tree: &Tree,
