@@ -98,7 +98,7 @@ fn lists_are_read_and_put(rt: HostRuntime) -> Result<(), Fail> {
     let mut text = Vec::new(alloc);
     put_acl(&mut text, LIST)?;
     assert_eq!(rt; text.as_slice(), LIST_TEXT);
-    assert!(rt; read_acl(alloc, b"")?.as_slice() == b"");
+    assert!(rt; read_acl(alloc, b"")?.as_slice().is_empty());
     Ok(())
 }
 

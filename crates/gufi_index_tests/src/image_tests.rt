@@ -167,7 +167,8 @@ fn the_first_damaged_field_is_named(rt: HostRuntime) -> Result<(), Fail> {
     let cases = vec![in alloc;
         changed(0, 0, 0, ImageKind::Magic),
         changed(6, 2, 108, ImageKind::Cut),
-        changed(6, 3, 6, ImageKind::Magic),
+        changed(6, 3, 110, ImageKind::Cut),
+        changed(6, 4, 6, ImageKind::Magic),
         changed(16, 0, 16, ImageKind::Number),
         changed(18, 4, 16, ImageKind::TooMany { limit: 262144 }),
         changed(20, 1, 20, ImageKind::Number),
@@ -209,7 +210,6 @@ fn the_least_version_and_sound_names_are_asked(rt: HostRuntime) -> Result<(), Fa
 fn sound_lists_are_asked(rt: HostRuntime) -> Result<(), Fail> {
     let alloc = rt.alloc();
     let cases = vec![in alloc;
-        changed(6, 4, 6, ImageKind::Magic),
         changed(108, 0, 110, ImageKind::Number),
         changed(108, 7, 108, ImageKind::Number),
         changed(109, 1, 110, ImageKind::Cut),

@@ -1,6 +1,7 @@
 //! Worked runs over directories with access control lists.
-use crate::tests::check_run;
-use std::alloc::{AllocError, Global};
+use crate::tests::{check_run, shelf_of, sink_of, words_of};
+use gufi_io::NoGate;
+use gufi_top::gufi_run;
 use std::test::Fail;
 
 /// A root that its owner, the user 102 and nobody else may list.
@@ -44,15 +45,17 @@ fn two_groups_tell_more_than_one(rt: HostRuntime) -> Result<(), Fail> {
     for (groups, text) in [("500", b"/\n/c\n".as_slice()), ("500,600", b"/\n")] {
         check_run(&rt, Q, &["walk", "t", "102", groups, "|"], 0, text, b"")?;
     }
-    let text = b"rolled 1 of 2 tops 1 rows 1\n";
-    check_run(
-        &rt,
-        Q,
-        &["rollup", "--delim=|", "--limit=100", "t"],
-        0,
-        text,
-        b"",
-    )
+    let alloc = rt.alloc();
+    let words = words_of(alloc, &["rollup", "--delim=|", "--limit=100", "t"])?;
+    let mut shelf = shelf_of(&rt, "t", Q.to_vec(alloc)?, b"", &[])?;
+    let mut out = sink_of(alloc, &[])?;
+    let mut notes = sink_of(alloc, &[])?;
+    let outcome = gufi_run(
+        &rt, alloc, &words, &mut shelf, &mut out, &mut notes, &NoGate,
+    );
+    assert_eq!(rt; outcome.status, 0);
+    assert_eq!(rt; notes.taken(), b"rolled 1 of 2 tops 1 rows 1\n".as_slice());
+    Ok(())
 }
 
 #[test]

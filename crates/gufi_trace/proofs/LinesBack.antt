@@ -23,7 +23,7 @@ use Rattle.gufi_access.specs.Acl.{is_acl_or_none}
 use Rattle.gufi_acl.specs.AclTexts.{acl_text}
 use Rattle.gufi_acl.proofs.Plain.{acl_texts_are_plain}
 use Rattle.gufi_tree.specs.Tree.{is_well_formed}
-use Rattle.gufi_trace.specs.TraceRows.{names_text, row_fields, xattrs_fields, extra_fields}
+use Rattle.gufi_trace.specs.TraceRows.{names_text, row_fields, extra_fields}
 use Rattle.gufi_base.specs.Xattrs.{mark, are_xattrs}
 use Rattle.gufi_base.specs.Delimiters.{may_delimit}
 use Rattle.gufi_trace.specs.declared.fault.TraceKind.TheVariants.{Short}

@@ -115,7 +115,8 @@ module _ (delim : ℕ) (may : may_delimit delim ≡ true) where
 
   entry_holds : (e : Entry) → holds_byte delim (entry_text e) ≡ eqb 58 delim
   entry_holds e =
-      between_colons (λ b. eqb b delim) (tag_word e.tag) (id_text e) (bits_text e.bits) (plain_holds (tag_word e.tag) (tag_plain e.tag)) (plain_holds (id_text e) (id_plain e))
+      between_colons (λ b. eqb b delim) (tag_word e.tag) (id_text e) (bits_text e.bits)
+      (plain_holds (tag_word e.tag) (tag_plain e.tag)) (plain_holds (id_text e) (id_plain e))
       (plain_holds (bits_text e.bits) (bits_plain e.bits))
 
   more_listed : (next : Entry) (es : List Entry) → (eqb 58 delim || (eqb 44 delim || listed delim (next ∷ es))) ≡ (eqb 58 delim || eqb 44 delim)
@@ -161,7 +162,8 @@ module _ (delim : ℕ) (may : may_delimit delim ≡ true) where
   by_length (a ∷ b ∷ c ∷ d ∷ e ∷ f ∷ g ∷ h ∷ i ∷ j ∷ k ∷ []) = colon_alone
   by_length (a ∷ b ∷ c ∷ d ∷ e ∷ f ∷ g ∷ h ∷ i ∷ j ∷ k ∷ l ∷ acl) =
       let n = length (a ∷ b ∷ c ∷ d ∷ e ∷ f ∷ g ∷ h ∷ i ∷ j ∷ k ∷ l ∷ acl) in
-      sym (ap (λ (x : Bool). (x && eqb 58 delim) || (leb 12 n && eqb 44 delim)) (le-leb 6 n (omega arith)) ∙ ap (λ (x : Bool). eqb 58 delim || (x && eqb 44 delim)) (le-leb 12 n (omega arith)))
+      sym (ap (λ (x : Bool). (x && eqb 58 delim) || (leb 12 n && eqb 44 delim)) (le-leb 6 n (omega arith))
+      ∙ ap (λ (x : Bool). eqb 58 delim || (x && eqb 44 delim)) (le-leb 12 n (omega arith)))
 
   text_by_length : (acl : List ℕ) → holds_byte delim (acl_text acl) ≡ ((leb 6 (length acl) && eqb 58 delim) || (leb 12 (length acl) && eqb 44 delim))
   text_by_length acl = text_listed acl ∙ by_length acl
