@@ -80,7 +80,7 @@ pub record InRange (meta : Meta) (hint : Hint) : Type 0 where
 
 pub in_range : (rec : Rec) (hint : Hint) → fits_types rec ≡ true → InRange rec.meta hint
 in_range rec hint fits =
-    let ctime = and_parts _ _ (and_parts _ _ (and_parts _ _ fits).0).0 in
+    let ctime = and_parts _ _ (and_parts _ _ (and_parts _ _ (and_parts _ _ fits).0).0).0 in
     let mtime = and_parts _ _ ctime.0 in
     let blocks = and_parts _ _ (and_parts _ _ mtime.0).0 in
     let size = and_parts _ _ (and_parts _ _ blocks.0).0 in
