@@ -14,7 +14,7 @@ pub(crate) struct Shown<'a> {
 
 /// Whether a file may be read.
 fn may_read(who: &Principal, row: RowRef<'_>) -> bool
-    ensures { result ≡ is_granted who.now (record { uid = row.meta.now.uid; gid = row.meta.now.gid; mode = row.meta.now.mode; acl = row.acl.now }) 4 }
+    ensures { result ≡ is_granted who.now (record { uid = row.entry.meta.now.uid; gid = row.entry.meta.now.gid; mode = row.entry.meta.now.mode; acl = row.entry.acl.now }) 4 }
 {
     let meta = row.meta;
     let guard = Guard {
