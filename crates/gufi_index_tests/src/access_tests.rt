@@ -1,4 +1,7 @@
 //! Tables of classes and of covers, worked by hand.
+ghost use Rattle.std.specs.Prelude.{◌≡◌};
+ghost use Rattle.gufi_acl.specs.AclTexts.{has_mark};
+
 use gufi_access::{Class, GroupList, Guard, Principal, acl_ok, class_of, covers, granted, lists};
 use gufi_acl::{AclFault, put_acl, read_acl};
 use gufi_base::put_u64;
@@ -113,21 +116,32 @@ fn with_users(alloc: Global, count: u32) -> Result<Vec<u8>, Fail> {
     Ok(text)
 }
 
+fn begins_with_the_mark(text: &[u8]) -> bool
+    ensures { result ≡ has_mark text.now }
+{
+    text.starts_with(b"acl/")
+}
+
+/// The fault of a text, which begins with the mark.
+fn fault_of(alloc: Global, text: &[u8]) -> Option<AclFault> {
+    if !begins_with_the_mark(text) {
+        return Some(AclFault::Memory);
+    }
+    read_acl(alloc, text).err()
+}
+
 #[test]
 fn at_most_32_are_named(rt: HostRuntime) -> Result<(), Fail> {
     let alloc = rt.alloc();
     let most = with_users(alloc, 32)?;
-    assert!(rt; read_acl(alloc, most.as_slice()).is_ok());
+    assert_eq!(rt; fault_of(alloc, most.as_slice()), None);
     let mut more = with_users(alloc, 33)?;
     assert_eq!(rt;
-        read_acl(alloc, more.as_slice()).err(),
+        fault_of(alloc, more.as_slice()),
         Some(AclFault::TooManyEntries)
     );
     more.extend_from_slice(b",u:07:r--")?;
-    assert_eq!(rt;
-        read_acl(alloc, more.as_slice()).err(),
-        Some(AclFault::BadAcl)
-    );
+    assert_eq!(rt; fault_of(alloc, more.as_slice()), Some(AclFault::BadAcl));
     Ok(())
 }
 
