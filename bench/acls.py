@@ -6,7 +6,8 @@
 It makes four traces of the same directories: all with one mode; with one of eight modes and owners, so that a directory mostly differs
 from the one that it lies in; with one of eight lists of six entries; and each with a list of its own of 32 named entries. A script publishes one, and behind a
 barrier rolls it up so many times, each under another limit. The cost of a roll-up is the time of that script less the time of a script that
-publishes alone, over their number. The cost of a pair of lists is that of the last trace less that of the first, a directory. Runs are
+publishes alone, over their number. A directory isn't compared any more once one below it isn't covered, so few pairs are
+compared where lists differ. Runs are
 interleaved, output goes to /dev/null, files are warm, times are medians of processor time. The memory of a search over each trace stands beside. Nothing
 here is a test.
 """
@@ -86,8 +87,6 @@ def main():
             peak = once([program, "find", "trace%d" % number, "1001", "/"], folder)[2]
             print("%-22s %8.1f ms a roll-up, %6.2f s to publish, %4.0f MB for a find" % (form, cost[form] * 1e3, times["publish " + form][0], peak))
         print("eight lists beside eight modes: ratio %.2f; beside one mode: %.2f" % (cost["eight lists"] / cost["eight modes"], cost["eight lists"] / cost["one mode"]))
-        pair = (cost["lists that all differ"] - cost["one mode"]) / (DIRS - 1)
-        print("a pair of lists of 32 named entries: %.2f us" % (pair * 1e6))
 
 
 if __name__ == "__main__":
