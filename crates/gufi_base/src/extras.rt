@@ -52,6 +52,19 @@ pub fn put_extras(text: &mut Vec<u8>, xattrs: &[u8], acl: &[u8]) -> Result<Extra
     ensures xattrs { IfOk result (λ extras. kept_xattrs text.new.items (length text.old.items) extras ≡ xattrs.now) }
     ensures acl { IfOk result (λ extras. kept_acl text.new.items (length text.old.items) extras ≡ acl.now) }
 {
+    if xattrs.is_empty() && acl.is_empty() {
+        return Ok(Extras::Neither);
+    }
+    put_both(text, xattrs, acl)
+}
+
+/// The same, as it is where there is one of them.
+fn put_both(text: &mut Vec<u8>, xattrs: &[u8], acl: &[u8]) -> Result<Extras, AllocError>
+    ensures grown { (more : List ℕ) × (text.new.items ≡ text.old.items ++ more) }
+    ensures kept { IfOk result (AreKept text.new.items (length text.old.items)) }
+    ensures xattrs { IfOk result (λ extras. kept_xattrs text.new.items (length text.old.items) extras ≡ xattrs.now) }
+    ensures acl { IfOk result (λ extras. kept_acl text.new.items (length text.old.items) extras ≡ acl.now) }
+{
     let has_xattrs = put_sized(text, xattrs)?;
     let has_acl = put_sized(text, acl)?;
     Ok(extras_of(has_xattrs, has_acl))

@@ -20,10 +20,14 @@ impl Model for Bytes {
 }
 
 impl Bytes {
-    /// A copy of the bytes.
+    /// A copy of the bytes; where there are none, it takes no memory.
+    #[inline]
     pub fn from_slice(alloc: Global, bytes: &[u8]) -> Result<Bytes, AllocError>
         ensures { IfOk result (λ copy. copy ≡ bytes.now) }
     {
+        if bytes.is_empty() {
+            return Ok(Bytes::of(Vec::new(alloc)));
+        }
         let items = Vec::from_slice(alloc, bytes)?;
         Ok(Bytes { items })
     }

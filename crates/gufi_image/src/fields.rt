@@ -171,7 +171,7 @@ fn acl_at(bytes: &[u8]) -> Result<(&[u8], &[u8]), Refused>
 }
 
 /// The names of extended attributes, in records that have them.
-#[inline]
+#[inline(always)]
 fn held_names(bytes: &[u8], width: Width) -> Result<(&[u8], &[u8]), Refused>
     ensures { Gives (λ x. (x.0.now, x.1.now)) result (extra_at names_at (has_names width) bytes.now) }
 {
@@ -182,7 +182,7 @@ fn held_names(bytes: &[u8], width: Width) -> Result<(&[u8], &[u8]), Refused>
 }
 
 /// The access control list or none, in records that have one.
-#[inline]
+#[inline(always)]
 fn held_acl(bytes: &[u8], width: Width) -> Result<(&[u8], &[u8]), Refused>
     ensures { Gives (λ x. (x.0.now, x.1.now)) result (extra_at acl_at (has_acls width) bytes.now) }
 {

@@ -15,6 +15,7 @@ pub(crate) enum Width {
 }
 
 impl Width {
+    #[inline]
     pub(crate) fn has_names(self) -> bool
         ensures { result ≡ has_names self }
     {
@@ -24,6 +25,7 @@ impl Width {
         }
     }
 
+    #[inline]
     pub(crate) fn has_acls(self) -> bool
         ensures { result ≡ has_acls self }
     {

@@ -62,6 +62,15 @@ fn is_child_covered(tree: &Tree, id: DirId, child: DirId, below: &Below) -> bool
     below.covered && covers_next(&tree.guard(id), &tree.guard(child))
 }
 
+/// Whether subdirectories are covered so far, and the next one and all below it too. That isn't looked at where one before it isn't.
+fn stay_covered(so_far: bool, tree: &Tree, id: DirId, child: DirId, below: &Below) -> bool
+    requires parent { id.0 < length tree.now }
+    requires child { child.0 < length tree.now }
+    ensures { (d : Directory) → result ≡ (so_far && (below.now.covered && covers (rights_of (slice_index_or tree.now id.0 d).rec) (rights_of (slice_index_or tree.now child.0 d).rec))) }
+{
+    so_far && is_child_covered(tree, id, child, below)
+}
+
 /// What is at and below a directory, from what is below the directories behind it.
 fn below_of(tree: &Tree, id: DirId, found: &[Below]) -> Below
     requires within { id.0 < length tree.now }
@@ -75,7 +84,7 @@ fn below_of(tree: &Tree, id: DirId, found: &[Below]) -> Below
     for child in tree.subdirs(id) {
         let below = &found[child.0 as usize];
         rows += below.rows;
-        covered &= is_child_covered(tree, id, *child, below);
+        covered = stay_covered(covered, tree, id, *child, below);
     }
     Below { rows, covered }
 }

@@ -184,17 +184,6 @@ fn content_of<'a>(parts: &mut Parts<'a>, pairs: &DigitPairs) -> Option<Content<'
     })
 }
 
-/// The bytes of a link or of names; most lines have none.
-#[inline(always)]
-fn copy_bytes(alloc: Global, bytes: &[u8]) -> Result<Bytes, AllocError>
-    ensures { IfOk result (λ copy. copy ≡ bytes.now) }
-{
-    if bytes.is_empty() {
-        return Ok(Bytes::of(Vec::new(alloc)));
-    }
-    Bytes::from_slice(alloc, bytes)
-}
-
 /// Takes a directory's line, where its path is plain and it stands at its place.
 fn add_directory(
     alloc: Global,
@@ -213,8 +202,8 @@ fn add_directory(
         return Ok(false);
     };
     let path = Path::of_names(alloc, names)?;
-    let link = copy_bytes(alloc, content.link)?;
-    let xattrs = copy_bytes(alloc, content.xattrs)?;
+    let link = Bytes::from_slice(alloc, content.link)?;
+    let xattrs = Bytes::from_slice(alloc, content.xattrs)?;
     let meta = content.meta;
     let rec = Rec {
         meta,

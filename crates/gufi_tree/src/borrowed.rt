@@ -3,11 +3,12 @@
 ghost use Rattle.std.specs.Prelude.{◌≡◌, ◌+◌, ◌<◌, ◌≤◌, nat_lt, length, slice_index_or, All, IsTrue};
 ghost use Rattle.std.specs.List.{list_any};
 ghost use Rattle.gufi_base.specs.Names.{is_name};
+ghost use Rattle.gufi_base.specs.Extras.{kept_xattrs, kept_acl, AreKept};
 ghost use Rattle.gufi_tree.specs.declared.tree.Entry.{Entry as SeenEntry};
 ghost use Rattle.gufi_tree.specs.Bundles.{bytes_at, directory_in, entry_in, entries_in, IsHead, IsPacked};
 
 use crate::bundle::{Head, Packed};
-use gufi_base::{Meta, PathRef, RecRef, acl_at, xattrs_at};
+use gufi_base::{Extras, Meta, PathRef, RecRef, acl_at, xattrs_at};
 use std::marker::Model;
 
 /// So many bytes of a text from a place on.
@@ -19,14 +20,31 @@ fn bytes_at(text: &[u8], at: usize, count: usize) -> &[u8]
     &text[at..at + count]
 }
 
+/// A record of these numbers: its link stands at a place of a text, and what else is kept behind it.
+#[inline]
+fn record_at<'a>(
+    meta: &'a Meta,
+    text: &'a [u8],
+    at: usize,
+    link: usize,
+    extras: Extras,
+) -> RecRef<'a>
+    requires { AreKept text.now (at + link) extras }
+    ensures { result ≡ record { link = bytes_at text.now at link; xattrs = kept_xattrs text.now (at + link) extras; acl = kept_acl text.now (at + link) extras; meta = meta.now } }
+{
+    RecRef::of(
+        meta,
+        bytes_at(text, at, link),
+        xattrs_at(text, at + link, extras),
+        acl_at(text, at + link, extras),
+    )
+}
+
 /// An entry whose parts stand elsewhere.
 #[derive(Drop)]
 pub struct EntryRef<'a> {
-    name: &'a [u8],
-    meta: &'a Meta,
-    link: &'a [u8],
-    xattrs: &'a [u8],
-    acl: &'a [u8],
+    packed: &'a Packed,
+    text: &'a [u8],
 }
 
 impl<'a> Model for EntryRef<'a> {
@@ -34,12 +52,11 @@ impl<'a> Model for EntryRef<'a> {
 
     ghost Value = { Entry };
 
-    ghost use Rattle.std.specs.Prelude.{IsTrue};
-    ghost use Rattle.gufi_base.specs.Names.{is_name};
+    ghost use Rattle.gufi_tree.specs.Bundles.{entry_in, IsPacked};
 
-    ghost view = { λ e. record { name = e.name.now; rec = record { link = e.link.now; xattrs = e.xattrs.now; acl = e.acl.now; meta = e.meta.now } } };
+    ghost view = { λ e. entry_in e.text.now e.packed.now };
 
-    ghost invariant = { λ e. IsTrue (is_name e.name.now) };
+    ghost invariant = { λ e. IsPacked e.text.now e.packed.now };
 }
 
 impl<'a> EntryRef<'a> {
@@ -49,16 +66,7 @@ impl<'a> EntryRef<'a> {
         requires { IsPacked text.now packed.now }
         ensures { result ≡ entry_in text.now packed.now }
     {
-        let name = packed.name as usize;
-        let at = packed.at as usize;
-        let behind = at + name + packed.link as usize;
-        EntryRef {
-            name: bytes_at(text, at, name),
-            meta: &packed.meta,
-            link: bytes_at(text, at + name, packed.link as usize),
-            xattrs: xattrs_at(text, behind, packed.extras),
-            acl: acl_at(text, behind, packed.extras),
-        }
+        EntryRef { packed, text }
     }
 
     /// The bytes of its name.
@@ -67,14 +75,17 @@ impl<'a> EntryRef<'a> {
         ensures value { result.now ≡ self.now.name }
         ensures name { IsTrue (is_name self.now.name) }
     {
-        self.name
+        let packed = self.packed;
+        bytes_at(self.text, packed.at as usize, packed.name as usize)
     }
 
     #[inline]
     pub fn rec(&self) -> RecRef<'a>
         ensures { result ≡ self.now.rec }
     {
-        RecRef::of(self.meta, self.link, self.xattrs, self.acl)
+        let packed = self.packed;
+        let at = packed.at as usize + packed.name as usize;
+        record_at(&packed.meta, self.text, at, packed.link as usize, packed.extras)
     }
 }
 
@@ -180,13 +191,7 @@ impl<'a> DirRef<'a> {
     {
         let head = self.head;
         let at = head.at as usize + head.path as usize;
-        let link = head.link as usize;
-        RecRef::of(
-            &head.meta,
-            bytes_at(self.text, at, link),
-            xattrs_at(self.text, at + link, head.extras),
-            acl_at(self.text, at + link, head.extras),
-        )
+        record_at(&head.meta, self.text, at, head.link as usize, head.extras)
     }
 
     /// Its entries, in the order in which they are kept.

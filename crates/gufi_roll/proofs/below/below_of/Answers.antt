@@ -1,4 +1,4 @@
-use Rattle.std.proofs.Common.{◌+◌, ◌<◌, refl, ap, arith, get_or, length, false}
+use Rattle.std.proofs.Common.{◌+◌, ◌<◌, ◌∙◌, refl, ap, arith, get_or, length, false}
 use Rattle.gufi_tree.specs.declared.tree.DirId.{DirId}
 use Rattle.gufi_tree.proofs.Kids.{at_place}
 use Rattle.gufi_roll.specs.declared.below.Below.{Below}
@@ -16,8 +16,8 @@ bounds-found-child c =
     kid_found c.args.tree.now c.dirs-count.ensures.shape c.args.id.0 c.requires.within ids c.subdirs-child-items.ensures c.args.found.now c.requires.behind i (get_or ids i none) c.loop-child-test.true
     (get_or_other ids i none (get_or ids i none) c.loop-child-test.true)
 
-pub is_child_covered-covered-requires-clause-child : goal.is_child_covered-covered-requires-clause-child
-is_child_covered-covered-requires-clause-child c =
+pub stay_covered-covered-requires-clause-child : goal.stay_covered-covered-requires-clause-child
+stay_covered-covered-requires-clause-child c =
     let ids = c.subdirs-child-items.result.now in
     let i = c.loop-child.child-index in
     let none : DirId = record { 0 = 0 } in
@@ -48,8 +48,8 @@ loop-child-preserved c =
           kid_rows c.args.tree.now c.dirs-count.ensures.shape c.args.id.0 c.requires.within ids c.subdirs-child-items.ensures c.args.found.now c.requires.behind i (get_or ids i none) c.loop-child-test.true same
           unknown (length (get_or c.args.tree.now c.args.id.0 d).entries) c.loop-child.rows (c.loop-child.invariant.rows d);
       covered = λ d.
-          kid_cover c.args.tree.now c.dirs-count.ensures.shape c.args.id.0 c.requires.within ids c.subdirs-child-items.ensures c.args.found.now c.requires.behind i (get_or ids i none) c.loop-child-test.true same
-          d unknown c.loop-child.covered c.is_child_covered-covered.result (c.loop-child.invariant.covered d) (c.is_child_covered-covered.ensures d);
+          c.stay_covered-covered.ensures d ∙ kid_cover c.args.tree.now c.dirs-count.ensures.shape c.args.id.0 c.requires.within ids c.subdirs-child-items.ensures c.args.found.now c.requires.behind i (get_or ids i none) c.loop-child-test.true same
+          d unknown c.loop-child.covered (c.loop-child.invariant.covered d);
     }
 
 pub returns : goal.returns

@@ -1,7 +1,7 @@
 use Rattle.std.proofs.Common.{◌∙◌, length, ap, arith}
 use Rattle.gufi_base.specs.Extras.{sized_bytes}
 use Rattle.gufi_base.proofs.KeptExtras.{sized_bytes-more}
-use Rattle.gufi_base.proofs.extras.put_extras.Goals as goal
+use Rattle.gufi_base.proofs.extras.put_both.Goals as goal
 
 -- what was put before stays where more is put behind it
 pub returns-clause-xattrs : goal.returns-clause-xattrs
