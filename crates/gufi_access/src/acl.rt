@@ -4,18 +4,18 @@ ghost use Rattle.std.specs.List.{list_all};
 ghost use Rattle.std.specs.Prelude.{◌≡◌, None};
 ghost use Rattle.gufi_access.specs.Acl.{entries, entries_left, is_acl, is_entry, has_tags, named_count, ascends_after, is_after_last, count_of};
 
-// The tags of the entries.
-pub(crate) const OWNER: u8 = 0;
+/// The tags of entries, in their order: the owner, a named user, the owning group, a named group, the mask, the others.
+pub const OWNER: u8 = 0;
 
-pub(crate) const NAMED_USER: u8 = 1;
+pub const NAMED_USER: u8 = 1;
 
-pub(crate) const OWNING_GROUP: u8 = 2;
+pub const OWNING_GROUP: u8 = 2;
 
-pub(crate) const NAMED_GROUP: u8 = 3;
+pub const NAMED_GROUP: u8 = 3;
 
-pub(crate) const MASK: u8 = 4;
+pub const MASK: u8 = 4;
 
-pub(crate) const OTHERS: u8 = 5;
+pub const OTHERS: u8 = 5;
 
 // So many named entries may stand in a list.
 const MAX_NAMED: usize = 32;

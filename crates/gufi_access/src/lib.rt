@@ -12,7 +12,7 @@ mod groups;
 mod index;
 mod listing;
 
-pub use acl::{Entries, Entry, acl_ok};
+pub use acl::{Entries, Entry, MASK, NAMED_GROUP, NAMED_USER, OTHERS, OWNER, OWNING_GROUP, acl_ok};
 pub use class::{Class, Guard, Principal, class_of, granted, lists};
 pub use cover::covers;
 pub use groups::GroupList;

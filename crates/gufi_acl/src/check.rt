@@ -3,8 +3,7 @@
 ghost use Rattle.std.specs.Prelude.{◌≡◌, None};
 ghost use Rattle.gufi_access.specs.Acl.{ascends_after, is_after_last, count_of, named_count, has_tags};
 
-use crate::entry::{MASK, NAMED_GROUP, NAMED_USER, OTHERS, OWNER, OWNING_GROUP};
-use gufi_access::Entry;
+use gufi_access::{Entry, MASK, NAMED_GROUP, NAMED_USER, OTHERS, OWNER, OWNING_GROUP};
 
 // Is this entry after the last one, if there is one?
 fn is_after(last: Option<Entry>, entry: Entry) -> bool

@@ -3,21 +3,8 @@
 ghost use Rattle.std.specs.Prelude.{◌≡◌, ◌≤◌, ◌||◌, ◌∷◌, [], bytes_eq, IfSome};
 ghost use Rattle.gufi_acl.specs.AclTexts.{read_tag, read_id, read_bit, read_bits, read_entry, entry_in};
 
-use gufi_access::Entry;
+use gufi_access::{Entry, MASK, NAMED_GROUP, NAMED_USER, OTHERS, OWNER, OWNING_GROUP};
 use gufi_base::{pieces_of, read_u32};
-
-/// The tags of entries.
-pub(crate) const OWNER: u8 = 0;
-
-pub(crate) const NAMED_USER: u8 = 1;
-
-pub(crate) const OWNING_GROUP: u8 = 2;
-
-pub(crate) const NAMED_GROUP: u8 = 3;
-
-pub(crate) const MASK: u8 = 4;
-
-pub(crate) const OTHERS: u8 = 5;
 
 /// Whether a word is the whole one, or its first letter.
 fn is_word(word: &[u8], whole: &[u8], letter: &[u8]) -> bool

@@ -5,8 +5,7 @@ ghost use Rattle.std.specs.List.{flat_map, join_with_byte};
 ghost use Rattle.gufi_access.specs.Acl.{entries, entries_left};
 ghost use Rattle.gufi_acl.specs.AclTexts.{tag_word, bit_text, entry_text, acl_text};
 
-use crate::entry::{MASK, NAMED_GROUP, NAMED_USER, OWNER, OWNING_GROUP};
-use gufi_access::{Entries, Entry};
+use gufi_access::{Entries, Entry, MASK, NAMED_GROUP, NAMED_USER, OWNER, OWNING_GROUP};
 use gufi_base::{Memory, put_u64};
 
 fn tag_word(tag: u8) -> &'static [u8]
