@@ -28,7 +28,7 @@ split_behind_closed s (part ∷ parts) rest each =
     let both = and_parts _ _ each in
     ap (split s) (closed_cons s part parts rest) ∙ split_first s part (closed_by s parts ++ rest) both.0 ∙ ap (λ (ps : List (List ℕ)). part ∷ ps) (split_behind_closed s parts rest both.1)
 
-all_named : (front rest : Components) → list_all is_name front ≡ true → list_all is_name rest ≡ true → list_all is_name (front ++ rest) ≡ true
+pub all_named : (front rest : Components) → list_all is_name front ≡ true → list_all is_name rest ≡ true → list_all is_name (front ++ rest) ≡ true
 all_named front rest h k = list_all-append is_name front rest ∙ and_from _ _ h k
 
 -- what bytes spell that are a path's kept text and names with single slashes between them

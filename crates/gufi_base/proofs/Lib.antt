@@ -1,4 +1,5 @@
 pub mod Below
+pub mod Beside
 pub mod Blocks
 pub mod Children
 pub mod CutParts

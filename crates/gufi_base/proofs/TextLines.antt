@@ -7,7 +7,7 @@ use Rattle.gufi_base.proofs.Parts.{closed_by, split_first, last_of_push, all_but
 use Rattle.gufi_base.proofs.Cuts.{split_append, split_some, last_has_no, close_split, all_but_last_and_last}
 
 -- a byte at the end cuts an empty last part
-split_ended : (s : ℕ) (front : List ℕ) → split s (front ++ s ∷ []) ≡ split s front ++ [] ∷ []
+pub split_ended : (s : ℕ) (front : List ℕ) → split s (front ++ s ∷ []) ≡ split s front ++ [] ∷ []
 split_ended s front =
     split_append s front (s ∷ []) ∙ ap (λ (ps : List (List ℕ)). all_but_last (split s front) ++ ps) (split_first s (last_of [] (split s front)) [] (last_has_no s front))
     ∙ sym (append_assoc (all_but_last (split s front)) (last_of [] (split s front) ∷ []) ([] ∷ [])) ∙ ap (λ (ps : List (List ℕ)). ps ++ [] ∷ []) (whole (split s front) (split_some s front))

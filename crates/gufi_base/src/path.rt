@@ -13,7 +13,7 @@ use crate::name::Name;
 use crate::path_parts::{last_name_at, text_of_child, text_of_row, without_front};
 use crate::path_reading::{closed, text_of_parts, without_first_slash};
 use crate::path_ref::PathRef;
-use crate::path_relations::{begins_with, child_name, names_behind};
+use crate::path_relations::{begins_with, child_name, names_beside};
 use crate::plain::{are_plain, is_within_limits};
 use std::alloc::{AllocError, Global};
 use std::marker::Model;
@@ -89,13 +89,14 @@ impl Path {
         Ok(Path { text })
     }
 
-    /// The names in bytes that spell this path and these names, with single slashes between them.
+    /// The names in bytes that spell this path and these names, with single slashes between them. Those that another path below
+    /// this one begins with are not looked at again.
     ///
     /// For speed alone: where it gives nothing, nothing is known of the bytes.
-    pub fn names_behind<'a>(&self, bytes: &'a [u8]) -> Option<&'a [u8]>
+    pub fn names_beside<'a>(&self, known: &Path, bytes: &'a [u8]) -> Option<&'a [u8]>
         ensures { IfSome result (λ rest. IsTrue (list_all is_name (split 47 rest.now)) × (read_path bytes.now ≡ Ok (self.now ++ split 47 rest.now))) }
     {
-        names_behind(bytes, self.text.as_slice())
+        names_beside(bytes, self.text.as_slice(), known.text.as_slice())
     }
 
     /// The last name in bytes that spell a root's path, this path below it, and that name.

@@ -1,6 +1,6 @@
 //! The parts of a path's kept text.
 
-ghost use Rattle.std.specs.Prelude.{◌≡◌, ◌==◌, ◌<◌, ◌≤◌, [], ◌∷◌, ◌++◌, length, filter, drop, IfOk};
+ghost use Rattle.std.specs.Prelude.{◌≡◌, ◌≢◌, ◌==◌, ℕ, ◌-◌, ◌<◌, ◌≤◌, [], ◌∷◌, ◌++◌, length, filter, drop, slice_index, IfOk};
 ghost use Rattle.gufi_base.specs.Paths.{parent_path};
 ghost use Rattle.gufi_base.specs.PathTexts.{kept_text, names, IsText};
 
@@ -67,6 +67,20 @@ pub(crate) fn last_name_at(text: &[u8]) -> usize
 {
     let mut at = text.len() - 1;
     while text[at - 1] != b'/' {
+        at -= 1;
+    }
+    at
+}
+
+/// The place behind the last slash among the first so many bytes of a text; 0 where there is none among them.
+pub(crate) fn behind_last_slash(text: &[u8], count: usize) -> usize
+    requires { count ≤ length text.now }
+    ensures within { result ≤ count }
+    ensures slash { 0 < result → slice_index text.now (result - 1) ≡ 47 }
+    ensures last { (k : ℕ) → result ≤ k → k < count → slice_index text.now k ≢ 47 }
+{
+    let mut at = count;
+    while at > 0 && text[at - 1] != b'/' {
         at -= 1;
     }
     at

@@ -8,7 +8,8 @@ ghost use Rattle.gufi_base.specs.Paths.{read_path, is_prefix};
 ghost use Rattle.gufi_base.specs.PathTexts.{names, IsText};
 
 use crate::name::is_name;
-use crate::order::same_bytes;
+use crate::order::{common_front, same_bytes};
+use crate::path_parts::behind_last_slash;
 use crate::plain::{are_plain, is_within_limits};
 
 /// What is left of a text behind a front.
@@ -53,13 +54,17 @@ pub(crate) fn child_name<'a>(bytes: &'a [u8], root: &[u8], parent: &[u8]) -> Opt
     }
 }
 
-/// The names, with single slashes between them, of bytes that spell a root's path and these.
-pub(crate) fn names_behind<'a>(bytes: &'a [u8], root: &[u8]) -> Option<&'a [u8]>
-    requires { IsText root.now }
+/// The names, with single slashes between them, of bytes that spell a root's path and these. The names that another path below
+/// the root begins with are not looked at again.
+pub(crate) fn names_beside<'a>(bytes: &'a [u8], root: &[u8], known: &[u8]) -> Option<&'a [u8]>
+    requires root { IsText root.now }
+    requires known { IsText known.now }
     ensures { IfSome result (λ rest. IsTrue (list_all is_name (split 47 rest.now)) × (read_path bytes.now ≡ Ok (names root.now ++ split 47 rest.now))) }
 {
     let rest = behind(bytes, root)?;
-    if is_within_limits(bytes) && are_plain(rest) {
+    let same = common_front(rest, &known[1..]);
+    let cut = behind_last_slash(rest, same);
+    if is_within_limits(bytes) && are_plain(&rest[cut..]) {
         Some(rest)
     } else {
         None

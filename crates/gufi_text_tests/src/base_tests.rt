@@ -30,7 +30,8 @@ fn paths_are_read(rt: HostRuntime) -> Result<(), Fail> {
 #[test]
 fn plain_paths_go_on_from_others(rt: HostRuntime) -> Result<(), Fail> {
     let root = Path::read(rt.alloc(), b"/fs")?;
-    let parent = match root.names_behind(b"/fs/a/.b") {
+    let known = Path::read(rt.alloc(), b"/a/.bc")?;
+    let parent = match root.names_beside(&known, b"/fs/a/.b") {
         Some(names) => Path::of_names(rt.alloc(), names)?,
         None => Path::root(rt.alloc())?,
     };
@@ -44,7 +45,7 @@ fn plain_paths_go_on_from_others(rt: HostRuntime) -> Result<(), Fail> {
         None => Path::root(rt.alloc())?,
     };
     assert_eq!(rt; child.printed(), b"/a/.b/c d".as_slice());
-    assert!(rt; root.names_behind(b"/fs/a//b").is_none());
+    assert!(rt; root.names_beside(&known, b"/fs/a//b").is_none());
     assert!(rt; parent.child_name(&root, b"/fs/a/.b/c/d").is_none());
     Ok(())
 }

@@ -184,7 +184,8 @@ fn content_of<'a>(parts: &mut Parts<'a>, pairs: &DigitPairs) -> Option<Content<'
     })
 }
 
-/// Takes a directory's line, where its path is plain and it stands at its place.
+/// Takes a directory's line, where its path is plain and it stands at its place. The names that it shares with the directory
+/// before it are not looked at again.
 fn add_directory(
     alloc: Global,
     root: &Path,
@@ -198,7 +199,10 @@ fn add_directory(
     if lines.has_max_dirs() {
         return Ok(false);
     }
-    let Some(names) = root.names_behind(content.path) else {
+    let Some(known) = lines.stanza() else {
+        return Ok(false);
+    };
+    let Some(names) = root.names_beside(known, content.path) else {
         return Ok(false);
     };
     let path = Path::of_names(alloc, names)?;
