@@ -6,6 +6,7 @@ pub mod CutParts
 pub mod Cuts
 pub mod Decimals
 pub mod Digits
+pub mod FreeBytes
 pub mod Names
 pub mod Orders
 pub mod Parts

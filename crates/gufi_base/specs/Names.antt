@@ -19,6 +19,10 @@ is_path_byte b = not (b == 0) && not (b == 10)
 abbrev pub is_name_byte : ℕ → Bool
 is_name_byte b = is_path_byte b && not (b == 47)
 
+-- a byte that may stand in a path, and is not the other one
+abbrev pub is_path_byte_but : ℕ → ℕ → Bool
+is_path_byte_but other b = is_path_byte b && not (b == other)
+
 -- 1 to 255 bytes without 0x00, newline and '/', and neither "." nor ".."
 abbrev pub is_name : List ℕ → Bool
 is_name bytes = not (is_empty bytes) && nat_le (length bytes) max_name && list_all is_name_byte bytes

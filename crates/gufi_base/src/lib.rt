@@ -4,6 +4,7 @@
 //! It stands on no crate of the index, and all others may stand on it.
 #![tactic(auto)]
 
+mod bytes;
 mod extras;
 mod front;
 mod hint;
@@ -31,12 +32,13 @@ mod width;
 mod xattrs;
 mod yields;
 
+pub use bytes::are_path_bytes;
 pub use extras::{Extras, acl_at, put_extras, xattrs_at};
 pub use front::{behind, split_first};
 pub use hint::Hint;
 pub use lines::lines_of;
 pub use list::{Bytes, Items, Nums, Text};
-pub use name::{Name, NameFault, name_cmp};
+pub use name::{Name, NameFault, is_name, name_cmp};
 pub use named::put_named;
 pub use number::{put, put_i64, put_u64, put_u128, read_i64, read_octal, read_u32, read_u64};
 pub use number_list::read_numbers;
@@ -52,7 +54,7 @@ use std::alloc::{AllocError, AllocFailed};
 pub use steps::Steps;
 pub use view::{AsItIs, View};
 pub use width::{u16_of, u32_of};
-pub use xattrs::{MAX_XATTR, MAX_XATTRS, are_path_bytes, are_xattrs};
+pub use xattrs::{MAX_XATTR, MAX_XATTRS, are_xattrs};
 pub use yields::Yield;
 
 /// Memory was wanted, and there was none.

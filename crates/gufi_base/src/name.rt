@@ -1,12 +1,12 @@
 //! File names (POSIX.1-2017 XBD 3.170).
 
 ghost use Rattle.std.specs.Prelude.{◌≡◌, ◌&&◌, ◌||◌, not, nat_le, bytes_eq, length, IsTrue, IfOk};
-ghost use Rattle.std.specs.List.{list_all};
 ghost use Rattle.std.specs.Ordering.{nat_cmp};
 ghost use Rattle.std.specs.Cmp.Lexicographic.{slice_cmp};
 ghost use Rattle.gufi_base.specs.Basics.{GivesUnless, is_empty as has_no_element};
-ghost use Rattle.gufi_base.specs.Names.{name_of, is_name, is_name_byte, dot, dot_dot};
+ghost use Rattle.gufi_base.specs.Names.{name_of, is_name, dot, dot_dot};
 
+use crate::bytes::are_name_bytes;
 use smallvec::SmallVec;
 use std::alloc::{AllocError, Global};
 use std::cmp::Ordering;
@@ -53,12 +53,6 @@ impl From<AllocError> for NameFault {
     }
 }
 
-fn are_name_bytes(bytes: &[u8]) -> bool
-    ensures { result ≡ list_all is_name_byte bytes.now }
-{
-    bytes.iter().all(|b| *b != 0 && *b != 10 && *b != 47)
-}
-
 fn has_name_length(bytes: &[u8]) -> bool
     ensures { result ≡ not (has_no_element bytes.now) && nat_le (length bytes.now) 255 }
 {
@@ -72,7 +66,8 @@ fn is_dots(bytes: &[u8]) -> bool
 }
 
 /// Whether the bytes are a name.
-pub(crate) fn is_name(bytes: &[u8]) -> bool
+#[inline]
+pub fn is_name(bytes: &[u8]) -> bool
     ensures { result ≡ is_name bytes.now }
 {
     has_name_length(bytes) && are_name_bytes(bytes) && !is_dots(bytes)

@@ -3,9 +3,9 @@
 ghost use Rattle.std.specs.Prelude.{◌≡◌};
 ghost use Rattle.std.specs.List.{list_all};
 ghost use Rattle.gufi_base.specs.Basics.{split};
-ghost use Rattle.gufi_base.specs.Names.{is_path_byte};
 ghost use Rattle.gufi_base.specs.Xattrs.{is_xattr, are_xattrs};
 
+use crate::bytes::are_path_bytes;
 use crate::piece::pieces_of;
 
 /// How many bytes the names of a file may have, with the commas between them.
@@ -18,13 +18,6 @@ fn is_xattr(part: &[u8]) -> bool
     ensures { result ≡ is_xattr part.now }
 {
     !part.is_empty() && part.len() <= MAX_XATTR
-}
-
-/// Whether none of these bytes is 0x00 or a newline.
-pub fn are_path_bytes(bytes: &[u8]) -> bool
-    ensures { result ≡ list_all is_path_byte bytes.now }
-{
-    bytes.iter().all(|b| *b != 0 && *b != 10)
 }
 
 fn are_parts(names: &[u8]) -> bool
