@@ -1,6 +1,6 @@
 //! What a principal is shown of rows.
 
-ghost use Rattle.std.specs.Prelude.{◌≡◌};
+ghost use Rattle.std.specs.Prelude.{◌≡◌, [], if◌then◌else◌};
 ghost use Rattle.gufi_access.specs.Access.{is_granted};
 
 use gufi_access::{Guard, Principal, granted};
@@ -26,6 +26,17 @@ fn may_read(who: &Principal, row: RowRef<'_>) -> bool
     granted(who, &guard, 4)
 }
 
+/// The names of extended attributes that a principal is shown of a row. Most rows have none: of those nothing is asked.
+#[inline]
+fn names_shown<'a>(who: &Principal, row: RowRef<'a>) -> &'a [u8]
+    ensures { result.now ≡ (if is_granted who.now (record { uid = row.entry.meta.now.uid; gid = row.entry.meta.now.gid; mode = row.entry.meta.now.mode; acl = row.entry.acl.now }) 4 then row.entry.xattrs.now else []) }
+{
+    if row.xattrs.is_empty() || may_read(who, row) {
+        return row.xattrs;
+    }
+    &[]
+}
+
 impl View for Shown<'_> {
     ghost use Rattle.gufi_walk.specs.Answer.{shown};
     ghost use Rattle.gufi_walk.specs.Shown.{shown-path, shown-meta, shown-link};
@@ -38,18 +49,11 @@ impl View for Shown<'_> {
 
     ghost same_link = { λ view row. shown-link view.who.now row };
 
+    #[inline]
     fn view<'a>(&self, row: RowRef<'a>) -> RowRef<'a> {
-        // Most rows have no names: of those nothing is asked.
-        if row.xattrs.is_empty() || may_read(self.who, row) {
-            return row;
-        }
         RowRef {
-            stem: row.stem,
-            base: row.base,
-            meta: row.meta,
-            link: row.link,
-            xattrs: &[],
-            acl: row.acl,
+            xattrs: names_shown(self.who, row),
+            ..row
         }
     }
 }
