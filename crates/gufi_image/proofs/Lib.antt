@@ -16,6 +16,7 @@ mod ReadSound
 mod Searches
 mod Fronts
 mod Longer
+mod NumbersThere
 mod EntryLoop
 mod Shape
 mod Parents

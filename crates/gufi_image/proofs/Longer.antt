@@ -101,7 +101,7 @@ module _ (more : List ℕ) where
   signed_goes : (bytes : List ℕ) → Goes (λ x. x) more (signed_at bytes) (signed_at (bytes ++ more))
   signed_goes bytes = chain _ _ _ _ _ _ (number_goes w64 bytes) (λ n rest. done _ _ _ _ refl)
 
-  meta_goes : (kind : Kind) (bytes : List ℕ) → Goes (λ x. x) more (meta_at kind bytes) (meta_at kind (bytes ++ more))
+  pub meta_goes : (kind : Kind) (bytes : List ℕ) → Goes (λ x. x) more (meta_at kind bytes) (meta_at kind (bytes ++ more))
   unfolding meta_at
   meta_goes kind bytes =
       chain _ _ _ _ _ _ (number_goes w64 bytes) (λ inode r1.

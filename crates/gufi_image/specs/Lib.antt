@@ -2,6 +2,7 @@ pub mod Kinds
 pub mod Widths
 pub mod Bytes
 pub mod Fields
+pub mod Numbers
 pub mod Names
 pub mod Measured
 pub mod Image

@@ -15,7 +15,7 @@ abbrev pub directory_in : Open → List Entry → Directory
 directory_in o entries = record { path = o.path; rec = o.rec; entries = entries }
 
 abbrev pub entry_seen : EntryAt → Entry
-entry_seen e = record { name = e.name.now; rec = record { meta = e.rec.meta; link = e.rec.link.now; xattrs = e.rec.xattrs.now; acl = e.rec.acl.now } }
+entry_seen e = record { name = e.name.now; rec = record { meta = e.rec.numbers; link = e.rec.link.now; xattrs = e.rec.xattrs.now; acl = e.rec.acl.now } }
 
 -- A flag that is kept has as many bytes left as in the longest image that may be. It has so many fewer in one that has so many bytes fewer.
 abbrev pub nearer : ℕ → Flag → Flag

@@ -11,8 +11,9 @@ ghost use Rattle.gufi_image.specs.Placed.{IsBelow, IsChild, IsPlaced, IsAbove, L
 ghost use Rattle.gufi_image.specs.Views.{heading};
 
 use crate::fault::{ImageKind, Refused};
-use crate::fields::{flaw, record_at, u8_at, u32_at};
+use crate::fields::{flaw, u8_at, u32_at};
 use crate::name::{Above, name_at};
+use crate::record::record_at;
 use crate::width::Width;
 use gufi_base::{Kind, Path, PathRef, Rec, text_cmp};
 use gufi_tree::{DirRef, Packing, has_entry};
@@ -211,7 +212,8 @@ pub(crate) fn heading_at<'a>(
     if count as u64 + so_far as u64 > total as u64 {
         return Err(flaw(counts, ImageKind::Number));
     }
-    let rec = own.as_rec_ref().copy(alloc)?;
+    let meta = own.numbers.meta();
+    let rec = own.rec_ref(&meta).copy(alloc)?;
     let part = Open {
         path,
         rec,

@@ -11,8 +11,9 @@ ghost use Rattle.gufi_base.specs.Names.{is_name};
 ghost use Rattle.gufi_image.specs.Pieces.{OnFlaw, Stops, entries_from};
 
 use crate::fault::{ImageKind, Refused};
-use crate::fields::{Borrowed, flaw, record_at, u8_at};
+use crate::fields::{flaw, u8_at};
 use crate::name::{Above, name_at};
+use crate::record::{RecordAt, record_at};
 use crate::width::Width;
 use gufi_base::{Kind, read_kind};
 use gufi_tree::Packing;
@@ -41,7 +42,7 @@ fn follows(before: &Packing, name: &[u8]) -> bool
 #[derive(Drop)]
 struct EntryAt<'a> {
     name: &'a [u8],
-    rec: Borrowed<'a>,
+    rec: RecordAt<'a>,
 }
 
 /// An entry, behind those before it.
@@ -55,7 +56,7 @@ fn entry_at<'a>(
 ) -> Result<(EntryAt<'a>, &'a [u8]), Refused>
     ensures gives { Gives (λ x. (entry_seen x.0, x.1.now)) result (entry_at width above.now (entries_of before.now.pending) bytes.now) }
     ensures name { IfOk result (λ x. IsTrue (is_name x.0.name.now)) }
-    ensures kind { IfOk result (λ x. is_dir x.0.rec.meta.kind ≡ false) }
+    ensures kind { IfOk result (λ x. is_dir x.0.rec.numbers.kind ≡ false) }
     ensures order { IfOk result (λ x. follows (entries_of before.now.pending) x.0.name.now ≡ true) }
 {
     let (letter, rest) = u8_at(bytes)?;
@@ -90,7 +91,8 @@ pub(crate) fn take_entries<'a>(
 {
     'entries: while packing.pending_len() < count as usize {
         let (entry, after) = entry_at(*rest, width, above, packing)?;
-        packing.push(0, entry.name, &entry.rec.as_rec_ref())?;
+        let meta = entry.rec.numbers.meta();
+        packing.push(0, entry.name, &entry.rec.rec_ref(&meta))?;
         *rest = after;
     }
     Ok(())

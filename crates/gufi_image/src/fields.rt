@@ -2,17 +2,17 @@
 //!
 //! Each reader is given the bytes from some place on, and gives what it read with the bytes behind it.
 
-ghost use Rattle.std.specs.Prelude.{◌≡◌, IfOk};
+ghost use Rattle.std.specs.Prelude.{◌≡◌};
 ghost use Rattle.std.specs.Int.{w8, w16, w32, w64};
 ghost use Rattle.gufi_access.specs.Acl.{is_acl_or_none};
 ghost use Rattle.gufi_image.specs.Widths.{has_names, has_acls};
-ghost use Rattle.gufi_image.specs.Fields.{Gives, flaw, bytes_at, number_at, signed_at, meta_at, link_at, names_at, acl_at, extra_at, record_at};
+ghost use Rattle.gufi_image.specs.Fields.{Gives, flaw, bytes_at, number_at, signed_at, link_at, names_at, acl_at, extra_at};
 
 use crate::fault::{Flaw, ImageKind, Refused};
 use crate::width::Width;
 use byteorder::{ByteOrder, LittleEndian};
 use gufi_access::acl_ok;
-use gufi_base::{Kind, Meta, RecRef, are_path_bytes, are_xattrs};
+use gufi_base::{are_path_bytes, are_xattrs};
 
 const MAX_LINK: u16 = 4096;
 
@@ -72,55 +72,17 @@ pub(crate) fn u64_at(bytes: &[u8]) -> Result<(u64, &[u8]), Refused>
 }
 
 #[inline]
-fn i64_at(bytes: &[u8]) -> Result<(i64, &[u8]), Refused>
+pub(crate) fn i64_at(bytes: &[u8]) -> Result<(i64, &[u8]), Refused>
     ensures { Gives (λ x. (x.0, x.1.now)) result (signed_at bytes.now) }
 {
     let (number, rest) = u64_at(bytes)?;
     Ok((number.cast_signed(), rest))
 }
 
-/// What a record of this kind holds before its link.
-#[inline(always)]
-#[tactic(auto, unfolding(crate::specs::Fields::meta_at))]
-fn meta_at(bytes: &[u8], kind: Kind) -> Result<(Meta, &[u8]), Refused>
-    ensures gives { Gives (λ x. (x.0, x.1.now)) result (meta_at kind bytes.now) }
-    ensures kind { IfOk result (λ x. x.0.kind ≡ kind) }
-{
-    let (inode, modes) = u64_at(bytes)?;
-    let (mode, rest) = u16_at(modes)?;
-    if mode > 4095 {
-        return Err(flaw(modes, ImageKind::Number));
-    }
-    let (nlink, rest) = u64_at(rest)?;
-    let (uid, rest) = u32_at(rest)?;
-    let (gid, rest) = u32_at(rest)?;
-    let (size, rest) = u64_at(rest)?;
-    let (blksize, rest) = u64_at(rest)?;
-    let (blocks, rest) = u64_at(rest)?;
-    let (atime, rest) = i64_at(rest)?;
-    let (mtime, rest) = i64_at(rest)?;
-    let (ctime, rest) = i64_at(rest)?;
-    let meta = Meta {
-        kind,
-        inode,
-        mode,
-        nlink,
-        uid,
-        gid,
-        size,
-        blksize,
-        blocks,
-        atime,
-        mtime,
-        ctime,
-    };
-    Ok((meta, rest))
-}
-
 /// The target of a link, behind its length.
 #[inline(always)]
 #[tactic(auto, unfolding(crate::specs::Fields::link_at))]
-fn link_at(bytes: &[u8]) -> Result<(&[u8], &[u8]), Refused>
+pub(crate) fn link_at(bytes: &[u8]) -> Result<(&[u8], &[u8]), Refused>
     ensures { Gives (λ x. (x.0.now, x.1.now)) result (link_at bytes.now) }
 {
     let (count, rest) = u16_at(bytes)?;
@@ -172,7 +134,7 @@ fn acl_at(bytes: &[u8]) -> Result<(&[u8], &[u8]), Refused>
 
 /// The names of extended attributes, in records that have them.
 #[inline(always)]
-fn held_names(bytes: &[u8], width: Width) -> Result<(&[u8], &[u8]), Refused>
+pub(crate) fn held_names(bytes: &[u8], width: Width) -> Result<(&[u8], &[u8]), Refused>
     ensures { Gives (λ x. (x.0.now, x.1.now)) result (extra_at names_at (has_names width) bytes.now) }
 {
     if width.has_names() {
@@ -183,52 +145,11 @@ fn held_names(bytes: &[u8], width: Width) -> Result<(&[u8], &[u8]), Refused>
 
 /// The access control list or none, in records that have one.
 #[inline(always)]
-fn held_acl(bytes: &[u8], width: Width) -> Result<(&[u8], &[u8]), Refused>
+pub(crate) fn held_acl(bytes: &[u8], width: Width) -> Result<(&[u8], &[u8]), Refused>
     ensures { Gives (λ x. (x.0.now, x.1.now)) result (extra_at acl_at (has_acls width) bytes.now) }
 {
     if width.has_acls() {
         return acl_at(bytes);
     }
     Ok((&[], bytes))
-}
-
-/// A record of which all but the numbers stays where it stands in the image.
-#[derive(Drop)]
-pub(crate) struct Borrowed<'a> {
-    pub meta: Meta,
-    pub link: &'a [u8],
-    pub xattrs: &'a [u8],
-    pub acl: &'a [u8],
-}
-
-impl Borrowed<'_> {
-    pub(crate) fn as_rec_ref(&self) -> RecRef<'_>
-        ensures { result ≡ record { meta = self.now.meta; link = self.now.link.now; xattrs = self.now.xattrs.now; acl = self.now.acl.now } }
-    {
-        RecRef::of(&self.meta, self.link, self.xattrs, self.acl)
-    }
-}
-
-/// A record of this kind.
-#[inline(always)]
-#[tactic(auto, unfolding(crate::specs::Fields::record_at))]
-pub(crate) fn record_at(
-    bytes: &[u8],
-    width: Width,
-    kind: Kind,
-) -> Result<(Borrowed<'_>, &[u8]), Refused>
-    ensures gives { Gives (λ x. (record { meta = x.0.meta; link = x.0.link.now; xattrs = x.0.xattrs.now; acl = x.0.acl.now }, x.1.now)) result (record_at width kind bytes.now) }
-    ensures kind { IfOk result (λ x. x.0.meta.kind ≡ kind) }
-{
-    let (meta, rest) = meta_at(bytes, kind)?;
-    let (link, rest) = link_at(rest)?;
-    let (xattrs, rest) = held_names(rest, width)?;
-    let (acl, rest) = held_acl(rest, width)?;
-    let rec = Borrowed {
-        meta,
-        link,
-        xattrs,
-        acl,
-    };
-    Ok((rec, rest))
 }

@@ -14,6 +14,7 @@ mod name;
 mod progress;
 mod put;
 mod reader;
+mod record;
 mod width;
 mod writer;
 

@@ -1,6 +1,7 @@
 use Rattle.std.proofs.Common.{◌≡◌, ◌<◌, ◌++◌, ◌∷◌, [], List, length, length-append, arith, refl, ap, ◌∙◌}
 use Rattle.std.proofs.lemmas.List.{map-append, length-map}
 use Rattle.std.proofs.lemmas.Result.{err_from_is_err_and}
+use Rattle.gufi_base.specs.declared.record.Meta.{Meta}
 use Rattle.gufi_base.specs.declared.record.Rec.{Rec}
 use Rattle.gufi_tree.specs.declared.tree.Entry.{Entry}
 use Rattle.gufi_tree.specs.Packs.{Placed, Packs, entries_of}
@@ -22,8 +23,10 @@ entries-preserved c =
     let before : List Entry = entries_of old in
     let entry : Entry = entry_seen c.in_ok-entry.entry in
     let with_rec : Rec → Entry = λ r. record { name = c.in_ok-entry.entry.name.now; rec = r } in
-    let one : Placed = record { entry = with_rec c.as_rec_ref.result; place = 0 } in
-    let push : entries_of new ≡ before ++ entry ∷ [] = ap (λ (p : Packs). entries_of p.pending) c.in_ok-push.ensures.pushed ∙ map-append (λ (p : Placed). p.entry) old (one ∷ []) ∙ ap (λ (r : Rec). before ++ with_rec r ∷ []) c.as_rec_ref.ensures in
+    let with_meta : Meta → Rec = λ m. record { meta = m; link = entry.rec.link; xattrs = entry.rec.xattrs; acl = entry.rec.acl } in
+    let rec : c.rec_ref.result ≡ entry.rec = c.rec_ref.ensures ∙ ap with_meta c.meta-meta.ensures in
+    let one : Placed = record { entry = with_rec c.rec_ref.result; place = 0 } in
+    let push : entries_of new ≡ before ++ entry ∷ [] = ap (λ (p : Packs). entries_of p.pending) c.in_ok-push.ensures.pushed ∙ map-append (λ (p : Placed). p.entry) old (one ∷ []) ∙ ap (λ (r : Rec). before ++ with_rec r ∷ []) rec in
     let lt : length before < c.args.count = omega (arith, c.entries-test.true, c.pending_len.ensures, length-map old (λ (p : Placed). p.entry)) in
     let longer = ap (λ (es : List Entry). length es) push ∙ length-append before (entry ∷ []) in
     record {
