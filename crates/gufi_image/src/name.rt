@@ -1,17 +1,15 @@
 //! The names in an image.
 
-ghost use Rattle.std.specs.Prelude.{◌≡◌, ◌||◌, ◌&&◌, not, nat_lt, nat_le, bytes_eq, length, ◌∷◌, [], ◌++◌, IsTrue, IfOk};
-ghost use Rattle.std.specs.List.{list_all};
-ghost use Rattle.gufi_base.specs.Basics.{is_empty};
+ghost use Rattle.std.specs.Prelude.{◌≡◌, ◌||◌, nat_lt, ◌∷◌, [], ◌++◌, IsTrue, IfOk};
 ghost use Rattle.gufi_base.specs.Limits.{max_components, max_path};
-ghost use Rattle.gufi_base.specs.Names.{is_name, is_name_byte, dot, dot_dot};
+ghost use Rattle.gufi_base.specs.Names.{is_name};
 ghost use Rattle.gufi_base.specs.Paths.{is_too_long};
 ghost use Rattle.gufi_image.specs.Fields.{Gives};
 ghost use Rattle.gufi_image.specs.Names.{name_at};
 
 use crate::fault::{ImageKind, Refused};
 use crate::fields::{bytes_at, flaw, u8_at};
-use gufi_base::PathRef;
+use gufi_base::{PathRef, is_name};
 use std::marker::Model;
 
 /// More names or bytes than a path may have.
@@ -58,31 +56,6 @@ impl<'a> Above<'a> {
             self.bytes as u128 + name.len() as u128,
         )
     }
-}
-
-fn are_name_bytes(bytes: &[u8]) -> bool
-    ensures { result ≡ list_all is_name_byte bytes.now }
-{
-    bytes.iter().all(|b| *b != 0 && *b != 10 && *b != 47)
-}
-
-fn has_name_length(bytes: &[u8]) -> bool
-    ensures { result ≡ not (is_empty bytes.now) && nat_le (length bytes.now) 255 }
-{
-    !bytes.is_empty() && bytes.len() <= 255
-}
-
-fn is_dots(bytes: &[u8]) -> bool
-    ensures { result ≡ bytes_eq bytes.now dot || bytes_eq bytes.now dot_dot }
-{
-    bytes == b".".as_slice() || bytes == b"..".as_slice()
-}
-
-/// Whether bytes are a name, where they stand in the image.
-fn is_name(bytes: &[u8]) -> bool
-    ensures { result ≡ is_name bytes.now }
-{
-    has_name_length(bytes) && are_name_bytes(bytes) && !is_dots(bytes)
 }
 
 /// A name below a directory, behind its length. It stays where it stands.

@@ -85,7 +85,13 @@ impl<'a> EntryRef<'a> {
     {
         let packed = self.packed;
         let at = packed.at as usize + packed.name as usize;
-        record_at(&packed.meta, self.text, at, packed.link as usize, packed.extras)
+        record_at(
+            &packed.meta,
+            self.text,
+            at,
+            packed.link as usize,
+            packed.extras,
+        )
     }
 }
 
