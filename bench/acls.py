@@ -3,13 +3,13 @@
 
   python3 acls.py [--program PROGRAM] [--rollups 20] [--runs 5] [--pages small]
 
-It makes four traces of the same directories: all with one mode; with one of eight modes and owners, so that a directory mostly differs
-from the one that it lies in; with one of eight lists of six entries; and each with a list of its own of 32 named entries. A script publishes one, and behind a
-barrier rolls it up so many times, each under another limit. The cost of a roll-up is the time of that script less the time of a script that
-publishes alone, over their number. A directory isn't compared any more once one below it isn't covered, so few pairs are
-compared where lists differ. Runs are
-interleaved, output goes to /dev/null, files are warm, times are medians of processor time. The memory of a search over each trace stands beside. Nothing
-here is a test.
+It makes five traces of the same directories: all with one mode; with one of eight modes and owners, so that a directory mostly differs
+from the one that it lies in; with one of eight lists of six entries; with one of eight lists that each let in more than the list of the
+directory above, so that all pairs differ and all are compared; and each with a list of its own of 32 named entries. A script publishes one,
+and behind a barrier rolls it up so many times, each under another limit. The cost of a roll-up is the time of that script less the time of
+a script that publishes alone, over their number. A directory isn't compared once one below or beside it isn't covered, so few pairs
+are compared where lists come as they like. Runs are interleaved, output goes to /dev/null, files are warm, times are medians of processor
+time. The memory of a search over each trace stands beside. Nothing here is a test.
 """
 import argparse
 import os
@@ -28,6 +28,13 @@ def kind_of_list(kind):
     return "acl/user::rwx,user:%d:r-x,group::r-x,group:%d:r-x,mask::r-x,other::---" % (2000 + kind, 5000 + kind % 4)
 
 
+def wider_list(kind):
+    """A list that lets in all whom those of lesser kinds let in, and a user and a group more."""
+    users = ",".join("user:%d:r-x" % (2000 + n) for n in range(kind + 1))
+    groups = ",".join("group:%d:r-x" % (5000 + n) for n in range(kind + 1))
+    return "acl/user::rwx,%s,group::r-x,%s,mask::r-x,other::---" % (users, groups)
+
+
 def own_list(place):
     """A list of 16 users and 16 groups that no other directory has."""
     users = ",".join("user:%d:r-x" % (2000 + place * 16 + n) for n in range(16))
@@ -42,6 +49,9 @@ def fields(path, form, place, rng):
         mode, uid = (0o750, 0o755, 0o700, 0o770)[kind % 4], 1001 + kind // 4
     elif form == "eight lists":
         acl = kind_of_list(rng.randrange(8))
+    elif form == "eight wider and wider":
+        above = path.count("/") - 1
+        acl = wider_list((0, 1 + rng.randrange(3), 4 + rng.randrange(4))[above])
     elif form == "lists that all differ":
         acl = own_list(place)
     parts = [path, "d", str(place + 1), str(mode), "2", str(uid), "500", "4096", "4096", "8", "10", "20", "30", ""]
@@ -72,7 +82,7 @@ def main():
     given = parser.parse_args()
     take_pages(given.pages)
     program = os.path.abspath(given.program)
-    forms = ("one mode", "eight modes", "eight lists", "lists that all differ")
+    forms = ("one mode", "eight modes", "eight lists", "eight wider and wider", "lists that all differ")
     with tempfile.TemporaryDirectory() as folder:
         commands = {}
         for number, form in enumerate(forms):
@@ -86,7 +96,8 @@ def main():
         for number, form in enumerate(forms):
             peak = once([program, "find", "trace%d" % number, "1001", "/"], folder)[2]
             print("%-22s %8.1f ms a roll-up, %6.2f s to publish, %4.0f MB for a find" % (form, cost[form] * 1e3, times["publish " + form][0], peak))
-        print("eight lists beside eight modes: ratio %.2f; beside one mode: %.2f" % (cost["eight lists"] / cost["eight modes"], cost["eight lists"] / cost["one mode"]))
+        for lists in ("eight lists", "eight wider and wider"):
+            print("%s beside eight modes: ratio %.2f; beside one mode: %.2f" % (lists, cost[lists] / cost["eight modes"], cost[lists] / cost["one mode"]))
 
 
 if __name__ == "__main__":
