@@ -3,13 +3,14 @@
 
   python3 acls.py [--program PROGRAM] [--rollups 20] [--runs 5] [--pages small]
 
-It makes five traces of the same directories: all with one mode; with one of eight modes and owners, so that a directory mostly differs
-from the one that it lies in; with one of eight lists of six entries; with one of eight lists that each let in more than the list of the
-directory above, so that all pairs differ and all are compared; and each with a list of its own of 32 named entries. A script publishes one,
-and behind a barrier rolls it up so many times, each under another limit. The cost of a roll-up is the time of that script less the time of
-a script that publishes alone, over their number. A directory isn't compared once one below or beside it isn't covered, so few pairs
-are compared where lists come as they like. Runs are interleaved, output goes to /dev/null, files are warm, times are medians of processor
-time. The memory of a search over each trace stands beside. Nothing here is a test.
+It makes six traces of the same directories: all with one mode; with one of eight modes and owners, so that a directory mostly differs
+from the one that it lies in; with one of eight lists of six entries, the same for all at and below a directory of the first level; with one
+of these as it comes; with one of eight lists that each let in more than the list of the directory above, so that all pairs differ and
+all are compared; and each with a list of its own of 32 named entries. A script publishes one, and behind a barrier rolls it up so many
+times, each under another limit. The cost of a roll-up is the time of that script less the time of a script that publishes alone, over
+their number. A directory isn't compared once one below or beside it isn't covered, so few pairs are compared where lists come as they
+like. Runs are interleaved, output goes to /dev/null, files are warm, times are medians of processor time. The memory of a search over
+each trace stands beside. Nothing here is a test.
 """
 import argparse
 import os
@@ -47,6 +48,8 @@ def fields(path, form, place, rng):
     if form == "eight modes":
         kind = rng.randrange(8)
         mode, uid = (0o750, 0o755, 0o700, 0o770)[kind % 4], 1001 + kind // 4
+    elif form == "eight lists by subtree":
+        acl = kind_of_list(int(path.split("/")[2][1:]) % 8 if path.count("/") > 1 else 0)
     elif form == "eight lists":
         acl = kind_of_list(rng.randrange(8))
     elif form == "eight wider and wider":
@@ -82,7 +85,7 @@ def main():
     given = parser.parse_args()
     take_pages(given.pages)
     program = os.path.abspath(given.program)
-    forms = ("one mode", "eight modes", "eight lists", "eight wider and wider", "lists that all differ")
+    forms = ("one mode", "eight modes", "eight lists by subtree", "eight lists", "eight wider and wider", "lists that all differ")
     with tempfile.TemporaryDirectory() as folder:
         commands = {}
         for number, form in enumerate(forms):
@@ -96,7 +99,7 @@ def main():
         for number, form in enumerate(forms):
             peak = once([program, "find", "trace%d" % number, "1001", "/"], folder)[2]
             print("%-22s %8.1f ms a roll-up, %6.2f s to publish, %4.0f MB for a find" % (form, cost[form] * 1e3, times["publish " + form][0], peak))
-        for lists in ("eight lists", "eight wider and wider"):
+        for lists in ("eight lists by subtree", "eight lists", "eight wider and wider"):
             print("%s beside eight modes: ratio %.2f; beside one mode: %.2f" % (lists, cost[lists] / cost["eight modes"], cost[lists] / cost["one mode"]))
 
 
