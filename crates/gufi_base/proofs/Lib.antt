@@ -14,6 +14,7 @@ pub mod Permutations
 pub mod PlainTexts
 pub mod Prefixes
 pub mod RowParts
+pub mod SlashBlocks
 pub mod SortedOnce
 pub mod Sorting
 pub mod SplitParts

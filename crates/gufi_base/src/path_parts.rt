@@ -1,10 +1,11 @@
 //! The parts of a path's kept text.
 
-ghost use Rattle.std.specs.Prelude.{◌≡◌, ◌≢◌, ◌==◌, ℕ, ◌-◌, ◌<◌, ◌≤◌, [], ◌∷◌, ◌++◌, length, filter, drop, slice_index, IfOk};
+ghost use Rattle.std.specs.Prelude.{◌≡◌, ◌≢◌, ◌==◌, ℕ, ◌+◌, ◌-◌, ◌<◌, ◌≤◌, [], ◌∷◌, ◌++◌, length, filter, take, drop, slice_index, IfOk};
 ghost use Rattle.gufi_base.specs.Paths.{parent_path};
 ghost use Rattle.gufi_base.specs.PathTexts.{kept_text, names, IsText};
 
 use std::alloc::{AllocError, Global};
+use std::simd::prelude::*;
 
 /// The kept text of a path below the root, from its stem and its base name.
 pub(crate) fn text_of_row(alloc: Global, stem: &[u8], base: &[u8]) -> Result<Vec<u8>, AllocError>
@@ -47,10 +48,49 @@ pub(crate) fn without_front(mut bytes: Vec<u8>, count: usize) -> Vec<u8>
     bytes
 }
 
-/// How many slashes there are. It takes no branch at a byte, since slashes come in no order that could be foreseen.
+/// How many slashes there are among `N` bytes at a place, behind the first so many of them.
+#[inline]
+fn slashes_at<const N: usize>(text: &[u8], at: usize, behind: usize) -> usize
+    requires lanes { N ≤ 64 }
+    requires inside { at + N ≤ length text.now }
+    requires behind { behind < 64 }
+    ensures { result ≡ length (filter (λ b. b == 47) (drop behind (take N (drop at text.now)))) }
+{
+    let block = Simd::<u8, N>::from_slice(&text[at..]);
+    let slashes = block.simd_eq(Simd::splat(b'/')).to_bitmask();
+    (slashes >> behind).count_ones() as usize
+}
+
+/// How many slashes there are: `N` bytes at a time, and in the last `N` those behind the blocks before.
+#[inline]
+fn slashes_by_blocks<const N: usize>(text: &[u8]) -> usize
+    requires lanes { (0 < N) × (N ≤ 64) }
+    requires some { N ≤ length text.now }
+    ensures { result ≡ length (filter (λ b. b == 47) text.now) }
+{
+    let last = text.len() - N;
+    let mut count = 0;
+    let mut at = 0;
+    'by_blocks: while at < last {
+        count += slashes_at::<N>(text, at, 0);
+        at += N;
+    }
+    count + slashes_at::<N>(text, last, at - last)
+}
+
+/// How many slashes there are. Looks at 16 bytes at once.
 pub(crate) fn count_slashes(text: &[u8]) -> usize
     ensures { result ≡ length (filter (λ b. b == 47) text.now) }
 {
+    if text.len() >= 16 {
+        return slashes_by_blocks::<16>(text);
+    }
+    if text.len() >= 8 {
+        return slashes_by_blocks::<8>(text);
+    }
+    if text.len() >= 4 {
+        return slashes_by_blocks::<4>(text);
+    }
     let mut count = 0;
     for k in 0..text.len() {
         count += usize::from(text[k] == b'/');
