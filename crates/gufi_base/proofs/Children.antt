@@ -10,7 +10,7 @@ use Rattle.std.proofs.lemmas.Slice.Eq.{bytes_eq-Decides, slice_eq-Decides}
 use Rattle.std.proofs.Math.Seq.{take-append_seam}
 use Rattle.gufi_base.specs.Basics.{split, is_empty}
 use Rattle.gufi_base.specs.Names.{is_name}
-use Rattle.gufi_base.specs.Paths.{Components, slashed_text, read_path, parent_path, path_eq, is_child_of}
+use Rattle.gufi_base.specs.Paths.{Components, kept_parts, slashed_text, read_path, parent_path, path_eq, is_child_of}
 use Rattle.gufi_base.specs.PathTexts.{closed_names, kept_text, names, IsText}
 use Rattle.gufi_base.proofs.Parts.{all_but_last_push, closed_by, has_no, split_first, split_one, closed_cons}
 use Rattle.gufi_base.proofs.Names.{no_slashes, name_has_no, IsText-kept_text, names-kept_text}
@@ -32,12 +32,12 @@ pub all_named : (front rest : Components) → list_all is_name front ≡ true �
 all_named front rest h k = list_all-append is_name front rest ∙ and_from _ _ h k
 
 -- what bytes spell that are a path's kept text and names with single slashes between them
-behind_names : (path : Components) (bytes rest : List ℕ) → list_all is_name path ≡ true → list_all is_name (split 47 rest) ≡ true → bytes ≡ kept_text path ++ rest → length bytes ≤ 4096 → length (split 47 bytes) ≤ 256 → read_path bytes ≡ Ok (path ++ split 47 rest)
+behind_names : (path : Components) (bytes rest : List ℕ) → list_all is_name path ≡ true → list_all is_name (split 47 rest) ≡ true → bytes ≡ kept_text path ++ rest → length bytes ≤ 4096 → length (kept_parts bytes) ≤ 256 → read_path bytes ≡ Ok (path ++ split 47 rest)
 behind_names path bytes rest h k e short few =
     let is : split 47 (closed_names path ++ rest) ≡ path ++ split 47 rest = split_behind_closed 47 path rest (no_slashes path h) in
     read_path-plain (closed_names path ++ rest) bytes (inr e) short few (ap (list_all is_name) is ∙ all_named path (split 47 rest) h k) ∙ ap (λ (p : Components). Ok p) is
 
-pub read_behind : (root bytes rest : List ℕ) → IsText root → list_all is_name (split 47 rest) ≡ true → bytes ≡ root ++ rest → length bytes ≤ 4096 → length (split 47 bytes) ≤ 256 → read_path bytes ≡ Ok (names root ++ split 47 rest)
+pub read_behind : (root bytes rest : List ℕ) → IsText root → list_all is_name (split 47 rest) ≡ true → bytes ≡ root ++ rest → length bytes ≤ 4096 → length (kept_parts bytes) ≤ 256 → read_path bytes ≡ Ok (names root ++ split 47 rest)
 read_behind root bytes rest is h e short few = behind_names (names root) bytes rest is.each h (e ∙ ap (λ (t : List ℕ). t ++ rest) (sym is.whole)) short few
 
 kept_text_append : (front path : Components) → slashed_text front ++ kept_text path ≡ kept_text (front ++ path)
@@ -53,7 +53,7 @@ without_slash root is =
     let n : length root - 1 ≡ length front = omega (arith, ap length whole, length-append front (47 ∷ [])) in
     ap (λ k. take k root) n ∙ ap (take (length front)) whole ∙ take-append_seam front (47 ∷ [])
 
-pub read_child : (root parent bytes front below name : List ℕ) → IsText root → IsText parent → front ≡ take (length root - 1) root → bytes ≡ front ++ below → below ≡ parent ++ name → is_name name ≡ true → length bytes ≤ 4096 → length (split 47 bytes) ≤ 256
+pub read_child : (root parent bytes front below name : List ℕ) → IsText root → IsText parent → front ≡ take (length root - 1) root → bytes ≡ front ++ below → below ≡ parent ++ name → is_name name ≡ true → length bytes ≤ 4096 → length (kept_parts bytes) ≤ 256
     → read_path bytes ≡ Ok (names root ++ (names parent ++ name ∷ []))
 read_child root parent bytes front below name is p f e b h short few =
     let path = names root ++ names parent in

@@ -1,5 +1,5 @@
 -- Bytes that are names with single slashes between them.
-use Rattle.std.proofs.Common.{◌≡◌, ◌≢◌, ℕ, suc, ◌+◌, ◌≤◌, Bool, true, false, cond, eqb, List, [], ◌∷◌, ◌++◌, length, Some, None, Ok, refl, sym, ap, subst, ◌∙◌, arith, append_assoc, ⊎_elim}
+use Rattle.std.proofs.Common.{◌≡◌, ◌≢◌, ℕ, suc, ◌+◌, ◌*◌, ◌≤◌, Bool, true, false, cond, eqb, List, [], ◌∷◌, ◌++◌, length, Some, None, Ok, refl, sym, ap, subst, ◌∙◌, arith, append_assoc, ⊎_elim}
 use Rattle.std.specs.Prelude.{not, ◌&&◌, ◌||◌, filter, bytes_eq, nat_lt, nat_le}
 use Rattle.std.specs.List.{list_all, list_any, onto_first}
 use Rattle.std.proofs.lemmas.Bool.{cond-true, cond-false, and_parts, and_from, not_from_false, not-true, or_parts, or_left, or_right, cases_Bool, false≢true, le-leb, le-ltb, leb-true, eqb-true, eq-eqb}
@@ -12,7 +12,7 @@ use Rattle.gufi_base.specs.declared.plain.Reached.{Reached}
 use Rattle.gufi_base.specs.declared.plain.Reached.TheVariants.{Start, Dot, Inside}
 use Rattle.gufi_base.specs.PlainTexts.{after}
 use Rattle.gufi_base.specs.PathTexts.{closed_names, kept_text, names, IsText}
-use Rattle.gufi_base.specs.Limits.{max_name, max_components}
+use Rattle.gufi_base.specs.Limits.{max_name}
 use Rattle.gufi_base.specs.Paths.{Components, is_dropped, kept_parts, read_path}
 use Rattle.gufi_base.proofs.Names.{is_too_large, read_path-ok, name_bytes, IsText-kept_text, names-kept_text}
 use Rattle.gufi_base.proofs.Texts.{kept_text_push}
@@ -251,14 +251,39 @@ all_bytes (name ∷ path) h =
     let both = and_parts _ _ h in
     and_from _ _ (name_bytes name both.0) (all_bytes path both.1)
 
-length_cond : (b : ℕ) (t : Bool) (n : ℕ) (parts : List (List ℕ)) → length parts ≤ n + 1 → length (cond t ([] ∷ parts) (onto_first b parts)) ≤ n + 2
-length_cond b true n parts h = omega arith
-length_cond b false n [] h = omega arith
-length_cond b false n (part ∷ parts) h = omega arith
+-- the bytes that parts take, each with a byte between it and the next
+abbrev room : List (List ℕ) → ℕ
+room [] = 0
+room (part ∷ parts) = length part + 1 + room parts
 
-pub length-split : (bytes : List ℕ) → length (split 47 bytes) ≤ length bytes + 1
-length-split [] = omega arith
-length-split (b ∷ bytes) = let h = length_cond b (eqb b 47) (length bytes) (split 47 bytes) (length-split bytes) in omega (arith, h)
+room_cond : (b : ℕ) (t : Bool) (parts : List (List ℕ)) → (parts ≡ [] → ⊥) → room (cond t ([] ∷ parts) (onto_first b parts)) ≡ room parts + 1
+room_cond b true parts some = omega arith
+room_cond b false [] some = absurd (some refl)
+room_cond b false (part ∷ parts) some = omega arith
+
+room_split : (bytes : List ℕ) → room (split 47 bytes) ≡ length bytes + 1
+room_split [] = refl
+room_split (b ∷ bytes) = let h = room_cond b (eqb b 47) (split 47 bytes) (split_some 47 bytes) in omega (arith, h, room_split bytes)
+
+kept_cond : (t : Bool) (part : List ℕ) (parts : List (List ℕ)) → length (cond t (part ∷ parts) parts) ≤ length parts + 1
+kept_cond true part parts = omega arith
+kept_cond false part parts = omega arith
+
+abbrev kept : List (List ℕ) → List (List ℕ)
+kept parts = filter (λ part. not (is_dropped part)) parts
+
+kept_room : (parts : List (List ℕ)) → 2 * length (kept parts) ≤ room parts
+kept_room [] = omega arith
+kept_room ([] ∷ parts) = let h : 2 * length (kept parts) ≤ room parts = kept_room parts in omega (arith, h)
+kept_room ((b ∷ part) ∷ parts) = let h = kept_cond (not (is_dropped (b ∷ part))) (b ∷ part) (kept parts) in omega (arith, h, kept_room parts)
+
+kept_le : (parts : List (List ℕ)) → length (kept parts) ≤ length parts
+kept_le [] = omega arith
+kept_le (part ∷ parts) = let h = kept_cond (not (is_dropped part)) part (kept parts) in omega (arith, h, kept_le parts)
+
+-- each name takes a byte and a slash
+pub kept_parts-short : (bytes : List ℕ) → 2 * length (kept_parts bytes) ≤ length bytes + 1
+kept_parts-short bytes = omega (arith, kept_room (split 47 bytes), room_split bytes)
 
 abbrev pub Behind : List ℕ → List ℕ → Type 0
 Behind names bytes = (names ≡ bytes) ⊎ (bytes ≡ 47 ∷ names)
@@ -271,19 +296,12 @@ bad_behind : (names bytes : List ℕ) → Behind names bytes → list_any (λ b.
 bad_behind names bytes (inl e) = ap (list_any (λ b. not (is_path_byte b))) (sym e)
 bad_behind names bytes (inr e) = ap (list_any (λ b. not (is_path_byte b))) e
 
-few_behind : (names bytes : List ℕ) → Behind names bytes → length (split 47 bytes) ≤ 256 → length (split 47 names) ≤ 256
-few_behind names bytes (inl e) few = omega (arith, ap (λ (t : List ℕ). length (split 47 t)) e, few)
-few_behind names bytes (inr e) few =
-    let more : length (split 47 bytes) ≡ suc (length (split 47 names)) = ap (λ (t : List ℕ). length (split 47 t)) e in
-    omega (arith, more, few)
-
 -- plain bytes are read as they are
-pub read_path-plain : (names bytes : List ℕ) → Behind names bytes → length bytes ≤ 4096 → length (split 47 bytes) ≤ 256 → list_all is_name (split 47 names) ≡ true → read_path bytes ≡ Ok (split 47 names)
-read_path-plain names bytes behind short number named =
+pub read_path-plain : (names bytes : List ℕ) → Behind names bytes → length bytes ≤ 4096 → length (kept_parts bytes) ≤ 256 → list_all is_name (split 47 names) ≡ true → read_path bytes ≡ Ok (split 47 names)
+read_path-plain names bytes behind short few named =
     let kept : kept_parts bytes ≡ split 47 names = kept_behind names bytes behind ∙ kept_all (split 47 names) named in
     let dots = ap (list_any (bytes_eq dot_dot)) kept ∙ no_dots (split 47 names) named in
     let bad = bad_behind names bytes behind ∙ no_bad names (all_bytes (split 47 names) named) in
-    let few : length (kept_parts bytes) ≤ max_components = omega (arith, ap length kept, few_behind names bytes behind number) in
     let long = ap (list_any (λ name. nat_lt max_name (length name))) kept ∙ no_long (split 47 names) named in
     let large : is_too_large bytes ≡ false = either_no _ _ (either_no _ _ (le-ltb _ _ short) long) (le-ltb _ _ few) in
     read_path-ok bytes dots bad large ∙ ap Ok kept
@@ -298,9 +316,13 @@ filter_cond b true bytes = omega arith
 filter_cond b false bytes = refl
 
 -- there is one part more than slashes
-pub length-split_slashes : (bytes : List ℕ) → length (split 47 bytes) ≡ length (filter (λ b. eqb b 47) bytes) + 1
+length-split_slashes : (bytes : List ℕ) → length (split 47 bytes) ≡ length (filter (λ b. eqb b 47) bytes) + 1
 length-split_slashes [] = refl
 length-split_slashes (b ∷ bytes) = count_cond b (eqb b 47) (length (filter (λ b. eqb b 47) bytes)) (split 47 bytes) (length-split_slashes bytes) ∙ sym (filter_cond b (eqb b 47) bytes)
+
+-- so many slashes or fewer behind a first one have few names between them
+pub kept_parts-few : (names bytes : List ℕ) → Behind names bytes → length (kept_parts bytes) ≤ length (filter (λ b. eqb b 47) names) + 1
+kept_parts-few names bytes behind = omega (arith, ap length (kept_behind names bytes behind), kept_le (split 47 names), length-split_slashes names)
 
 pub IsText-plain : (names text : List ℕ) → list_all is_name (split 47 names) ≡ true → text ≡ 47 ∷ (names ++ 47 ∷ []) → IsText text
 IsText-plain names text named e = subst IsText (sym (e ∙ closed_bytes names)) (IsText-kept_text (split 47 names) named)

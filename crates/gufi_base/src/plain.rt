@@ -5,10 +5,11 @@ ghost use Rattle.std.specs.Bool.{OnTrue};
 ghost use Rattle.std.specs.List.{list_all};
 ghost use Rattle.gufi_base.specs.Basics.{split};
 ghost use Rattle.gufi_base.specs.Names.{is_name};
+ghost use Rattle.gufi_base.specs.Paths.{kept_parts};
 ghost use Rattle.gufi_base.specs.PlainTexts.{after};
 
 use crate::path_parts::count_slashes;
-use crate::path_reading::{MAX_COMPONENTS, MAX_NAME, MAX_PATH};
+use crate::path_reading::{MAX_COMPONENTS, MAX_NAME, MAX_PATH, without_first_slash};
 
 /// How far a component has come.
 #[derive(Clone, Copy)]
@@ -66,13 +67,14 @@ pub(crate) fn are_plain(bytes: &[u8]) -> bool
     run <= MAX_NAME && matches!(reached, Reached::Inside)
 }
 
-/// So many bytes or fewer have no more than 256 names, as each takes a slash.
-const FEW: usize = 255;
+/// So many bytes or fewer have no more than 256 names, as each takes a byte and a slash.
+const FEW: usize = 2 * MAX_COMPONENTS;
 
-/// Whether bytes are short enough for a path, and have few enough slashes.
+/// Whether bytes are short enough for a path, and have few enough slashes behind a first one.
 pub(crate) fn is_within_limits(bytes: &[u8]) -> bool
     ensures short { OnTrue result (length bytes.now ≤ 4096) }
-    ensures few { OnTrue result (length (split 47 bytes.now) ≤ 256) }
+    ensures few { OnTrue result (length (kept_parts bytes.now) ≤ 256) }
 {
-    bytes.len() <= FEW || bytes.len() <= MAX_PATH && count_slashes(bytes) < MAX_COMPONENTS
+    bytes.len() <= FEW
+        || bytes.len() <= MAX_PATH && count_slashes(without_first_slash(bytes)) < MAX_COMPONENTS
 }
