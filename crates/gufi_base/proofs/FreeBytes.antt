@@ -1,6 +1,6 @@
 -- Bytes sought in blocks.
-use Rattle.std.proofs.Common.{◌≡◌, ℕ, ◌+◌, ◌-◌, ◌*◌, ◌%◌, ◌^◌, ◌≤◌, Bool, true, false, not, ◌&&◌, cond, eqb, List, [], ◌∷◌, length, take, drop, map, replicate, bit_or, refl, sym, ap, ◌∙◌, arith, ⊎_elim}
-use Rattle.std.specs.List.{list_all}
+use Rattle.std.proofs.Common.{◌≡◌, ℕ, ◌+◌, ◌-◌, ◌*◌, ◌%◌, ◌^◌, ◌≤◌, Bool, true, false, not, ◌&&◌, ◌||◌, cond, eqb, List, [], ◌∷◌, length, take, drop, map, replicate, bit_or, refl, sym, ap, ◌∙◌, arith, ⊎_elim}
+use Rattle.std.specs.List.{list_all, list_any}
 use Rattle.std.proofs.lemmas.Bool.{true≢false, cases_eq, eq-eqb, ne_eqb}
 use Rattle.std.proofs.lemmas.List.{take_all, take-append-drop, length-drop, length-map}
 use Rattle.std.proofs.lemmas.List.Folds.{list_all-append}
@@ -89,3 +89,12 @@ once false b = refl
 pub newline_once : (xs : List ℕ) → list_all (is_path_byte_but 10) xs ≡ list_all is_path_byte xs
 newline_once [] = refl
 newline_once (x ∷ xs) = λ i. once (not (eqb x 0)) (not (eqb x 10)) i && newline_once xs i
+
+-- some byte is not free where not all are
+pub any_not : (p : ℕ → Bool) (xs : List ℕ) → list_any (λ x. not (p x)) xs ≡ not (list_all p xs)
+any_not p [] = refl
+any_not p (x ∷ xs) = ap (λ b. not (p x) || b) (any_not p xs) ∙ neither_all (p x) (list_all p xs)
+  where
+    neither_all : (a b : Bool) → (not a || not b) ≡ not (a && b)
+    neither_all true b = refl
+    neither_all false b = refl

@@ -99,6 +99,11 @@ kept_names (part ∷ parts) clean dots long =
 abbrev pub is_too_large : List ℕ → Bool
 is_too_large bytes = nat_lt max_path (length bytes) || list_any (λ name. nat_lt max_name (length name)) (kept_parts bytes) || nat_lt max_components (length (kept_parts bytes))
 
+-- what was found by one look at the parts
+pub large_by_parts : (bytes : List ℕ) (long : Bool) (count : ℕ) → long ≡ list_any (λ name. nat_lt max_name (length name)) (kept_parts bytes) → count ≡ length (kept_parts bytes)
+    → (nat_lt max_path (length bytes) || long || nat_lt max_components count) ≡ is_too_large bytes
+large_by_parts bytes long count e f = λ i. nat_lt max_path (length bytes) || e i || nat_lt max_components (f i)
+
 -- where no fault holds, the parts are names
 pub kept_parts_named : (bytes : List ℕ) → list_any (bytes_eq dot_dot) (kept_parts bytes) ≡ false → list_any (λ b. not (is_path_byte b)) bytes ≡ false → is_too_large bytes ≡ false → list_all is_name (kept_parts bytes) ≡ true
 kept_parts_named bytes dots bad large =

@@ -7,6 +7,7 @@ ghost use Rattle.gufi_base.specs.Names.{dot_dot, is_path_byte};
 ghost use Rattle.gufi_base.specs.Paths.{is_dropped, kept_parts, read_path};
 ghost use Rattle.gufi_base.specs.PathTexts.{kept_text, names, IsText};
 
+use crate::bytes::are_path_bytes;
 use crate::path::PathFault;
 use crate::piece::pieces_of;
 use std::alloc::{AllocError, Global};
@@ -23,39 +24,47 @@ fn is_kept(part: &[u8]) -> bool
     !(part.is_empty() || part == b".".as_slice())
 }
 
-fn has_dot_dot(bytes: &[u8]) -> bool
-    ensures { result ≡ list_any (bytes_eq dot_dot) (kept_parts bytes.now) }
-{
-    pieces_of(bytes, b"/")
-        .filter(|part| is_kept(part))
-        .any(|part| b"..".as_slice() == part)
-}
-
 fn has_bad_byte(bytes: &[u8]) -> bool
     ensures { result ≡ list_any (λ b. not (is_path_byte b)) bytes.now }
 {
-    bytes.iter().any(|b| !(*b != 0 && *b != b'\n'))
+    !are_path_bytes(bytes)
 }
 
-fn has_long_name(bytes: &[u8]) -> bool
-    ensures { result ≡ list_any (λ name. nat_lt max_name (length name)) (kept_parts bytes.now) }
-{
-    pieces_of(bytes, b"/")
-        .filter(|part| is_kept(part))
-        .any(|part| part.len() > MAX_NAME)
+/// What the names in some bytes are like.
+#[derive(Clone, Copy)]
+struct Parts {
+    dot_dot: bool,
+    long_name: bool,
+    count: usize,
 }
 
-fn count_names(bytes: &[u8]) -> usize
-    requires { length bytes.now ≤ 4096 }
-    ensures { result ≡ length (kept_parts bytes.now) }
+/// Looks at each name once.
+fn parts_of(bytes: &[u8]) -> Parts
+    ensures dot_dot { result.dot_dot ≡ list_any (bytes_eq dot_dot) (kept_parts bytes.now) }
+    ensures long_name { result.long_name ≡ list_any (λ name. nat_lt max_name (length name)) (kept_parts bytes.now) }
+    ensures count { result.count ≡ length (kept_parts bytes.now) }
 {
-    pieces_of(bytes, b"/").filter(|part| is_kept(part)).count()
+    let mut dot_dot = false;
+    let mut long_name = false;
+    let mut count = 0;
+    for part in pieces_of(bytes, b"/") {
+        if is_kept(part) {
+            dot_dot = dot_dot || b"..".as_slice() == part;
+            long_name = long_name || part.len() > MAX_NAME;
+            count += 1;
+        }
+    }
+    Parts {
+        dot_dot,
+        long_name,
+        count,
+    }
 }
 
-fn is_too_large(bytes: &[u8]) -> bool
-    ensures { result ≡ nat_lt max_path (length bytes.now) || list_any (λ name. nat_lt max_name (length name)) (kept_parts bytes.now) || nat_lt max_components (length (kept_parts bytes.now)) }
+fn is_too_large(bytes: &[u8], parts: &Parts) -> bool
+    ensures { result ≡ nat_lt max_path (length bytes.now) || parts.now.long_name || nat_lt max_components parts.now.count }
 {
-    bytes.len() > MAX_PATH || has_long_name(bytes) || count_names(bytes) > MAX_COMPONENTS
+    bytes.len() > MAX_PATH || parts.long_name || parts.count > MAX_COMPONENTS
 }
 
 /// The bytes behind a first slash.
@@ -101,13 +110,14 @@ pub(crate) fn text_of_parts(alloc: Global, bytes: &[u8]) -> Result<Vec<u8>, Path
         (λ text. IsText text.items × (read_path bytes.now ≡ Ok (names text.items)))
         (λ fault. fault ≢ PathFault.Memory → read_path bytes.now ≡ Err fault) }
 {
-    if has_dot_dot(bytes) {
+    let parts = parts_of(bytes);
+    if parts.dot_dot {
         return Err(PathFault::DotDot);
     }
     if has_bad_byte(bytes) {
         return Err(PathFault::BadByte);
     }
-    if is_too_large(bytes) {
+    if is_too_large(bytes, &parts) {
         return Err(PathFault::LongName);
     }
     let text = text_of(alloc, bytes)?;
