@@ -8,6 +8,7 @@ use crate::summary::Summary;
 use gufi_base::u32_of;
 use std::alloc::{AllocError, Global};
 use std::marker::Model;
+use std::mem;
 use std::sync::Arc;
 
 /// How many sums a block has before the next one begins.
@@ -100,10 +101,20 @@ fn make_room(
     if last.len() < ENOUGH {
         return Ok(());
     }
-    let block = Block::of(alloc, last)?;
-    blocks.push(Arc::new(alloc, block)?)?;
-    last.clear();
-    Ok(())
+    last.shrink_to_fit();
+    let fresh = Vec::with_capacity(alloc, ENOUGH)?;
+    blocks.reserve(1)?;
+    let sums = mem::replace(last, fresh);
+    match Arc::new(alloc, Block { sums }) {
+        Ok(block) => {
+            blocks.push_reserved(block);
+            Ok(())
+        }
+        Err(failed) => {
+            *last = failed.value.sums;
+            Err(AllocError)
+        }
+    }
 }
 
 /// Puts a sum behind those of the last block.

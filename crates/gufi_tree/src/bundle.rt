@@ -14,6 +14,15 @@ use gufi_base::{Extras, Meta, PathRef, RecRef, put_extras, u16_of, u32_of};
 use std::alloc::{AllocError, Global};
 use std::marker::Model;
 
+/// So many directories or entries are kept in most bundles, or fewer.
+const USUAL_ROWS: usize = 1024;
+
+/// So many bytes are kept in most bundles, or fewer.
+const USUAL_TEXT: usize = 65536;
+
+/// One part in so many is asked for beyond what the bundle before took.
+const SPARE: usize = 32;
+
 /// An entry: its record, and where its name and behind it its link stand in a text, by their lengths in bytes. Names of extended
 /// attributes and an access control list stand behind the link, where there are any. It has 88 bytes.
 #[derive(Clone, Copy)]
@@ -122,7 +131,7 @@ fn push_rows(rows: &mut Vec<Packed>, entries: &[PlacedRow], base: u32) -> Result
 {
     rows.reserve(entries.len())?;
     for row in entries {
-        rows.push(shifted(&row.packed, base))?;
+        rows.push_reserved(shifted(&row.packed, base));
     }
     Ok(())
 }
@@ -173,6 +182,11 @@ fn pack_directory(
         count,
         extras,
     })
+}
+
+/// Room for so many and a few more, as far as that is usual.
+fn room_for(count: usize, usual: usize) -> usize {
+    count.min(usual).saturating_add(count.min(usual) / SPARE)
 }
 
 impl Bundle {
@@ -251,13 +265,24 @@ impl Bundle {
         })
     }
 
-    /// Gives up all directories and keeps the memory.
-    pub(crate) fn clear(&mut self)
-        ensures { self.new ≡ [] }
+    /// No directory, and room for about as much as this bundle holds, but not for what a large directory takes.
+    pub(crate) fn next(&self, alloc: Global) -> Result<Bundle, AllocError>
+        ensures { IfOk result (λ next. next ≡ []) }
     {
-        self.heads.clear();
-        self.rows.clear();
-        self.text.clear();
-        self.longest = 0;
+        Ok(Bundle {
+            heads: Vec::with_capacity(alloc, room_for(self.heads.len(), USUAL_ROWS))?,
+            text: Vec::with_capacity(alloc, room_for(self.text.len(), USUAL_TEXT))?,
+            rows: Vec::with_capacity(alloc, room_for(self.rows.len(), USUAL_ROWS))?,
+            longest: 0,
+        })
+    }
+
+    /// Gives back the memory in which nothing stands.
+    pub(crate) fn shrink(&mut self)
+        ensures { self.new ≡ self.old }
+    {
+        self.heads.shrink_to_fit();
+        self.rows.shrink_to_fit();
+        self.text.shrink_to_fit();
     }
 }

@@ -18,6 +18,7 @@ use gufi_base::{PathRef, RecRef, text_cmp, u32_of};
 use std::alloc::{AllocError, Global};
 use std::cmp::Ordering;
 use std::marker::Model;
+use std::mem;
 use std::sync::Arc;
 
 /// How many directories and entries a bundle has before the next one begins: few, so that little is copied where it is changed.
@@ -79,7 +80,7 @@ fn share_bundles(
     Ok(again)
 }
 
-/// Puts the last bundle's directories behind the other bundles, in as much memory as they take, and begins the last one anew.
+/// Puts the last bundle behind the others, in as much memory as it takes, and begins the last one anew. Nothing is copied.
 fn close_last(
     alloc: Global,
     bundles: &mut Vec<Arc<Bundle, Global>>,
@@ -87,10 +88,20 @@ fn close_last(
 ) -> Result<(), AllocError>
     ensures { Keep (lists_of bundles.old.items last.old) (lists_of bundles.new.items last.new) }
 {
-    let copy = last.copy(alloc)?;
-    bundles.push(Arc::new(alloc, copy)?)?;
-    last.clear();
-    Ok(())
+    last.shrink();
+    let next = last.next(alloc)?;
+    bundles.reserve(1)?;
+    let full = mem::replace(last, next);
+    match Arc::new(alloc, full) {
+        Ok(bundle) => {
+            bundles.push_reserved(bundle);
+            Ok(())
+        }
+        Err(failed) => {
+            *last = failed.value;
+            Err(AllocError)
+        }
+    }
 }
 
 /// Begins the last bundle anew where it has enough.

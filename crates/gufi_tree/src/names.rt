@@ -9,10 +9,12 @@ ghost use Rattle.gufi_tree.specs.Tree.{entry_cmp};
 
 use crate::likely::move_to;
 use crate::pending::PlacedRow;
+use gufi_base::common_front;
 use std::alloc::{AllocError, Global};
+use std::cmp::Ordering;
 
 /// So many entries are sorted where they stand.
-const FEW: usize = 20;
+const FEW: usize = 10;
 
 /// The name of an entry, as far as it lies in the text.
 #[inline]
@@ -32,11 +34,55 @@ pub(crate) fn rise(text: &[u8], rows: &[PlacedRow]) -> bool
     rows.is_sorted_by(|a, b| name_of(text, a).cmp(name_of(text, b)).is_lt())
 }
 
-/// The name of an entry, and where the entry stands.
+/// The name of an entry behind what all names share, its first bytes as a number, and where the entry stands.
 #[derive(Clone, Copy)]
 struct Named<'a> {
+    front: u64,
     name: &'a [u8],
     place: u32,
+}
+
+/// How many bytes all names begin with alike.
+fn shared_front(text: &[u8], rows: &[PlacedRow]) -> usize {
+    let Some(row) = rows.first() else {
+        return 0;
+    };
+    let first = name_of(text, row);
+    let mut shared = first.len();
+    for row in rows {
+        if shared == 0 {
+            break;
+        }
+        shared = shared.min(common_front(first, name_of(text, row)));
+    }
+    shared
+}
+
+/// Fewer than eight bytes as a number, the first one foremost, with zeros behind them.
+fn short_front(name: &[u8]) -> u64 {
+    let mut front = [0u8; 8];
+    for (to, byte) in front.iter_mut().zip(name) {
+        *to = *byte;
+    }
+    u64::from_be_bytes(front)
+}
+
+/// The first eight bytes of a name as a number: where these differ for two names, so do the names, in the same order.
+#[inline]
+fn front_of(name: &[u8]) -> u64 {
+    match name.first_chunk::<8>() {
+        Some(front) => u64::from_be_bytes(*front),
+        None => short_front(name),
+    }
+}
+
+/// The order of two names.
+#[inline]
+fn named_cmp(a: &Named<'_>, b: &Named<'_>) -> Ordering {
+    if a.front != b.front {
+        return a.front.cmp(&b.front);
+    }
+    a.name.cmp(b.name)
 }
 
 /// The names of entries in order.
@@ -45,13 +91,16 @@ fn names_of<'a>(
     text: &'a [u8],
     rows: &[PlacedRow],
 ) -> Result<Vec<Named<'a>>, AllocError> {
+    let shared = shared_front(text, rows);
     let mut names = Vec::with_capacity(alloc, rows.len())?;
     for (place, row) in rows.iter().enumerate() {
         let name = name_of(text, row);
+        let name = &name[shared.min(name.len())..];
+        let front = front_of(name);
         let place = u32::try_from(place).unwrap_or(0);
-        names.push(Named { name, place })?;
+        names.push(Named { front, name, place })?;
     }
-    names.sort_unstable_by(|a, b| a.name.cmp(b.name));
+    names.sort_unstable_by(|a, b| named_cmp(a, b));
     Ok(names)
 }
 
@@ -81,10 +130,15 @@ fn move_likely(alloc: Global, text: &[u8], rows: &mut Vec<PlacedRow>)
     }
 }
 
-/// Puts entries in rising name order.
-pub(crate) fn order_names(alloc: Global, text: &[u8], rows: &mut Vec<PlacedRow>)
-    ensures { IsPermutation rows.old.items rows.new.items }
+/// Puts entries in rising name order, and tells whether no two have one name.
+pub(crate) fn order_names(alloc: Global, text: &[u8], rows: &mut Vec<PlacedRow>) -> bool
+    ensures order { IsPermutation rows.old.items rows.new.items }
+    ensures distinct { IsTrue result → IsTrue (ascends entry_cmp (entries_of (map (placed_in text.now) rows.new.items))) }
 {
     move_likely(alloc, text, rows);
+    if rise(text, rows.as_slice()) {
+        return true;
+    }
     rows.sort_unstable_by(|a, b| name_of(text, a).cmp(name_of(text, b)));
+    rise(text, rows.as_slice())
 }

@@ -102,8 +102,7 @@ impl Pending {
         if rise(self.text.as_slice(), self.rows.as_slice()) {
             return true;
         }
-        order_names(alloc, self.text.as_slice(), &mut self.rows);
-        rise(self.text.as_slice(), self.rows.as_slice())
+        order_names(alloc, self.text.as_slice(), &mut self.rows)
     }
 
     /// Adds the numbers of the entries.
