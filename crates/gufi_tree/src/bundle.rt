@@ -13,15 +13,7 @@ use crate::pending::{Pending, PlacedRow};
 use gufi_base::{Extras, Meta, PathRef, RecRef, put_extras, u16_of, u32_of};
 use std::alloc::{AllocError, Global};
 use std::marker::Model;
-
-/// So many directories or entries are kept in most bundles, or fewer.
-const USUAL_ROWS: usize = 1024;
-
-/// So many bytes are kept in most bundles, or fewer.
-const USUAL_TEXT: usize = 65536;
-
-/// One part in so many is asked for beyond what the bundle before took.
-const SPARE: usize = 32;
+use std::mem;
 
 /// An entry: its record, and where its name and behind it its link stand in a text, by their lengths in bytes. Names of extended
 /// attributes and an access control list stand behind the link, where there are any. It has 88 bytes.
@@ -184,11 +176,6 @@ fn pack_directory(
     })
 }
 
-/// Room for so many and a few more, as far as that is usual.
-fn room_for(count: usize, usual: usize) -> usize {
-    count.min(usual).saturating_add(count.min(usual) / SPARE)
-}
-
 impl Bundle {
     /// No directory. Takes no memory.
     pub(crate) fn new(alloc: Global) -> Bundle
@@ -265,24 +252,31 @@ impl Bundle {
         })
     }
 
-    /// No directory, and room for about as much as this bundle holds, but not for what a large directory takes.
-    pub(crate) fn next(&self, alloc: Global) -> Result<Bundle, AllocError>
-        ensures { IfOk result (λ next. next ≡ []) }
+    /// Gives up all directories as a bundle that takes no more memory than it must. Entries, which are most of it, aren't copied.
+    pub(crate) fn take(&mut self, alloc: Global) -> Result<Bundle, AllocError>
+        ensures taken { IfOk result (λ full. full ≡ self.old) }
+        ensures emptied { OnOk result (self.new ≡ []) }
+        ensures unchanged { OnErr result (self.new ≡ self.old) }
     {
+        self.rows.shrink_to_fit();
+        let heads = Vec::from_slice(alloc, self.heads.as_slice())?;
+        let text = Vec::from_slice(alloc, self.text.as_slice())?;
+        let rows = mem::replace(&mut self.rows, Vec::new(alloc));
+        let longest = mem::replace(&mut self.longest, 0);
+        self.heads.clear();
+        self.text.clear();
         Ok(Bundle {
-            heads: Vec::with_capacity(alloc, room_for(self.heads.len(), USUAL_ROWS))?,
-            text: Vec::with_capacity(alloc, room_for(self.text.len(), USUAL_TEXT))?,
-            rows: Vec::with_capacity(alloc, room_for(self.rows.len(), USUAL_ROWS))?,
-            longest: 0,
+            heads,
+            rows,
+            text,
+            longest,
         })
     }
 
-    /// Gives back the memory in which nothing stands.
-    pub(crate) fn shrink(&mut self)
+    /// Makes room for so many entries more.
+    pub(crate) fn make_room(&mut self, count: usize) -> Result<(), AllocError>
         ensures { self.new ≡ self.old }
     {
-        self.heads.shrink_to_fit();
-        self.rows.shrink_to_fit();
-        self.text.shrink_to_fit();
+        self.rows.reserve_exact(count)
     }
 }

@@ -18,11 +18,13 @@ use gufi_base::{PathRef, RecRef, text_cmp, u32_of};
 use std::alloc::{AllocError, Global};
 use std::cmp::Ordering;
 use std::marker::Model;
-use std::mem;
 use std::sync::Arc;
 
 /// How many directories and entries a bundle has before the next one begins: few, so that little is copied where it is changed.
 const ENOUGH: usize = 512;
+
+/// Most bundles have fewer entries: those that have more end with a large directory.
+const USUAL: usize = 2 * ENOUGH;
 
 /// The number of a bundle, and which of its directories.
 #[derive(Clone, Copy)]
@@ -80,7 +82,7 @@ fn share_bundles(
     Ok(again)
 }
 
-/// Puts the last bundle behind the others, in as much memory as it takes, and begins the last one anew. Nothing is copied.
+/// Puts the last bundle's directories behind the other bundles, in as much memory as they take, and begins the last one anew.
 fn close_last(
     alloc: Global,
     bundles: &mut Vec<Arc<Bundle, Global>>,
@@ -88,14 +90,14 @@ fn close_last(
 ) -> Result<(), AllocError>
     ensures { Keep (lists_of bundles.old.items last.old) (lists_of bundles.new.items last.new) }
 {
-    last.shrink();
-    let next = last.next(alloc)?;
+    let room = last.rows().min(USUAL);
     bundles.reserve(1)?;
-    let full = mem::replace(last, next);
+    let full = last.take(alloc)?;
     match Arc::new(alloc, full) {
         Ok(bundle) => {
             bundles.push_reserved(bundle);
-            Ok(())
+            // Asked for behind all else, so that what isn't used of it is cut off at the heap's end.
+            last.make_room(room)
         }
         Err(failed) => {
             *last = failed.value;
