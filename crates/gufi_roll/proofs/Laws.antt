@@ -248,13 +248,14 @@ module _ (tree : List Directory) (shape : HasTreeShape tree) (k : ℕ) (lt : k <
       let all = ap (λ (vs : List DirId). length (flat_map under vs)) are in
       omega (arith, h, few, part, whole, all, kid_length d, rows_below-few tree shape (path_at tree k))
 
-  pub kid_cover : (d : Directory) (b : Below) (covered : Bool) → covered ≡ list_all (kid_covered tree k d) (take i ids)
-      → (covered && ((get_or found id.0 b).covered && covers (rights_of (get_or tree k d).rec) (rights_of (get_or tree id.0 d).rec))) ≡ list_all (kid_covered tree k d) (take (i + 1) ids)
-  kid_cover d b covered e =
+  pub kid_cover : (d : Directory) (b : Below) (covered : Bool) (parent : Rights) → parent ≡ rights_of (get_or tree k d).rec → covered ≡ list_all (kid_covered tree k d) (take i ids)
+      → (covered && ((get_or found id.0 b).covered && covers parent (rights_of (get_or tree id.0 d).rec))) ≡ list_all (kid_covered tree k d) (take (i + 1) ids)
+  kid_cover d b covered parent same e =
       let answer : Bool = (get_or found id.0 b).covered && covers (rights_of (get_or tree k d).rec) (rights_of (get_or tree id.0 d).rec) in
       let here : answer ≡ kid_covered tree k d (get_or ids i id) =
       ap (λ c. c && covers (rights_of (get_or tree k d).rec) (rights_of (get_or tree id.0 d).rec)) (kid_below b).covered ∙ ap (kid_covered tree k d) is in
-      ap (λ c. c && answer) e ∙ ap (λ c. list_all (kid_covered tree k d) (take i ids) && c) here ∙ sym (list_all_more (kid_covered tree k d) ids i id in')
+      ap (λ r. covered && ((get_or found id.0 b).covered && covers r (rights_of (get_or tree id.0 d).rec))) same
+      ∙ ap (λ c. c && answer) e ∙ ap (λ c. list_all (kid_covered tree k d) (take i ids) && c) here ∙ sym (list_all_more (kid_covered tree k d) ids i id in')
 
 -- what is found of a directory
 pub below_is : (tree : List Directory) (shape : HasTreeShape tree) (k : ℕ) (d : Directory) (ids : List DirId) (i rows : ℕ) (covered : Bool) → k < length tree → ids ≡ child_ids tree (path_at tree k) → length ids ≤ i

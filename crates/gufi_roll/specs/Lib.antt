@@ -1,2 +1,3 @@
 pub mod CanRoll
 pub mod Below
+pub mod Memo

@@ -7,8 +7,8 @@ ghost use Rattle.gufi_access.specs.Tried.{covers};
 ghost use Rattle.gufi_tree.specs.Tree.{Directory, rights_of};
 ghost use Rattle.gufi_roll.specs.Below.{IsBelow, AreBelow};
 
+use crate::memo::{Compared, Memo, are_alike};
 use gufi_access::{Guard, covers};
-use gufi_base::same_bytes;
 use gufi_tree::{DirId, Tree};
 use std::alloc::{AllocError, Global};
 
@@ -36,43 +36,59 @@ fn is_open(guard: &Guard<'_>) -> bool
     owner & group & other & guard.acl.is_empty()
 }
 
-/// Whether two guards say the same.
-fn are_alike(a: &Guard<'_>, b: &Guard<'_>) -> bool
-    ensures { IsTrue result → rights a.now ≡ rights b.now }
+/// Whether it is seen at once that a guard covers another: everyone may list the other, or the two are alike.
+fn covers_plainly(parent: &Guard<'_>, child: &Guard<'_>) -> bool
+    ensures { IsTrue result → covers (rights parent.now) (rights child.now) ≡ true }
 {
-    a.uid == b.uid && a.gid == b.gid && a.mode == b.mode && same_bytes(a.acl, b.acl)
+    is_open(child) || are_alike(parent, child)
 }
 
-/// Whether a guard covers another; that isn't tried where the two are alike or everyone may list the other.
+/// Whether a guard covers another; that isn't tried where it is seen at once.
 pub(crate) fn covers_next(parent: &Guard<'_>, child: &Guard<'_>) -> bool
     ensures { result ≡ covers (rights parent.now) (rights child.now) }
 {
-    if is_open(child) {
-        return true;
-    }
-    are_alike(parent, child) || covers(parent, child)
+    covers_plainly(parent, child) || covers(parent, child)
+}
+
+/// The same of a guard beside which others were compared; what isn't seen at once is looked up there.
+fn covers_known<'a>(above: &mut Compared<'a>, child: &Guard<'a>) -> bool
+    ensures value { result ≡ covers (rights above.old.parent) (rights child.now) }
+    ensures parent { rights above.new.parent ≡ rights above.old.parent }
+{
+    covers_plainly(&above.parent, child) || above.covers(child)
 }
 
 /// Whether a subdirectory and all below it is covered.
-fn is_child_covered(tree: &Tree, id: DirId, child: DirId, below: &Below) -> bool
-    requires parent { id.0 < length tree.now }
-    requires child { child.0 < length tree.now }
-    ensures { (d : Directory) → result ≡ (below.now.covered && covers (rights_of (slice_index_or tree.now id.0 d).rec) (rights_of (slice_index_or tree.now child.0 d).rec)) }
+fn is_child_covered<'a>(
+    tree: &'a Tree,
+    above: &mut Compared<'a>,
+    child: DirId,
+    below: &Below,
+) -> bool
+    requires { child.0 < length tree.now }
+    ensures value { (d : Directory) → result ≡ (below.now.covered && covers (rights above.old.parent) (rights_of (slice_index_or tree.now child.0 d).rec)) }
+    ensures parent { rights above.new.parent ≡ rights above.old.parent }
 {
-    below.covered && covers_next(&tree.guard(id), &tree.guard(child))
+    below.covered && covers_known(above, &tree.guard(child))
 }
 
 /// Whether subdirectories are covered so far, and the next one and all below it too. That isn't looked at where one before it isn't.
-fn stay_covered(so_far: bool, tree: &Tree, id: DirId, child: DirId, below: &Below) -> bool
-    requires parent { id.0 < length tree.now }
-    requires child { child.0 < length tree.now }
-    ensures { (d : Directory) → result ≡ (so_far && (below.now.covered && covers (rights_of (slice_index_or tree.now id.0 d).rec) (rights_of (slice_index_or tree.now child.0 d).rec))) }
+fn stay_covered<'a>(
+    so_far: bool,
+    tree: &'a Tree,
+    above: &mut Compared<'a>,
+    child: DirId,
+    below: &Below,
+) -> bool
+    requires { child.0 < length tree.now }
+    ensures value { (d : Directory) → result ≡ (so_far && (below.now.covered && covers (rights above.old.parent) (rights_of (slice_index_or tree.now child.0 d).rec))) }
+    ensures parent { rights above.new.parent ≡ rights above.old.parent }
 {
-    so_far && is_child_covered(tree, id, child, below)
+    so_far && is_child_covered(tree, above, child, below)
 }
 
 /// What is at and below a directory, from what is below the directories behind it.
-fn below_of(tree: &Tree, id: DirId, found: &[Below]) -> Below
+fn below_of<'a>(tree: &'a Tree, id: DirId, found: &[Below], memo: &mut Memo<'a>) -> Below
     requires within { id.0 < length tree.now }
     requires behind { AreBelow tree.now (id.0 + 1) found.now }
     ensures { IsBelow tree.now id.0 result }
@@ -81,11 +97,17 @@ fn below_of(tree: &Tree, id: DirId, found: &[Below]) -> Below
     let _count = tree.dirs();
     let mut rows = tree.entries(id).len() as u64 + 1;
     let mut covered = true;
-    for child in tree.subdirs(id) {
+    let children = tree.subdirs(id);
+    if children.is_empty() {
+        return Below { rows, covered };
+    }
+    let mut above = memo.beside(&tree.guard(id));
+    for child in children {
         let below = &found[child.0 as usize];
         rows += below.rows;
-        covered = stay_covered(covered, tree, id, *child, below);
+        covered = stay_covered(covered, tree, &mut above, *child, below);
     }
+    memo.keep(above);
     Below { rows, covered }
 }
 
@@ -99,10 +121,11 @@ pub(crate) fn all_below(alloc: Global, tree: &Tree) -> Result<Vec<Below>, AllocE
         covered: true,
     };
     let mut found = Vec::from_elem(alloc, unknown, count as usize)?;
+    let mut memo = Memo::new(alloc);
     let mut left = count;
     while left > 0 {
         left -= 1;
-        let below = below_of(tree, DirId(left), found.as_slice());
+        let below = below_of(tree, DirId(left), found.as_slice(), &mut memo);
         found[left as usize] = below;
     }
     Ok(found)

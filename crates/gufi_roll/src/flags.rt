@@ -11,7 +11,8 @@ use std::alloc::{AllocError, Global};
 
 /// Which directories are rolled up where a roll-up may have so many rows: a flag for each directory, in path order.
 ///
-/// Linear in the directories: each parent and child are compared once. Under limit 0 nothing is looked at: each has a row.
+/// Linear in the directories: each parent and child are looked at once, and a pair of access control lists that was compared
+/// mostly isn't compared again. Under limit 0 nothing is looked at: each has a row.
 pub fn roll(alloc: Global, tree: &Tree, limit: u64) -> Result<Vec<bool>, Memory>
     ensures value { IfOk result (λ flags. flags.items ≡ roll_flags tree.now limit) }
     ensures known { IfOk result (λ flags. AreFlags tree.now flags.items) }

@@ -7,6 +7,7 @@
 mod below;
 mod flags;
 mod known;
+mod memo;
 mod report;
 
 pub use flags::roll;
