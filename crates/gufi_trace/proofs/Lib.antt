@@ -13,6 +13,7 @@ pub mod RowsBack
 pub mod TreeBack
 pub mod TraceBack
 pub mod FirstParts
+pub mod NearEnds
 pub mod Writes
 pub mod Checks
 pub mod SoundLines

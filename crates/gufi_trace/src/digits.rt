@@ -1,6 +1,6 @@
 //! Decimal numbers, two digits at a time: for speed alone, since the exact readers stand behind.
 
-ghost use Rattle.std.specs.Prelude.{◌≡◌, ◌<◌, ◌≤◌, ◌+◌, true, false, length, slice_index_or, IfOk, IfSome, MatchOption};
+ghost use Rattle.std.specs.Prelude.{◌≡◌, ◌<◌, ◌≤◌, ◌+◌, ◌*◌, true, false, length, slice_index_or, IfOk, IfSome, MatchOption};
 ghost use Rattle.std.specs.Char.{is_digit, digit_value};
 ghost use Rattle.gufi_base.specs.Numbers.{NumberBefore};
 ghost use Rattle.gufi_base.proofs.Digits.{ReadsFront};
@@ -8,6 +8,7 @@ ghost use Rattle.gufi_trace.specs.Pairs.{pair_value};
 
 use std::alloc::{AllocError, Global};
 use std::marker::Model;
+use std::simd::prelude::*;
 
 /// How many pairs of bytes there are.
 const PAIRS: u32 = 65536;
@@ -23,6 +24,9 @@ const UNKNOWN: u8 = 255;
 
 /// At most so many digits are looked at: no such number wraps.
 const MOST_DIGITS: usize = 16;
+
+/// So many bytes hold nearly all numbers with their separator: those of ten digits, as times have, just so.
+const USUAL: usize = 11;
 
 /// What each two bytes are worth as decimal digits before a separator, at the first and 256 times the second.
 ///
@@ -54,6 +58,15 @@ fn digit_of(byte: u8) -> Option<u8>
     // A byte below the digits wraps to one far above them, so that one test is enough.
     let digit = byte.wrapping_sub(b'0');
     if digit < 10 { Some(digit) } else { None }
+}
+
+/// The byte at a place and 256 times the one behind it, both loaded at once.
+#[inline(always)]
+fn pair_at(text: &[u8], at: usize) -> u16
+    requires { at + 1 < length text.now }
+    ensures { result ≡ slice_index_or text.now at 0 + 256 * slice_index_or text.now (at + 1) 0 }
+{
+    u16x1::from_le_bytes(u8x2::from_slice(&text[at..])).to_array()[0]
 }
 
 fn value_of(separator: u8, first: u8, second: u8) -> u8
@@ -127,11 +140,41 @@ impl DigitPairs {
         self.separator
     }
 
+    /// What the two bytes at a place are worth.
     #[inline(always)]
-    fn value(&self, first: u8, second: u8) -> u8
-        ensures { result ≡ pair_value self.now first second }
+    fn value(&self, text: &[u8], at: usize) -> u8
+        requires { at + 1 < length text.now }
+        ensures { result ≡ pair_value self.now (slice_index_or text.now at 0) (slice_index_or text.now (at + 1) 0) }
     {
-        self.values[first as usize + 256 * second as usize]
+        self.values[pair_at(text, at) as usize]
+    }
+
+    /// The number that the digits among the first `most` bytes write, and where the separator stands behind them.
+    #[inline(always)]
+    fn number_within(&self, text: &[u8], most: usize) -> Option<(u64, usize)>
+        requires within { most ≤ length text.now }
+        requires few { most ≤ 16 }
+        ensures { IfSome result (λ found. NumberBefore self.now text.now found.0 found.1) }
+    {
+        let mut number: u64 = 0;
+        let mut at = 0;
+        'pairs: while at + 1 < most {
+            let value = self.value(text, at);
+            if value >= ONE_DIGIT {
+                return end_in_pair(self.separator, text, number, at, value);
+            }
+            number = number * 100 + u64::from(value);
+            at += 2;
+        }
+        end_behind(self.separator, text, number, at)
+    }
+
+    /// The same of so many of the first bytes as are looked at.
+    #[inline(never)]
+    fn number_in_front(&self, text: &[u8]) -> Option<(u64, usize)>
+        ensures { IfSome result (λ found. NumberBefore self.now text.now found.0 found.1) }
+    {
+        self.number_within(text, MOST_DIGITS.min(text.len()))
     }
 
     /// The number that decimal digits write before the first separator of a text, and where that stands.
@@ -141,16 +184,13 @@ impl DigitPairs {
     pub(crate) fn number_before(&self, text: &[u8]) -> Option<(u64, usize)>
         ensures { IfSome result (λ found. NumberBefore self.now text.now found.0 found.1) }
     {
-        let mut number: u64 = 0;
-        let mut at = 0;
-        'pairs: while at + 1 < MOST_DIGITS && at + 1 < text.len() {
-            let value = self.value(text[at], text[at + 1]);
-            if value >= ONE_DIGIT {
-                return end_in_pair(self.separator, text, number, at, value);
+        // Where so many bytes are there, only the digits end the loop.
+        if text.len() >= USUAL {
+            let found = self.number_within(text, USUAL);
+            if found.is_some() {
+                return found;
             }
-            number = number * 100 + u64::from(value);
-            at += 2;
         }
-        end_behind(self.separator, text, number, at)
+        self.number_in_front(text)
     }
 }

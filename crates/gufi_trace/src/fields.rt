@@ -1,6 +1,6 @@
 //! The fields of a line.
 
-ghost use Rattle.std.specs.Prelude.{◌≡◌, ◌+◌, ◌<◌, ◌==◌, length, drop, IfSome, option_map, position};
+ghost use Rattle.std.specs.Prelude.{◌≡◌, ◌+◌, ◌<◌, ◌==◌, length, drop, Some, IfSome, option_map, position};
 ghost use Rattle.std.specs.Iterator.{YieldsFirstRef};
 ghost use Rattle.gufi_base.specs.Basics.{split};
 ghost use Rattle.gufi_trace.specs.Reading.{Gives};
@@ -13,6 +13,7 @@ use crate::fault::{Refused, TraceKind};
 use gufi_base::{Kind, read_kind};
 use memchr::memchr;
 use std::marker::Model;
+use std::simd::prelude::*;
 
 fn end_of(text: &[u8], delim: u8) -> Option<usize>
     ensures { result ≡ position (λ b. b == delim) text.now }
@@ -25,6 +26,24 @@ fn behind(text: &[u8], at: usize) -> &[u8]
     ensures { result.now ≡ drop (at + 1) text.now }
 {
     &text[at + 1..]
+}
+
+/// The place of the first delimiter, where it is one of the first 64 bytes.
+#[inline(always)]
+fn near_end_of(text: &[u8], delim: u8) -> Option<usize>
+    ensures { IfSome result (λ at. Some at ≡ position (λ b. b == delim) text.now) }
+{
+    if text.len() < 64 {
+        return None;
+    }
+    let ends = u8x64::from_slice(text)
+        .simd_eq(u8x64::splat(delim))
+        .to_bitmask();
+    if ends == 0 {
+        None
+    } else {
+        Some(ends.trailing_zeros() as usize)
+    }
 }
 
 /// The parts of a text round each delimiter, in order.
@@ -75,7 +94,23 @@ impl<'a> Parts<'a> {
         }
     }
 
-    /// The same, quicker where nothing is left but an empty part, as where a line ends in an empty link.
+    /// The next part, quicker where it ends within 64 bytes, as most paths do.
+    #[inline(always)]
+    pub(crate) fn next_path(&mut self) -> Option<&'a [u8]>
+        ensures { YieldsFirstRef (λ parts. parts) self.old result self.new }
+    {
+        if self.is_done {
+            return None;
+        }
+        let rest = self.rest;
+        let Some(at) = near_end_of(rest, self.delim) else {
+            return self.next_part();
+        };
+        self.rest = behind(rest, at);
+        Some(&rest[..at])
+    }
+
+    /// The next part, quicker where nothing is left but an empty part, as where a line ends in an empty link.
     #[inline(always)]
     pub(crate) fn next_link(&mut self) -> Option<&'a [u8]>
         ensures { YieldsFirstRef (λ parts. parts) self.old result self.new }

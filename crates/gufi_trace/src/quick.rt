@@ -168,7 +168,7 @@ fn next_extras<'a>(parts: &mut Parts<'a>) -> Option<Extras<'a>>
 fn content_of<'a>(parts: &mut Parts<'a>, pairs: &DigitPairs) -> Option<Content<'a>>
     ensures { IfSome result (TakesContent parts.old) }
 {
-    let path = parts.next_part()?;
+    let path = parts.next_path()?;
     let meta = next_meta(parts, pairs)?;
     let link = parts.next_link()?;
     if link.len() > MAX_LINK || has_zero(link) {

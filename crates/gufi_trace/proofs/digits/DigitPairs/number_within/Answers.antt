@@ -1,16 +1,16 @@
-use Rattle.std.proofs.Common.{◌+◌, ◌*◌, ◌<◌, ◌≤◌, ◌^◌, ℕ, length, rules, sym, subst, arith}
+use Rattle.std.proofs.Common.{◌+◌, ◌*◌, ◌<◌, ◌≤◌, ◌^◌, ℕ, length, sym, subst, arith}
 use Rattle.gufi_base.proofs.Digits.{ReadsFront}
 use Rattle.gufi_trace.proofs.Pairs.{near, pair_more}
-use Rattle.gufi_trace.proofs.digits.DigitPairs.number_before.Goals as goal
+use Rattle.gufi_trace.proofs.digits.DigitPairs.number_within.Goals as goal
 
 pub overflow_mul-number : goal.overflow_mul-number
 overflow_mul-number c =
-    let low : c.pairs.at ≤ 14 = search rules in
+    let low : c.pairs.at ≤ 14 = omega (arith, c.requires.few) in
     let few : c.pairs.number < 10 ^ 14 = near c.pairs.number c.pairs.at c.pairs.invariant.front.small low in omega arith
 
 pub overflow_add-number : goal.overflow_add-number
 overflow_add-number c =
-    let low : c.pairs.at ≤ 14 = search rules in
+    let low : c.pairs.at ≤ 14 = omega (arith, c.requires.few) in
     let few : c.pairs.number < 10 ^ 14 = near c.pairs.number c.pairs.at c.pairs.invariant.front.small low in
     let value = c.from.ensures in
     let small = c.if-value-ge-ONE_DIGIT.false in
@@ -18,8 +18,8 @@ overflow_add-number c =
 
 pub pairs-preserved : goal.pairs-preserved
 pairs-preserved c =
-    let low : c.pairs.at + 2 ≤ 16 = search rules in
-    let within : c.pairs.at + 1 < length c.args.text.now = search rules in
+    let low : c.pairs.at + 2 ≤ 16 = omega (arith, c.requires.few) in
+    let within : c.pairs.at + 1 < length c.args.text.now = omega (arith, c.requires.within) in
     record {
       few = low;
       front = subst (λ (v : ℕ). ReadsFront c.args.text.now (c.pairs.number * 100 + v) (c.pairs.at + 2)) (sym c.from.ensures)

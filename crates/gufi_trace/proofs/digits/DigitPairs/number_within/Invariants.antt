@@ -1,6 +1,6 @@
 use Rattle.std.proofs.Common.{◌-◌, ◌≤◌}
 use Rattle.gufi_base.proofs.Digits.{ReadsFront}
-use Rattle.gufi_trace.proofs.digits.DigitPairs.number_before.Given as goal
+use Rattle.gufi_trace.proofs.digits.DigitPairs.number_within.Given as goal
 
 abbrev pub invariant-pairs : goal.invariant-pairs
 invariant-pairs l = record {
