@@ -1,8 +1,12 @@
 -- An image read in pieces.
-use Rattle.std.proofs.Common.{◌≡◌, ℕ, ◌+◌, ◌-◌, ◌≤◌, Bool, true, false, not, ◌&&◌, eqb, List, [], ◌∷◌, ◌++◌, length, length-append, append_assoc, Result, Ok, Err, refl, sym, ap, subst, ◌∙◌, arith}
-use Rattle.std.specs.Prelude.{Option, Some, None}
+use Rattle.std.proofs.Common.{◌≡◌, ℕ, ◌+◌, ◌-◌, ◌≤◌, Bool, true, false, not, ◌&&◌, eqb, List, [], ◌∷◌, ◌++◌, length, take, drop, length-append, append_assoc, Result, Ok, Err, refl, sym, ap, subst, ◌∙◌, arith}
+use Rattle.std.specs.Prelude.{Option, Some, None, OnOk, IfErr}
 use Rattle.std.proofs.lemmas.Bool.{and_parts}
-use Rattle.std.proofs.lemmas.List.{append-nil}
+use Rattle.std.specs.List.{ends_with}
+use Rattle.std.proofs.Math.Seq.{drop-append_seam}
+use Rattle.std.proofs.lemmas.Bool.Decides.{Decides-eqb}
+use Rattle.std.proofs.lemmas.List.{append-nil, take-append-drop, length-take-le, take_rest}
+use Rattle.std.proofs.lemmas.Slice.Eq.{ends_is}
 use Rattle.gufi_base.specs.Limits.{max_image}
 use Rattle.gufi_base.specs.Basics.{result_map_err, GivesUnless}
 use Rattle.gufi_tree.specs.Tree.{entry_count}
@@ -154,6 +158,67 @@ failed r next piece (errors.Fault offset kind) none is room fails bytes h short 
     ∙ ap (resume (next.room - length more) r.progress) (sym (append_assoc r.kept piece more))
     in
     ap (result_map_err (fault_in ((bytes ++ piece) ++ more))) read ∙ fails ((bytes ++ piece) ++ more) more (omega (arith, room, good.room, len, whole, fits)) (omega (arith, room, good.room, len, whole, fits)))
+
+-- What is read of some bytes is read of these and what stands behind them.
+module _ (room : ℕ) (p : Option Progress) (bytes behind : List ℕ) where
+  behind_them : (q : Option Progress) (front more : List ℕ) → length more ≤ room → resumed q front (room + length behind - length (behind ++ more)) (behind ++ more) ≡ resumed q (front ++ behind) (room - length more) more
+  behind_them q front more within =
+      let all = length-append behind more in
+      let left : room + length behind - length (behind ++ more) ≡ room - length more = omega (arith, all, within) in
+      ap (λ k. resume k q (front ++ (behind ++ more))) left ∙ ap (resume (room - length more) q) (sym (append_assoc front behind more))
+
+  pub alike_behind : (q : Option Progress) (kept : List ℕ) → Alike (room + length behind) (resumed p bytes) (resumed q kept) → Alike room (resumed p (bytes ++ behind)) (resumed q (kept ++ behind))
+  alike_behind q kept same more within =
+      let all = length-append behind more in
+      sym (behind_them p bytes more within) ∙ same (behind ++ more) (omega (arith, all, within)) ∙ behind_them q kept more within
+
+  pub fails_behind : (e : ImageError) → Fails (room + length behind) (resumed p bytes) e → Fails room (resumed p (bytes ++ behind)) e
+  fails_behind errors.Memory fails = tt
+  fails_behind (errors.Fault offset kind) fails = λ start more within whole.
+      let all = length-append behind more in
+      ap (result_map_err (fault_in start)) (sym (behind_them p bytes more within)) ∙ fails start (behind ++ more) (omega (arith, all, within)) (omega (arith, all, within, whole))
+
+-- what reads alike fails alike
+pub fails_alike : (room : ℕ) (p q : Option Progress) (bytes kept : List ℕ) (e : ImageError) → Alike room (resumed p bytes) (resumed q kept) → Fails room (resumed q kept) e → Fails room (resumed p bytes) e
+fails_alike room p q bytes kept errors.Memory same fails = tt
+fails_alike room p q bytes kept (errors.Fault offset kind) same fails = λ start more within whole.
+    ap (result_map_err (fault_in start)) (same more within) ∙ fails start more within whole
+
+-- a piece of which the first bytes were read
+module _ (room : ℕ) (p q : Option Progress) (kept first behind piece mid : List ℕ) (all : piece ≡ first ++ behind) where
+  joined : kept ++ piece ≡ (kept ++ first) ++ behind
+  joined = ap (λ (t : List ℕ). kept ++ t) all ∙ sym (append_assoc kept first behind)
+
+  -- a fault of them is one of the piece
+  pub fails_first : (e : ImageError) → Fails (room + length behind) (resumed p (kept ++ first)) e → Fails room (resumed p (kept ++ piece)) e
+  fails_first e fails = subst (λ (t : List ℕ). Fails room (resumed p t) e) (sym joined) (fails_behind room p (kept ++ first) behind e fails)
+
+  module _ (same : Alike (room + length behind) (resumed p (kept ++ first)) (resumed q mid)) (r : Result (Unit {0}) ImageError) where
+    piece_alike : Alike room (resumed p (kept ++ piece)) (resumed q (mid ++ behind))
+    piece_alike = subst (λ (t : List ℕ). Alike room (resumed p t) (resumed q (mid ++ behind))) (sym joined) (alike_behind room p (kept ++ first) behind q mid same)
+
+    pub same_piece : (s : Option Progress) (after : List ℕ) → OnOk r (Alike room (resumed q (mid ++ behind)) (resumed s after)) → OnOk r (Alike room (resumed p (kept ++ piece)) (resumed s after))
+    same_piece s after = by r where
+      by : (r : Result (Unit {0}) ImageError) → OnOk r (Alike room (resumed q (mid ++ behind)) (resumed s after)) → OnOk r (Alike room (resumed p (kept ++ piece)) (resumed s after))
+      by (Ok u) h = λ more within. piece_alike more within ∙ h more within
+      by (Err e) h = tt
+
+    pub fails_piece : IfErr r (Fails room (resumed q (mid ++ behind))) → IfErr r (Fails room (resumed p (kept ++ piece)))
+    fails_piece = by r where
+      by : (r : Result (Unit {0}) ImageError) → IfErr r (Fails room (resumed q (mid ++ behind))) → IfErr r (Fails room (resumed p (kept ++ piece)))
+      by (Ok u) h = tt
+      by (Err e) h = fails_alike room p q (kept ++ piece) (mid ++ behind) e piece_alike h
+
+-- bytes that end the first of a piece, with the others, are the piece from them on
+pub in_place : (piece kept end : List ℕ) (taken size : ℕ) → taken ≤ length piece → end ≡ kept → size ≡ length kept → ends_with eqb (take taken piece) end ≡ true
+    → take (length piece - (taken - size)) (drop (taken - size) piece) ≡ kept ++ drop taken piece
+in_place piece kept end taken size within is count ends =
+    let front = take (length (take taken piece) - length end) (take taken piece) in
+    let split : take taken piece ≡ front ++ end = (ends_is Decides-eqb (take taken piece) end true (sym ends)).0 refl in
+    let whole : take taken piece ≡ front ++ kept = split ∙ ap (λ (t : List ℕ). front ++ t) is in
+    let all : piece ≡ front ++ (kept ++ drop taken piece) = sym (take-append-drop taken piece) ∙ ap (λ (t : List ℕ). t ++ drop taken piece) whole ∙ append_assoc front kept (drop taken piece) in
+    let from : taken - size ≡ length front = omega (arith, count, length-take-le taken piece within, ap length whole, length-append front kept) in
+    take_rest piece (taken - size) ∙ ap (λ n. drop n piece) from ∙ ap (drop (length front)) all ∙ drop-append_seam front (kept ++ drop taken piece)
 
 -- the end
 pub finish_failed : (r : Reading) (e : ImageError) → r.failed ≡ Some e → (bytes : List ℕ) → HasRead r bytes → length bytes ≤ max_image → GivesUnless errors.Memory (Err e) (image_means bytes)

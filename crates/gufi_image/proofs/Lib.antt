@@ -1,6 +1,7 @@
 mod PathSizes
 mod Children
 mod Written
+mod Widest
 mod Repeats
 mod FieldsBack
 mod ShortAcls

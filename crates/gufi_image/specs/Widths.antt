@@ -47,3 +47,20 @@ tree_needs width tree = list_any (directory_needs width) tree
 -- the least width that holds a tree
 abbrev pub width_of : List Directory → Width
 width_of tree = if tree_needs Guarded tree then Guarded else if tree_needs Named tree then Named else Narrow
+
+-- the least width that holds lists or names, where there are some; and the wider of two
+abbrev pub least : Bool → Bool → Width
+least acls names = if acls then Guarded else if names then Named else Narrow
+
+abbrev pub wider : Width → Width → Width
+wider one other = least (has_acls one || has_acls other) (has_names one || has_names other)
+
+-- the least width that holds a record, entries, and a directory with its entries
+abbrev pub record_width : Rec → Width
+record_width rec = least (record_needs Guarded rec) (record_needs Named rec)
+
+abbrev pub entries_width : List Entry → Width
+entries_width entries = least (entries_need Guarded entries) (entries_need Named entries)
+
+abbrev pub directory_width : Directory → Width
+directory_width dir = least (directory_needs Guarded dir) (directory_needs Named dir)

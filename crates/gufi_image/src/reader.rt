@@ -1,6 +1,6 @@
 //! A snapshot from the bytes of its image, which come whole or in pieces.
 
-ghost use Rattle.std.specs.Prelude.{◌≡◌, ◌≤◌, ◌-◌, ◌++◌, [], ℕ, List, length, map, Some, Ok, IfOk, IfErr, OnOk};
+ghost use Rattle.std.specs.Prelude.{◌≡◌, ◌≤◌, ◌-◌, ◌++◌, [], ℕ, List, length, map, drop, Some, Ok, IfOk, IfErr, OnOk};
 ghost use Rattle.gufi_base.specs.Limits.{max_image};
 ghost use Rattle.gufi_base.specs.Basics.{GivesUnless};
 ghost use Rattle.gufi_tree.specs.Kept.{HasParents};
@@ -32,6 +32,9 @@ const MARK: usize = 6;
 
 /// How many bytes the version stands before the count of entries.
 const VERSION: usize = 14;
+
+/// How many bytes of a long piece are copied behind those that are kept. Most that is cut off ends within so many.
+const JOINED: usize = 8192;
 
 /// All directories with their flags, and the limit.
 #[derive(Drop)]
@@ -197,7 +200,54 @@ fn take_bytes(
     }
 }
 
-/// Reads on behind the bytes that are kept. Most pieces are copied behind them, and are then in the processor's caches.
+/// Reads on over the bytes that are kept and those behind them, joined.
+fn take_joined(
+    alloc: Global,
+    room: usize,
+    progress: &mut Option<Progress>,
+    kept: &mut Vec<u8>,
+    behind: &[u8],
+) -> Result<(), ImageError>
+    requires room { room ≤ max_image }
+    requires read { IsReadBy progress.old }
+    ensures read { OnOk result (IsReadBy progress.new) }
+    ensures same { OnOk result (Alike room (resumed progress.old (kept.old.items ++ behind.now)) (resumed progress.new kept.new.items)) }
+    ensures err { IfErr result (Fails room (resumed progress.old (kept.old.items ++ behind.now))) }
+{
+    let mut bytes = mem::replace(kept, Vec::new(alloc));
+    match bytes.extend_from_slice(behind) {
+        Ok(()) => take_bytes(alloc, room, progress, kept, bytes.as_slice()),
+        Err(_) => Err(ImageError::Memory),
+    }
+}
+
+/// Reads on in a piece of which so many bytes were read. Where those that are kept are the last of these, as they are unless what was cut off
+/// began before the piece, it is read from there on with no copy.
+fn take_behind(
+    alloc: Global,
+    room: usize,
+    progress: &mut Option<Progress>,
+    kept: &mut Vec<u8>,
+    piece: &[u8],
+    taken: usize,
+) -> Result<(), ImageError>
+    requires room { room ≤ max_image }
+    requires read { IsReadBy progress.old }
+    requires taken { taken ≤ length piece.now }
+    ensures read { OnOk result (IsReadBy progress.new) }
+    ensures same { OnOk result (Alike room (resumed progress.old (kept.old.items ++ drop taken piece.now)) (resumed progress.new kept.new.items)) }
+    ensures err { IfErr result (Fails room (resumed progress.old (kept.old.items ++ drop taken piece.now))) }
+{
+    if !piece[..taken].ends_with(kept.as_slice()) {
+        return take_joined(alloc, room, progress, kept, &piece[taken..]);
+    }
+    let from = taken - kept.len();
+    kept.clear();
+    take_bytes(alloc, room, progress, kept, &piece[from..])
+}
+
+/// Reads on behind the bytes that are kept. Of a long piece only the first bytes are copied behind them, where what was cut off ends within
+/// these.
 fn take_piece(
     alloc: Global,
     room: usize,
@@ -214,10 +264,13 @@ fn take_piece(
     if kept.is_empty() {
         return take_bytes(alloc, room, progress, kept, piece);
     }
-    let mut bytes = mem::replace(kept, Vec::new(alloc));
-    match bytes.extend_from_slice(piece) {
-        Ok(()) => take_bytes(alloc, room, progress, kept, bytes.as_slice()),
-        Err(_) => Err(ImageError::Memory),
+    if piece.len() <= JOINED || piece.len() - JOINED > MAX_IMAGE - room {
+        return take_joined(alloc, room, progress, kept, piece);
+    }
+    let (first, behind) = piece.split_at(JOINED);
+    match take_joined(alloc, room + behind.len(), progress, kept, first) {
+        Ok(()) => take_behind(alloc, room, progress, kept, piece, JOINED),
+        Err(error) => Err(error),
     }
 }
 

@@ -1,7 +1,7 @@
 //! What the records of an image hold behind their links, and which tree needs it.
 
 ghost use Rattle.std.specs.Prelude.{◌≡◌};
-ghost use Rattle.gufi_image.specs.Widths.{has_names, has_acls, version_of, width_in, record_needs, entries_need, directory_needs, tree_needs, width_of};
+ghost use Rattle.gufi_image.specs.Widths.{has_names, has_acls, version_of, width_in, record_needs, entries_need, directory_needs, least, wider, record_width, entries_width, directory_width, width_of};
 
 use gufi_base::RecRef;
 use gufi_tree::{DirId, DirRef, EntriesRef, Tree};
@@ -45,6 +45,29 @@ impl Width {
             Width::Guarded => 3,
         }
     }
+
+    /// The wider of two.
+    #[inline]
+    fn wider(self, other: Width) -> Width
+        ensures { result ≡ wider self other }
+    {
+        least(
+            self.has_acls() || other.has_acls(),
+            self.has_names() || other.has_names(),
+        )
+    }
+}
+
+/// The least width that holds access control lists or names of extended attributes, where there are some.
+#[inline]
+fn least(acls: bool, names: bool) -> Width
+    ensures { result ≡ least acls names }
+{
+    match (acls, names) {
+        (true, _) => Width::Guarded,
+        (false, true) => Width::Named,
+        (false, false) => Width::Narrow,
+    }
 }
 
 /// The width of a version.
@@ -87,27 +110,46 @@ pub(crate) fn directory_needs(width: Width, dir: &DirRef<'_>) -> bool
     record_needs(width, &dir.rec()) || entries_need(width, &dir.entries())
 }
 
-/// Whether a row of a tree has what no lesser width holds. One pass, to the first that has.
-fn tree_needs(width: Width, tree: &Tree) -> bool
-    ensures { result ≡ tree_needs width tree.now }
+/// The least width that holds a record.
+#[inline]
+fn record_width(rec: &RecRef<'_>) -> Width
+    ensures { result ≡ record_width rec.now }
 {
-    for number in 0..tree.dirs() {
-        if directory_needs(width, &tree.dir(DirId(number))) {
-            return true;
-        }
-    }
-    false
+    least(!rec.acl().is_empty(), !rec.xattrs().is_empty())
 }
 
-/// The least width that holds a tree. Two passes at most.
+/// The least width that holds entries. Ends at the first with an access control list.
+fn entries_width(entries: &EntriesRef<'_>) -> Width
+    ensures { result ≡ entries_width entries.now }
+{
+    let mut widest = Width::Narrow;
+    for place in 0..entries.len() {
+        widest = widest.wider(record_width(&entries.at(place).rec()));
+        if widest.has_acls() {
+            return widest;
+        }
+    }
+    widest
+}
+
+/// The least width that holds a directory with its entries.
+#[tactic(auto, using(crate::proofs::Widest::least_wider))]
+fn directory_width(dir: &DirRef<'_>) -> Width
+    ensures { result ≡ directory_width dir.now }
+{
+    record_width(&dir.rec()).wider(entries_width(&dir.entries()))
+}
+
+/// The least width that holds a tree. One pass, which ends at the first directory with an access control list in it.
 pub(crate) fn width_of(tree: &Tree) -> Width
     ensures { result ≡ width_of tree.now }
 {
-    if tree_needs(Width::Guarded, tree) {
-        return Width::Guarded;
+    let mut widest = Width::Narrow;
+    for number in 0..tree.dirs() {
+        widest = widest.wider(directory_width(&tree.dir(DirId(number))));
+        if widest.has_acls() {
+            return widest;
+        }
     }
-    if tree_needs(Width::Named, tree) {
-        return Width::Named;
-    }
-    Width::Narrow
+    widest
 }
