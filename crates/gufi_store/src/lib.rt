@@ -69,7 +69,9 @@ fn row_below<'a>(stem: &'a [u8], entry: &EntryRef<'a>) -> RowRef<'a>
 }
 
 /// Adds a row as it is shown, where that meets the question.
-#[inline]
+///
+/// Made part of its callers, so that a row's parts needn't go through memory.
+#[inline(always)]
 fn offer<T: Tester, V: View, Y: Yield>(
     alloc: Global,
     row: RowRef<'_>,
