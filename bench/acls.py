@@ -3,10 +3,11 @@
 
   python3 acls.py [--program PROGRAM] [--rollups 20] [--runs 5] [--pages small]
 
-It makes six traces of the same directories: all with one mode; with one of eight modes and owners, so that a directory mostly differs
-from the one that it lies in; with one of eight lists of six entries, the same for all at and below a directory of the first level; with one
-of these as it comes; with one of eight lists that each let in more than the list of the directory above, so that all pairs differ and
-all are compared; and each with a list of its own of 32 named entries. A script publishes one, and behind a barrier rolls it up so many
+It makes seven traces of the same directories: all with one mode; with one of eight modes and owners, so that a directory mostly differs
+from the one that it lies in; with one of eight modes that each let in whom that of the directory above does, so that all pairs differ and
+all are compared; with one of eight lists of six entries, the same for all at and below a directory of the first level; with one
+of these as it comes; with one of eight lists that each let in more than the list of the directory above, so that here too all pairs differ
+and all are compared; and each with a list of its own of 32 named entries. A script publishes one, and behind a barrier rolls it up so many
 times, each under another limit. The cost of a roll-up is the time of that script less the time of a script that publishes alone, over
 their number. A directory isn't compared once one below or beside it isn't covered, so few pairs are compared where lists come as they
 like. Runs are interleaved, output goes to /dev/null, files are warm, times are medians of processor time. The memory of a search over
@@ -36,6 +37,15 @@ def wider_list(kind):
     return "acl/user::rwx,%s,group::r-x,%s,mask::r-x,other::---" % (users, groups)
 
 
+# Owner, then group, then bits that let nobody else list.
+WIDER_MODES = (0o700, 0o750, 0o751, 0o752, 0o770, 0o771, 0o772, 0o774)
+
+
+def wider_kind(path, rng):
+    """A kind of eight that is greater the deeper a directory lies."""
+    return (0, 1 + rng.randrange(3), 4 + rng.randrange(4))[path.count("/") - 1]
+
+
 def own_list(place):
     """A list of 16 users and 16 groups that no other directory has."""
     users = ",".join("user:%d:r-x" % (2000 + place * 16 + n) for n in range(16))
@@ -52,9 +62,10 @@ def fields(path, form, place, rng):
         acl = kind_of_list(int(path.split("/")[2][1:]) % 8 if path.count("/") > 1 else 0)
     elif form == "eight lists":
         acl = kind_of_list(rng.randrange(8))
-    elif form == "eight wider and wider":
-        above = path.count("/") - 1
-        acl = wider_list((0, 1 + rng.randrange(3), 4 + rng.randrange(4))[above])
+    elif form == "eight lists wider and wider":
+        acl = wider_list(wider_kind(path, rng))
+    elif form == "eight modes wider and wider":
+        mode = WIDER_MODES[wider_kind(path, rng)]
     elif form == "lists that all differ":
         acl = own_list(place)
     parts = [path, "d", str(place + 1), str(mode), "2", str(uid), "500", "4096", "4096", "8", "10", "20", "30", ""]
@@ -85,7 +96,7 @@ def main():
     given = parser.parse_args()
     take_pages(given.pages)
     program = os.path.abspath(given.program)
-    forms = ("one mode", "eight modes", "eight lists by subtree", "eight lists", "eight wider and wider", "lists that all differ")
+    forms = ("one mode", "eight modes", "eight modes wider and wider", "eight lists by subtree", "eight lists", "eight lists wider and wider", "lists that all differ")
     with tempfile.TemporaryDirectory() as folder:
         commands = {}
         for number, form in enumerate(forms):
@@ -98,9 +109,10 @@ def main():
         cost = {form: (times["roll " + form][0] - times["publish " + form][0]) / given.rollups for form in forms}
         for number, form in enumerate(forms):
             peak = once([program, "find", "trace%d" % number, "1001", "/"], folder)[2]
-            print("%-22s %8.1f ms a roll-up, %6.2f s to publish, %4.0f MB for a find" % (form, cost[form] * 1e3, times["publish " + form][0], peak))
-        for lists in ("eight lists by subtree", "eight lists", "eight wider and wider"):
-            print("%s beside eight modes: ratio %.2f; beside one mode: %.2f" % (lists, cost[lists] / cost["eight modes"], cost[lists] / cost["one mode"]))
+            print("%-28s %8.1f ms a roll-up, %6.2f s to publish, %4.0f MB for a find" % (form, cost[form] * 1e3, times["publish " + form][0], peak))
+        for lists in ("eight lists by subtree", "eight lists", "eight lists wider and wider"):
+            beside = ", ".join("%s %.2f" % (modes, cost[lists] / cost[modes]) for modes in forms[:3])
+            print("%s beside %s" % (lists, beside))
 
 
 if __name__ == "__main__":
