@@ -7,7 +7,7 @@ ghost use Rattle.gufi_access.specs.Tried.{covers};
 ghost use Rattle.gufi_tree.specs.Tree.{Directory, rights_of};
 ghost use Rattle.gufi_roll.specs.Below.{IsBelow, AreBelow};
 
-use crate::memo::{Compared, Memo, are_alike};
+use crate::memo::{Above, Memo, are_alike};
 use gufi_access::{Guard, covers};
 use gufi_tree::{DirId, Tree};
 use std::alloc::{AllocError, Global};
@@ -50,41 +50,40 @@ pub(crate) fn covers_next(parent: &Guard<'_>, child: &Guard<'_>) -> bool
     covers_plainly(parent, child) || covers(parent, child)
 }
 
-/// The same of a guard beside which others were compared; what isn't seen at once is looked up there.
-fn covers_known<'a>(above: &mut Compared<'a>, child: &Guard<'a>) -> bool
-    ensures value { result ≡ covers (rights above.old.parent) (rights child.now) }
-    ensures parent { rights above.new.parent ≡ rights above.old.parent }
+/// The same; what isn't seen at once is looked up.
+fn covers_known<'a>(memo: &mut Memo<'a>, above: &Above<'a>, child: &Guard<'a>) -> bool
+    ensures { result ≡ covers (rights above.now.guard) (rights child.now) }
 {
-    covers_plainly(&above.parent, child) || above.covers(child)
+    covers_plainly(&above.guard, child) || memo.covers(above, child)
 }
 
 /// Whether a subdirectory and all below it is covered.
 fn is_child_covered<'a>(
     tree: &'a Tree,
-    above: &mut Compared<'a>,
+    memo: &mut Memo<'a>,
+    above: &Above<'a>,
     child: DirId,
     below: &Below,
 ) -> bool
     requires { child.0 < length tree.now }
-    ensures value { (d : Directory) → result ≡ (below.now.covered && covers (rights above.old.parent) (rights_of (slice_index_or tree.now child.0 d).rec)) }
-    ensures parent { rights above.new.parent ≡ rights above.old.parent }
+    ensures { (d : Directory) → result ≡ (below.now.covered && covers (rights above.now.guard) (rights_of (slice_index_or tree.now child.0 d).rec)) }
 {
-    below.covered && covers_known(above, &tree.guard(child))
+    below.covered && covers_known(memo, above, &tree.guard(child))
 }
 
 /// Whether subdirectories are covered so far, and the next one and all below it too. That isn't looked at where one before it isn't.
 fn stay_covered<'a>(
     so_far: bool,
     tree: &'a Tree,
-    above: &mut Compared<'a>,
+    memo: &mut Memo<'a>,
+    above: &Above<'a>,
     child: DirId,
     below: &Below,
 ) -> bool
     requires { child.0 < length tree.now }
-    ensures value { (d : Directory) → result ≡ (so_far && (below.now.covered && covers (rights above.old.parent) (rights_of (slice_index_or tree.now child.0 d).rec))) }
-    ensures parent { rights above.new.parent ≡ rights above.old.parent }
+    ensures { (d : Directory) → result ≡ (so_far && (below.now.covered && covers (rights above.now.guard) (rights_of (slice_index_or tree.now child.0 d).rec))) }
 {
-    so_far && is_child_covered(tree, above, child, below)
+    so_far && is_child_covered(tree, memo, above, child, below)
 }
 
 /// What is at and below a directory, from what is below the directories behind it.
@@ -101,13 +100,12 @@ fn below_of<'a>(tree: &'a Tree, id: DirId, found: &[Below], memo: &mut Memo<'a>)
     if children.is_empty() {
         return Below { rows, covered };
     }
-    let mut above = memo.beside(&tree.guard(id));
+    let above = Above::of(&tree.guard(id));
     for child in children {
         let below = &found[child.0 as usize];
         rows += below.rows;
-        covered = stay_covered(covered, tree, &mut above, *child, below);
+        covered = stay_covered(covered, tree, memo, &above, *child, below);
     }
-    memo.keep(above);
     Below { rows, covered }
 }
 

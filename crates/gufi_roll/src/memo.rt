@@ -29,11 +29,10 @@ pub(crate) struct Known<'a> {
     answer: bool,
 }
 
-/// A guard, its place in a memo, and those that were compared with it last.
+/// A guard, and those that were compared with it last.
 #[derive(Clone, Copy)]
-pub(crate) struct Compared<'a> {
-    pub(crate) parent: Guard<'a>,
-    place: usize,
+struct Compared<'a> {
+    parent: Guard<'a>,
     known: [Option<Known<'a>>; KEPT],
     next: usize,
     ghost right: { AreRight (rights parent) known },
@@ -41,25 +40,21 @@ pub(crate) struct Compared<'a> {
 
 impl<'a> Compared<'a> {
     /// Nothing is known yet.
-    fn none(parent: &Guard<'a>, place: usize) -> Compared<'a>
+    fn none(parent: &Guard<'a>) -> Compared<'a>
         ensures { rights result.parent ≡ rights parent.now }
     {
         Compared {
             parent: *parent,
-            place,
             known: [None; KEPT],
             next: 0,
         }
     }
 
-    /// Whether the guard covers another: what was found before, or what is found now. Modes alone are compared at once.
-    pub(crate) fn covers(&mut self, child: &Guard<'a>) -> bool
+    /// Whether the guard covers another: what was found before, or what is found now.
+    fn covers(&mut self, child: &Guard<'a>) -> bool
         ensures value { result ≡ covers (rights self.old.parent) (rights child.now) }
         ensures parent { rights self.new.parent ≡ rights self.old.parent }
     {
-        if self.parent.acl.is_empty() && child.acl.is_empty() {
-            return covers(&self.parent, child);
-        }
         if let Some(answer) = self.find(child) {
             return answer;
         }
@@ -116,6 +111,27 @@ fn place_of(guard: &Guard<'_>) -> usize {
     (key >> 58) as usize
 }
 
+/// A guard, and its place in a memo; without an access control list it has none.
+#[derive(Clone, Copy)]
+pub(crate) struct Above<'a> {
+    pub(crate) guard: Guard<'a>,
+    place: usize,
+}
+
+impl<'a> Above<'a> {
+    pub(crate) fn of(guard: &Guard<'a>) -> Above<'a>
+        ensures { rights result.guard ≡ rights guard.now }
+    {
+        let place = if guard.acl.is_empty() {
+            PLACES
+        } else {
+            place_of(guard)
+        };
+        let guard = *guard;
+        Above { guard, place }
+    }
+}
+
 /// The guards with an access control list that others were compared with, each at its place.
 ///
 /// Takes no memory before the first of them, then less than 32 kB.
@@ -131,30 +147,33 @@ impl<'a> Memo<'a> {
         }
     }
 
-    /// What is known of the guards that were compared with this one.
-    pub(crate) fn beside(&self, parent: &Guard<'a>) -> Compared<'a>
-        ensures { rights result.parent ≡ rights parent.now }
+    /// Whether a guard covers another: what was found before, or what is found now. Without a list it is compared at once.
+    pub(crate) fn covers(&mut self, above: &Above<'a>, child: &Guard<'a>) -> bool
+        ensures { result ≡ covers (rights above.now.guard) (rights child.now) }
     {
-        if parent.acl.is_empty() {
-            return Compared::none(parent, 0);
+        if above.place >= PLACES {
+            return covers(&above.guard, child);
         }
-        let place = place_of(parent);
-        match self.places.get(place) {
-            Some(Some(compared)) if are_alike(&compared.parent, parent) => *compared,
-            _ => Compared::none(parent, place),
+        if let Some(Some(compared)) = self.places.get_mut(above.place) {
+            if are_alike(&compared.parent, &above.guard) {
+                return compared.covers(child);
+            }
         }
+        self.begin(above, child)
     }
 
-    /// Keeps what was found of a guard with a list, in place of the guard that had its place. Where there is no memory, nothing is kept.
-    pub(crate) fn keep(&mut self, compared: Compared<'a>) {
-        if compared.parent.acl.is_empty() {
-            return;
-        }
+    /// Compares two guards, and keeps the answer in place of the guard that had the place. Where there is no memory, nothing is kept.
+    fn begin(&mut self, above: &Above<'a>, child: &Guard<'a>) -> bool
+        ensures { result ≡ covers (rights above.now.guard) (rights child.now) }
+    {
+        let mut compared = Compared::none(&above.guard);
+        let answer = compared.covers(child);
         if self.places.is_empty() {
             let _ = self.places.resize(PLACES, None);
         }
-        if compared.place < self.places.len() {
-            self.places[compared.place] = Some(compared);
+        if above.place < self.places.len() {
+            self.places[above.place] = Some(compared);
         }
+        answer
     }
 }

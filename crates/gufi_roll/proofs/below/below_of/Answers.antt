@@ -10,7 +10,6 @@ pub loop-child-init : goal.loop-child-init
 loop-child-init c = record {
   rows = λ d. omega (arith, ap length (c.entries.ensures.value d));
   covered = λ d. refl;
-  parent = λ d. c.beside-above.ensures ∙ c.guard.ensures d;
 }
 
 pub bounds-found-child : goal.bounds-found-child
@@ -53,9 +52,8 @@ loop-child-preserved c =
           kid_rows c.args.tree.now c.dirs-count.ensures.shape c.args.id.0 c.requires.within ids c.subdirs-children.ensures c.args.found.now c.requires.behind i (get_or ids i none) c.loop-child-test.true same
           unknown (length (get_or c.args.tree.now c.args.id.0 d).entries) c.loop-child.rows (c.loop-child.invariant.rows d);
       covered = λ d.
-          c.stay_covered-covered.ensures.value d ∙ kid_cover c.args.tree.now c.dirs-count.ensures.shape c.args.id.0 c.requires.within ids c.subdirs-children.ensures c.args.found.now c.requires.behind i (get_or ids i none) c.loop-child-test.true same
-          d unknown c.loop-child.covered (rights c.loop-child.above.parent) (c.loop-child.invariant.parent d) (c.loop-child.invariant.covered d);
-      parent = λ d. c.stay_covered-covered.ensures.parent ∙ c.loop-child.invariant.parent d;
+          c.stay_covered-covered.ensures d ∙ kid_cover c.args.tree.now c.dirs-count.ensures.shape c.args.id.0 c.requires.within ids c.subdirs-children.ensures c.args.found.now c.requires.behind i (get_or ids i none) c.loop-child-test.true same
+          d unknown c.loop-child.covered (rights c.of-above.result.guard) (c.of-above.ensures ∙ c.guard.ensures d) (c.loop-child.invariant.covered d);
     }
 
 pub returns : goal.returns
