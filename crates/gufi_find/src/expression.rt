@@ -42,6 +42,7 @@ impl FindExpr {
     }
 
     /// Whether a depth is within the bounds.
+    #[inline]
     fn is_within(&self, depth: u32) -> bool
         ensures { result ≡ nat_le self.now.least_depth depth && is_at_most self.now.most_depth depth }
     {
@@ -74,6 +75,9 @@ impl FindExpr {
     }
 
     /// Whether it is true of a row at that depth below the start, and the depth within its bounds. No memory.
+    ///
+    /// Made part of its callers, so that a row's parts needn't go through memory once more.
+    #[inline(always)]
     #[tactic(auto, using(crate::proofs::RowLemmas::truth_of_parts))]
     pub fn sat(&self, row: RowRef<'_>, depth: u32) -> bool
         requires { StandsForSome row }
@@ -113,6 +117,7 @@ impl FindExpr {
 impl<'e> Tester for FindQuestion<'e> {
     ghost meets = { λ q row depth. find_holds q row depth };
 
+    #[inline(always)]
     fn test(&mut self, _alloc: Global, row: RowRef<'_>, depth: u32) -> Result<bool, Memory> {
         Ok(self.expression.sat(row, depth))
     }

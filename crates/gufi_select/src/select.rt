@@ -115,7 +115,9 @@ impl<'s> Model for SelectTester<'s> {
 impl<'s> SelectTester<'s> {
     /// Whether the SELECT is true of a row in borrowed parts.
     ///
-    /// The pattern is looked for only where the other conditions don't decide.
+    /// The pattern is looked for only where the other conditions don't decide. Made part of its callers, so that a row's parts
+    /// needn't go through memory once more.
+    #[inline(always)]
     fn is_true(&mut self, row: RowRef<'_>, depth: u32) -> Result<bool, Memory>
         ensures met { IfOk result (λ met. met ≡ holds_in self.old (seen_parts row.entry depth)) }
         ensures same { self.new ≡ self.old }
@@ -151,6 +153,7 @@ impl<'s> SelectTester<'s> {
 impl<'s> Tester for SelectTester<'s> {
     ghost meets = { λ t row depth. select_holds t row depth };
 
+    #[inline(always)]
     #[tactic(auto, using(crate::proofs::RowLemmas::seen_of_parts))]
     fn test(&mut self, _alloc: Global, row: RowRef<'_>, depth: u32) -> Result<bool, Memory> {
         self.is_true(row, depth)
