@@ -33,6 +33,7 @@ pub mod Ended
 pub mod Steps
 pub mod Kept
 pub mod GoingOn
+pub mod Paired
 pub mod Waiting
 pub mod Bundled
 pub mod TooLong

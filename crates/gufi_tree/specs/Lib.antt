@@ -13,5 +13,6 @@ pub mod Listed
 pub mod Bundles
 pub mod GoingOn
 pub mod Packs
+pub mod Rows
 pub mod Bundled
 pub mod Graft

@@ -6,8 +6,10 @@ ghost use Rattle.gufi_base.specs.Names.{is_name};
 ghost use Rattle.gufi_base.specs.Extras.{kept_xattrs, kept_acl, AreKept};
 ghost use Rattle.gufi_tree.specs.declared.tree.Entry.{Entry as SeenEntry};
 ghost use Rattle.gufi_tree.specs.Bundles.{bytes_at, directory_in, entry_in, entries_in, IsHead, IsPacked};
+ghost use Rattle.gufi_tree.specs.Rows.{packed_row};
 
-use crate::bundle::{Head, Packed};
+use crate::bundle::Head;
+use crate::rows::{PackedRowsRef, Spot};
 use gufi_base::{Extras, Meta, PathRef, RecRef, acl_at, xattrs_at};
 use std::marker::Model;
 
@@ -43,7 +45,8 @@ fn record_at<'a>(
 /// An entry whose parts stand elsewhere.
 #[derive(Drop)]
 pub struct EntryRef<'a> {
-    packed: &'a Packed,
+    spot: Spot,
+    meta: &'a Meta,
     text: &'a [u8],
 }
 
@@ -53,66 +56,61 @@ impl<'a> Model for EntryRef<'a> {
     ghost Value = { Entry };
 
     ghost use Rattle.gufi_tree.specs.Bundles.{entry_in, IsPacked};
+    ghost use Rattle.gufi_tree.specs.Rows.{packed_row};
 
-    ghost view = { λ e. entry_in e.text.now e.packed.now };
+    ghost view = { λ e. entry_in e.text.now (packed_row e.spot e.meta.now) };
 
-    ghost invariant = { λ e. IsPacked e.text.now e.packed.now };
+    ghost invariant = { λ e. IsPacked e.text.now (packed_row e.spot e.meta.now) };
 }
 
 impl<'a> EntryRef<'a> {
-    /// The entry that is packed in a text.
+    /// The entry of these numbers whose bytes stand there in a text.
     #[inline]
-    pub(crate) fn of(packed: &'a Packed, text: &'a [u8]) -> EntryRef<'a>
-        requires { IsPacked text.now packed.now }
-        ensures { result ≡ entry_in text.now packed.now }
+    pub(crate) fn of(spot: Spot, meta: &'a Meta, text: &'a [u8]) -> EntryRef<'a>
+        requires { IsPacked text.now (packed_row spot meta.now) }
+        ensures { result ≡ entry_in text.now (packed_row spot meta.now) }
     {
-        EntryRef { packed, text }
+        EntryRef { spot, meta, text }
     }
 
-    /// The bytes of its name.
+    /// The bytes of its name. Reads none of its numbers.
     #[inline]
     pub fn name(&self) -> &'a [u8]
         ensures value { result.now ≡ self.now.name }
         ensures name { IsTrue (is_name self.now.name) }
     {
-        let packed = self.packed;
-        bytes_at(self.text, packed.at as usize, packed.name as usize)
+        let spot = self.spot;
+        bytes_at(self.text, spot.at as usize, spot.name as usize)
     }
 
     #[inline]
     pub fn rec(&self) -> RecRef<'a>
         ensures { result ≡ self.now.rec }
     {
-        let packed = self.packed;
-        let at = packed.at as usize + packed.name as usize;
-        record_at(
-            &packed.meta,
-            self.text,
-            at,
-            packed.link as usize,
-            packed.extras,
-        )
+        let spot = self.spot;
+        let at = spot.at as usize + spot.name as usize;
+        record_at(self.meta, self.text, at, spot.link as usize, spot.extras)
     }
 }
 
-/// Entries of a directory, in the order in which they are kept.
+/// Entries of a directory, in the order in which they are kept. Their number has 32 bits.
 #[derive(Drop)]
 pub struct EntriesRef<'a> {
-    rows: &'a [Packed],
+    rows: PackedRowsRef<'a>,
     text: &'a [u8],
 }
 
 impl<'a> Model for EntriesRef<'a> {
-    ghost use Rattle.std.specs.Prelude.{List, All};
+    ghost use Rattle.std.specs.Prelude.{◌<◌, ◌^◌, List, All, length};
     ghost use Rattle.gufi_tree.specs.declared.tree.Entry.{Entry};
 
     ghost Value = { List Entry };
 
     ghost use Rattle.gufi_tree.specs.Bundles.{entries_in, IsPacked};
 
-    ghost view = { λ e. entries_in e.text.now e.rows.now };
+    ghost view = { λ e. entries_in e.text.now e.rows };
 
-    ghost invariant = { λ e. All (IsPacked e.text.now) e.rows.now };
+    ghost invariant = { λ e. All (IsPacked e.text.now) e.rows × (length e.rows < 2 ^ 32) };
 }
 
 impl<'a> EntriesRef<'a> {
@@ -130,15 +128,16 @@ impl<'a> EntriesRef<'a> {
         requires { place < length self.now }
         ensures { (e : SeenEntry) → result ≡ slice_index_or self.now place e }
     {
-        let rows = self.rows;
-        EntryRef::of(&rows[place], self.text)
+        let rows = &self.rows;
+        let (spot, meta) = rows.at(place);
+        EntryRef::of(spot, meta, self.text)
     }
 
     /// Whether a name has more than so many bytes. None has more than 255.
     pub(crate) fn has_name_over(&self, bytes: usize) -> bool
         ensures { result ≡ list_any (λ entry. nat_lt bytes (length entry.name)) self.now }
     {
-        let _rows = self.rows;
+        let _rows = &self.rows;
         if bytes >= 255 {
             return false;
         }
@@ -155,7 +154,7 @@ impl<'a> EntriesRef<'a> {
 #[derive(Drop)]
 pub struct DirRef<'a> {
     head: &'a Head,
-    rows: &'a [Packed],
+    rows: PackedRowsRef<'a>,
     text: &'a [u8],
 }
 
@@ -167,18 +166,18 @@ impl<'a> Model for DirRef<'a> {
     ghost use Rattle.std.specs.Prelude.{All};
     ghost use Rattle.gufi_tree.specs.Bundles.{directory_in, IsHead, IsPacked};
 
-    ghost view = { λ d. directory_in d.text.now d.rows.now d.head.now };
+    ghost view = { λ d. directory_in d.text.now d.rows d.head.now };
 
-    ghost invariant = { λ d. IsHead d.text.now d.rows.now d.head.now × All (IsPacked d.text.now) d.rows.now };
+    ghost invariant = { λ d. IsHead d.text.now d.rows d.head.now × All (IsPacked d.text.now) d.rows };
 }
 
 impl<'a> DirRef<'a> {
     /// The directory of a head, among whose rows and in whose text it stands.
     #[inline]
-    pub(crate) fn of(head: &'a Head, rows: &'a [Packed], text: &'a [u8]) -> DirRef<'a>
-        requires head { IsHead text.now rows.now head.now }
-        requires rows { All (IsPacked text.now) rows.now }
-        ensures { result ≡ directory_in text.now rows.now head.now }
+    pub(crate) fn of(head: &'a Head, rows: PackedRowsRef<'a>, text: &'a [u8]) -> DirRef<'a>
+        requires head { IsHead text.now rows head.now }
+        requires rows { All (IsPacked text.now) rows }
+        ensures { result ≡ directory_in text.now rows.entry head.now }
     {
         DirRef { head, rows, text }
     }
@@ -205,10 +204,10 @@ impl<'a> DirRef<'a> {
     pub fn entries(&self) -> EntriesRef<'a>
         ensures { result ≡ self.now.entries }
     {
-        let rows = self.rows;
+        let rows = &self.rows;
         let first = self.head.first as usize;
         EntriesRef {
-            rows: &rows[first..first + self.head.count as usize],
+            rows: rows.range(first, self.head.count as usize),
             text: self.text,
         }
     }

@@ -1,22 +1,25 @@
-//! Bundles: directories packed side by side, with one vector of entries and one text for all of them.
+//! Bundles: directories packed side by side, with one pair of arrays of entries and one text for all of them.
 
-ghost use Rattle.std.specs.Prelude.{◌≡◌, ℕ, ◌+◌, ◌<◌, ◌≤◌, ◌^◌, ◌++◌, ◌∷◌, [], List, length, map, take, slice_index_or, All, IsTrue, IfOk, OnOk, OnErr};
+ghost use Rattle.std.specs.Prelude.{◌≡◌, ℕ, ◌+◌, ◌<◌, ◌++◌, ◌∷◌, [], List, length, slice_index_or, All, IsTrue, IfOk, OnOk, OnErr};
 ghost use Rattle.gufi_base.specs.Names.{is_name};
 ghost use Rattle.gufi_base.specs.Extras.{kept_xattrs, kept_acl, AreKept};
 ghost use Rattle.gufi_tree.specs.Tree.{Directory};
 ghost use Rattle.gufi_tree.specs.Bundles.{bytes_at, directory_in, entry_in, entries_in, IsHead, IsPacked, IsShort};
 ghost use Rattle.gufi_tree.specs.GoingOn.{GoesOn};
-ghost use Rattle.gufi_tree.specs.Packs.{entries_of, shifted, shifted_row, IsNear};
+ghost use Rattle.gufi_tree.specs.Packs.{entries_of};
+ghost use Rattle.gufi_tree.specs.Rows.{spot_of};
 
 use crate::borrowed::DirRef;
-use crate::pending::{Pending, PlacedRow};
+use crate::pending::Pending;
+use crate::rows::{PackedRows, Spot};
 use gufi_base::{Extras, Meta, PathRef, RecRef, put_extras, u16_of, u32_of};
 use std::alloc::{AllocError, Global};
 use std::marker::Model;
 use std::mem;
 
 /// An entry: its record, and where its name and behind it its link stand in a text, by their lengths in bytes. Names of extended
-/// attributes and an access control list stand behind the link, where there are any. It has 88 bytes.
+/// attributes and an access control list stand behind the link, where there are any. It has 88 bytes; in a bundle its numbers, of 80,
+/// and its spot, of 8, stand in two arrays.
 #[derive(Clone, Copy)]
 pub(crate) struct Packed {
     pub(crate) meta: Meta,
@@ -24,6 +27,21 @@ pub(crate) struct Packed {
     pub(crate) link: u16,
     pub(crate) name: u8,
     pub(crate) extras: Extras,
+}
+
+impl Packed {
+    /// Where its bytes stand.
+    #[inline]
+    pub(crate) fn spot(&self) -> Spot
+        ensures { result ≡ spot_of self.now }
+    {
+        Spot {
+            at: self.at,
+            link: self.link,
+            name: self.name,
+            extras: self.extras,
+        }
+    }
 }
 
 /// A directory: its record, where the kept text of its path and behind it its link stand in a text, by their lengths in bytes, and
@@ -39,11 +57,12 @@ pub(crate) struct Head {
     pub(crate) extras: Extras,
 }
 
-/// Directories with their entries, in memory that they share: three arrays. The text has less than 4 GiB.
+/// Directories with their entries, in memory that they share: four arrays, of which two hold the parts of the entries, 88 bytes of each.
+/// The text has less than 4 GiB.
 #[derive(Drop)]
 pub(crate) struct Bundle {
     heads: Vec<Head>,
-    rows: Vec<Packed>,
+    rows: PackedRows,
     text: Vec<u8>,
     longest: u16,
 }
@@ -56,9 +75,9 @@ impl Model for Bundle {
 
     ghost use Rattle.gufi_tree.specs.Bundles.{directory_in, IsBundle};
 
-    ghost view = { λ b. map (directory_in b.text.items b.rows.items) b.heads.items };
+    ghost view = { λ b. map (directory_in b.text.items b.rows) b.heads.items };
 
-    ghost invariant = { λ b. IsBundle b.text.items b.rows.items b.heads.items b.longest };
+    ghost invariant = { λ b. IsBundle b.text.items b.rows b.heads.items b.longest };
 }
 
 /// Puts some bytes and behind them all of a record but its numbers behind a text, and tells where they begin and what stands behind the link.
@@ -104,58 +123,34 @@ pub(crate) fn pack_entry(
     })
 }
 
-/// An entry whose text was put behind so many bytes.
-fn shifted(packed: &Packed, base: u32) -> Packed
-    requires { base + packed.now.at < 2 ^ 32 }
-    ensures { result ≡ shifted base packed.now }
-{
-    Packed {
-        at: base + packed.at,
-        ..*packed
-    }
-}
-
-/// Adds the rows of entries whose text was put behind so many bytes.
-fn push_rows(rows: &mut Vec<Packed>, entries: &[PlacedRow], base: u32) -> Result<(), AllocError>
-    requires { All (IsNear base) entries.now }
-    ensures some { (count : ℕ) × (rows.new.items ≡ rows.old.items ++ map (shifted_row base) (take count entries.now)) }
-    ensures all { OnOk result (rows.new.items ≡ rows.old.items ++ map (shifted_row base) entries.now) }
-{
-    rows.reserve(entries.len())?;
-    for row in entries {
-        rows.push_reserved(shifted(&row.packed, base));
-    }
-    Ok(())
-}
-
 /// Packs entries behind others: their text as a whole, and their rows with it.
 fn push_entries(
     text: &mut Vec<u8>,
-    rows: &mut Vec<Packed>,
+    rows: &mut PackedRows,
     entries: &Pending,
 ) -> Result<(), AllocError>
-    requires { All (IsPacked text.old.items) rows.old.items }
-    ensures goes_on { GoesOn text.old.items text.new.items rows.old.items rows.new.items }
-    ensures entries { OnOk result (entries_in text.new.items rows.new.items ≡ entries_in text.old.items rows.old.items ++ entries_of entries.now) }
+    requires { All (IsPacked text.old.items) rows.old }
+    ensures goes_on { GoesOn text.old.items text.new.items rows.old rows.new }
+    ensures entries { OnOk result (entries_in text.new.items rows.new ≡ entries_in text.old.items rows.old ++ entries_of entries.now) }
 {
     let base = u32_of(text.len())?;
     text.extend_from_slice(entries.text.as_slice())?;
     u32_of(text.len())?;
-    push_rows(rows, entries.rows.as_slice(), base)
+    rows.push_rows(entries.rows.as_slice(), base)
 }
 
 /// Packs a directory's entries behind others, and puts its path and its record's bytes behind the text.
 fn pack_directory(
     text: &mut Vec<u8>,
-    rows: &mut Vec<Packed>,
+    rows: &mut PackedRows,
     path: &PathRef<'_>,
     rec: &RecRef<'_>,
     entries: &Pending,
 ) -> Result<Head, AllocError>
-    requires { All (IsPacked text.old.items) rows.old.items }
-    ensures goes_on { GoesOn text.old.items text.new.items rows.old.items rows.new.items }
-    ensures head { IfOk result (IsHead text.new.items rows.new.items) }
-    ensures directory { IfOk result (λ head. directory_in text.new.items rows.new.items head ≡ record { path = path.now; rec = rec.now; entries = entries_of entries.now }) }
+    requires { All (IsPacked text.old.items) rows.old }
+    ensures goes_on { GoesOn text.old.items text.new.items rows.old rows.new }
+    ensures head { IfOk result (IsHead text.new.items rows.new) }
+    ensures directory { IfOk result (λ head. directory_in text.new.items rows.new head ≡ record { path = path.now; rec = rec.now; entries = entries_of entries.now }) }
 {
     let first = u32_of(rows.len())?;
     let count = u32_of(entries.len())?;
@@ -183,7 +178,7 @@ impl Bundle {
     {
         Bundle {
             heads: Vec::new(alloc),
-            rows: Vec::new(alloc),
+            rows: PackedRows::new(alloc),
             text: Vec::new(alloc),
             longest: 0,
         }
@@ -216,7 +211,7 @@ impl Bundle {
     {
         DirRef::of(
             &self.heads[place],
-            self.rows.as_slice(),
+            self.rows.as_rows_ref(),
             self.text.as_slice(),
         )
     }
@@ -246,7 +241,7 @@ impl Bundle {
     {
         Ok(Bundle {
             heads: Vec::from_slice(alloc, self.heads.as_slice())?,
-            rows: Vec::from_slice(alloc, self.rows.as_slice())?,
+            rows: self.rows.copy(alloc)?,
             text: Vec::from_slice(alloc, self.text.as_slice())?,
             longest: self.longest,
         })
@@ -261,7 +256,7 @@ impl Bundle {
         self.rows.shrink_to_fit();
         let heads = Vec::from_slice(alloc, self.heads.as_slice())?;
         let text = Vec::from_slice(alloc, self.text.as_slice())?;
-        let rows = mem::replace(&mut self.rows, Vec::new(alloc));
+        let rows = mem::replace(&mut self.rows, PackedRows::new(alloc));
         let longest = mem::replace(&mut self.longest, 0);
         self.heads.clear();
         self.text.clear();

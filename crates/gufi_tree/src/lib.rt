@@ -21,6 +21,7 @@ mod pending;
 mod place;
 mod range;
 mod resolve;
+mod rows;
 mod search;
 mod shape;
 mod sort;

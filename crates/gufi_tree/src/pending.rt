@@ -74,7 +74,11 @@ impl Pending {
     {
         match self.rows.last() {
             None => None,
-            Some(row) => Some(EntryRef::of(&row.packed, self.text.as_slice())),
+            Some(row) => Some(EntryRef::of(
+                row.packed.spot(),
+                &row.packed.meta,
+                self.text.as_slice(),
+            )),
         }
     }
 

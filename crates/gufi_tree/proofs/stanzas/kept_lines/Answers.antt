@@ -1,4 +1,6 @@
 use Rattle.std.proofs.Common.{refl, sym, ◌∙◌, arith}
+use Rattle.std.proofs.lemmas.List.{length-map}
+use Rattle.gufi_tree.specs.Tree.{entry_row}
 use Rattle.gufi_tree.proofs.Numbered.{zip_none}
 use Rattle.gufi_tree.proofs.Kept.{rows_within, lines_taken}
 use Rattle.gufi_tree.proofs.stanzas.kept_lines.Goals as goal
@@ -12,6 +14,12 @@ push_lines-requires-clause-within c =
     let at = c.loop-place.invariant.at in
     let whole = c.requires.whole in
     omega (arith, within, at, whole)
+
+pub rows_in-at-requires : goal.rows_in-at-requires
+rows_in-at-requires c =
+    let within = rows_within c.args.dirs.now c.loop-place.place c.at-dir.result (omega arith) (c.at-dir.ensures c.at-dir.result) in
+    let whole = c.requires.whole in
+    omega (arith, within, whole, c.count_of-count.ensures, c.count_of-count.type_inv, length-map c.at-dir.result.entries (entry_row c.at-dir.result.path))
 
 pub overflow_add-at : goal.overflow_add-at
 overflow_add-at c =

@@ -5,7 +5,7 @@ use Rattle.gufi_tree.proofs.TooLong.{none_over, name_over, one_found, none_found
 use Rattle.gufi_tree.proofs.borrowed.EntriesRef.has_name_over.Goals as goal
 
 pub returns-then-bytes-ge255 : goal.returns-then-bytes-ge255
-returns-then-bytes-ge255 c = sym (ap (list_any (name_over c.args.bytes)) (sym c.self.view_is) ∙ none_over c.self.inside.text.now c.self.inside.rows.now c.args.bytes c.if-bytes-ge255.true c.self.invariant)
+returns-then-bytes-ge255 c = sym (ap (list_any (name_over c.args.bytes)) (sym c.self.view_is) ∙ none_over c.self.inside.text.now c.self.inside.rows c.args.bytes c.if-bytes-ge255.true c.self.invariant.0)
 
 pub returns-then-name-bytes : goal.returns-then-name-bytes
 returns-then-name-bytes c =

@@ -17,7 +17,7 @@ invariant_of-self-in_err-push c =
 pub returns-in_err-push-clause-unchanged : goal.returns-in_err-push-clause-unchanged
 returns-in_err-push-clause-unchanged c =
     let p = err_from_is_err_and c.from_residual-in_err-push.result c.from_residual-in_err-push.ensures.1 in
-    rw p.1 (ap (map (directory_in c.pack_directory.new.text.items c.pack_directory.new.rows.items)) c.in_err-push.ensures.items
+    rw p.1 (ap (map (directory_in c.pack_directory.new.text.items c.pack_directory.new.rows)) c.in_err-push.ensures.items
     ∙ directories-goes_on _ _ _ _ c.pack_directory.ensures.goes_on c.self.invariant.packed c.self.inside.heads.items c.self.invariant.each ∙ c.self.view_is)
 
 pub invariant_of-self-2 : goal.invariant_of-self-2
@@ -28,7 +28,7 @@ invariant_of-self-2 c =
 
 pub returns-clause-pushed : goal.returns-clause-pushed
 returns-clause-pushed c =
-    let see = directory_in c.pack_directory.new.text.items c.pack_directory.new.rows.items in
+    let see = directory_in c.pack_directory.new.text.items c.pack_directory.new.rows in
     let heads = c.self.inside.heads.items in
     ap (map see) c.in_ok-push.ensures.items ∙ map-append see heads (c.in_ok-head.head ∷ [])
     ∙ ap (λ ds. ds ++ see c.in_ok-head.head ∷ []) (directories-goes_on _ _ _ _ c.pack_directory.ensures.goes_on c.self.invariant.packed heads c.self.invariant.each ∙ c.self.view_is)
