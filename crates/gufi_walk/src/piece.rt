@@ -33,14 +33,14 @@ impl<Y: Yield, T> WalkPiece<Y, T> {
         Ok(())
     }
 
-    /// Makes ready for the rows of a task, so many at most: they are to stand in a chunk of their own unless the last one goes on
-    /// with them.
+    /// Makes ready for the rows of a task, so many at most: they are to stand in a chunk of their own unless the task follows those
+    /// of the last one.
     pub(crate) fn make_ready(
         &mut self,
         alloc: Global,
         task: u32,
         rows: u64,
-        enough: u64,
+        goes_on: bool,
         unsettled: bool,
     ) -> Result<(), Memory>
         requires { rows < 2 ^ 40 }
@@ -48,7 +48,7 @@ impl<Y: Yield, T> WalkPiece<Y, T> {
         ensures room { OnOk result (self.new.last.most + rows < 2 ^ 40) }
         ensures tester { OnOk result (self.new.tester ≡ self.old.tester) }
     {
-        if !self.last.goes_on(task, rows, enough) {
+        if !(goes_on && self.last.has_room(rows)) {
             self.begin_chunk(alloc, task, unsettled)?;
         }
         Ok(())

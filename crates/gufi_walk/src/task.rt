@@ -166,6 +166,29 @@ impl<P: Pred, Y: Yield, S: Skip> Walk<'_, P, Y, S> {
         Ok(())
     }
 
+    /// Whether the directories from a place up to another one may not be listed, nor what lies below them.
+    fn none_listed(&self, from: u64, to: u32) -> bool
+        requires { to < length self.now.snap.now.tree }
+    {
+        let mut place = from;
+        'places: while place < u64::from(to) {
+            let id = DirId(place as u32);
+            if may_be_listed(self.snap, self.who, id) {
+                return false;
+            }
+            place = place.saturating_add(self.snap.tree_sum(id).dirs.max(1));
+        }
+        place == u64::from(to)
+    }
+
+    /// Whether the rows of a task may stand behind those of a chunk: where no task can lie between, and the chunk hasn't half as
+    /// many directories as a task may take.
+    fn follows(&self, chunk: &Chunk<Y>, task: u32) -> bool
+        requires { task < length self.now.snap.now.tree }
+    {
+        chunk.directories() < self.grain / 2 && self.none_listed(chunk.end, task)
+    }
+
     /// Adds the tasks that a task brings forth.
     fn push_kids(&self, kids: &mut Vec<u32>, id: DirId) -> Result<(), AllocError>
         requires { id.0 < length self.now.snap.now.tree }
@@ -222,7 +245,8 @@ where
         let id = DirId(task);
         let sum = self.sum_of_task(id);
         let rows = rows_of(sum);
-        piece.make_ready(alloc, task, rows, self.grain / 2, self.settles)?;
+        let goes_on = self.follows(&piece.last, task);
+        piece.make_ready(alloc, task, rows, goes_on, self.settles)?;
         self.add_rows::<G, Brand>(
             alloc,
             gate,

@@ -16,6 +16,11 @@ push_kids-requires g c =
     let w = c.args.self.now in
     (place_open w.snap.now.tree w.who.now c.tree-tree.ensures.shape (path_at w.snap.now.tree w.start.0) c.args.task c.requires.given).within
 
+pub follows-goes_on-requires : goal.follows-goes_on-requires
+follows-goes_on-requires g c =
+    let w = c.args.self.now in
+    (place_open w.snap.now.tree w.who.now c.tree-tree.ensures.shape (path_at w.snap.now.tree w.start.0) c.args.task c.requires.given).within
+
 pub add_rows-requires-clause-room : goal.add_rows-requires-clause-room
 add_rows-requires-clause-room g c =
     let h = c.in_ok-make_ready.ensures.rows _ c.requires.stood.1.0 in
