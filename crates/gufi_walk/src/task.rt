@@ -166,7 +166,7 @@ impl<P: Pred, Y: Yield, S: Skip> Walk<'_, P, Y, S> {
         Ok(())
     }
 
-    /// Whether the directories from a place up to another one may not be listed, nor what lies below them.
+    /// Whether from a place up to another one stand only directories that may not be listed, with what lies below them.
     fn none_listed(&self, from: u64, to: u32) -> bool
         requires { to < length self.now.snap.now.tree }
     {
