@@ -16,6 +16,8 @@ pub(crate) struct Opening<P> {
     pub(crate) piece: P,
     pub(crate) tasks: Vec<u32>,
     pub(crate) next: usize,
+    /// Whether the task that was run last brought forth others.
+    pub(crate) brought: bool,
 }
 
 impl<P> Opening<P> {
@@ -34,13 +36,14 @@ impl<P> Opening<P> {
         piece
     }
 
-    /// Whether a task waits, and fewer than are asked for.
+    /// Whether a task waits, and fewer than are asked for, or at most so many have run and the last one brought forth others: so
+    /// tasks whose kids follow each other are dealt by their kids.
     fn goes_on(&self, enough: usize) -> bool
         requires { self.now.next ≤ length self.now.tasks.items }
         ensures { result ≡ true → self.now.next < length self.now.tasks.items }
     {
         let waiting = self.tasks.len() - self.next;
-        0 < waiting && waiting < enough
+        0 < waiting && (waiting < enough || self.brought && self.next <= enough)
     }
 }
 
@@ -54,6 +57,7 @@ fn begin<J: Job>(alloc: Global, job: &J, first: &[u32]) -> Result<Opening<J::Pie
         piece,
         tasks,
         next: 0,
+        brought: false,
     })
 }
 
@@ -70,13 +74,16 @@ fn run_next<J: Job, G: Gate + Sync>(
     ensures { OnOk result ((first : List ℕ) → IsOpening (J.given job.now) first (J.kids_of job.now) (J.stands job.now) opening.old → IsOpening (J.given job.now) first (J.kids_of job.now) (J.stands job.now) opening.new) }
 {
     let task = opening.tasks[opening.next];
+    let known = opening.tasks.len();
     gate.begin(GateKind::Task, task);
     job.run(alloc, gate, task, &mut opening.piece, &mut opening.tasks)?;
+    opening.brought = known < opening.tasks.len();
     opening.next += 1;
     Ok(())
 }
 
-/// Runs tasks, the first ones first, until enough of them wait or none is left.
+/// Runs tasks, the first ones first, until enough of them wait or none is left, and on while they bring forth others, for as many
+/// as are enough.
 pub(crate) fn open<R: Wait, J: Job, G: Gate + Sync>(
     rt: &R,
     alloc: Global,

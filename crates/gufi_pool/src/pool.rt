@@ -149,8 +149,8 @@ fn run_in<T: GivenTasks + Sync, R: Threads + Wait + Sync, J: Job, G: Gate + Sync
 ///
 /// Each worker gives one piece, in the order of the workers; which tasks a piece stands for, and in which order these ran, is open.
 /// A worker takes from its own deque the task that has waited longest, and steals where it has none. The calling thread runs the
-/// job alone for one worker, and until enough tasks wait where there are fewer first tasks than workers. The gate is told of each
-/// task before it runs.
+/// job alone for one worker, and where there are fewer first tasks than workers until enough tasks wait, and on for as many that
+/// bring forth others. The gate is told of each task before it runs.
 /// Want of memory, a refused push and a `Memory` of the job are answered alike: then some tasks may have run, and no piece is left.
 pub fn run_pool<R: Threads + Wait + Sync, J: Job, G: Gate + Sync>(
     rt: &R,

@@ -1,6 +1,6 @@
 //! The workers before they work.
 
-ghost use Rattle.std.specs.Prelude.{◌≡◌, ◌+◌, ◌<◌, ◌≤◌, ℕ, List, All, Contains, IfOk, OnOk, map, length, sum_by};
+ghost use Rattle.std.specs.Prelude.{◌≡◌, ◌+◌, ◌/◌, ◌<◌, ◌≤◌, ℕ, List, All, Contains, IfOk, OnOk, map, length, sum_by};
 ghost use Rattle.gufi_pool.specs.Accounts.{Weight};
 ghost use Rattle.gufi_pool.specs.Members.{Started, IsNew, HaveRun, but_pushed, member_share, member_pushed, member_piece};
 
@@ -84,7 +84,16 @@ fn deal_one<T: GivenTasks, P>(
     members[k].give(task)
 }
 
-/// Deals tasks to the workers in turn.
+/// How many tasks a worker is dealt, where so many are dealt to so many workers.
+fn share_of(tasks: usize, workers: usize) -> usize
+    requires { 0 < workers }
+    ensures some { 0 < result }
+    ensures all { (i : ℕ) → i < tasks → i / result < workers }
+{
+    tasks.saturating_sub(1) / workers + 1
+}
+
+/// Deals tasks to the workers: to each as many that follow each other, as far as they reach.
 fn deal<T: GivenTasks, P>(members: &mut Vec<Member<T, P>>, tasks: &[u32]) -> Result<(), Memory>
     requires some { 0 < length members.old.items }
     requires given { All (Contains T.given) tasks.now }
@@ -92,9 +101,9 @@ fn deal<T: GivenTasks, P>(members: &mut Vec<Member<T, P>>, tasks: &[u32]) -> Res
     ensures same { OnOk result (map but_pushed members.new.items ≡ map but_pushed members.old.items) }
     ensures pushed { OnOk result ((h : Weight) → sum_by (member_pushed h) members.new.items ≡ sum_by (member_pushed h) members.old.items + sum_by h tasks.now) }
 {
-    let workers = members.len();
+    let share = share_of(tasks.len(), members.len());
     for (i, task) in tasks.iter().enumerate() {
-        deal_one(members, i % workers, *task)?;
+        deal_one(members, i / share, *task)?;
     }
     Ok(())
 }

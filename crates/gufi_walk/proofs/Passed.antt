@@ -1,23 +1,26 @@
 -- What a test of sums passes over: with all rows at and below a directory, each piece there.
-use Rattle.std.proofs.Common.{◌≡◌, ℕ, ◌≤◌, Bool, true, false, cond, List, [], ◌∷◌, ◌++◌, refl, sym, ap, ◌∙◌, subst}
+use Rattle.std.proofs.Common.{◌≡◌, ℕ, ◌≤◌, Bool, true, false, cond, List, [], ◌∷◌, ◌++◌, length, refl, sym, ap, ◌∙◌, subst, arith, length-append}
 use Rattle.std.specs.Prelude.{not, Option, Some}
 use Rattle.std.specs.List.{filter}
 use Rattle.std.specs.List.Sorted.{IsPermutation}
-use Rattle.std.proofs.lemmas.Bool.{false≢true}
-use Rattle.std.proofs.lemmas.List.Sorted.{IsPermutation-filter_both}
+use Rattle.std.proofs.lemmas.Bool.{false≢true, and_parts}
+use Rattle.std.proofs.lemmas.List.Sorted.{IsPermutation-filter_both, length_permutation}
 use Rattle.gufi_base.specs.declared.record.Row.{Row}
 use Rattle.gufi_base.specs.Paths.{Components, path_eq, is_prefix}
 use Rattle.gufi_base.specs.Rows.{home}
+use Rattle.gufi_access.specs.declared.class.Principal.{Principal}
 use Rattle.gufi_sums.specs.declared.summary.Summary.{Summary}
 use Rattle.gufi_sums.specs.Total.{total, join, NoneMeets}
 use Rattle.gufi_sums.specs.Laws.{total-append, total-IsPermutation}
 use Rattle.gufi_tree.specs.Tree.{Directory, all_rows, subtree_rows, home_rows}
+use Rattle.gufi_tree.specs.Listed.{is_listed}
 use Rattle.gufi_tree.proofs.Built.{path_eq-Decides}
 use Rattle.gufi_tree.proofs.Ranges.{own_prefix}
 use Rattle.gufi_roll.specs.CanRoll.{can_roll}
 use Rattle.gufi_roll.proofs.Tops.{prefix_trans}
 use Rattle.gufi_snap.specs.Pieces.{piece, tree_sum}
 use Rattle.gufi_walk.specs.Walk.{meets}
+use Rattle.gufi_walk.proofs.Pieces.{plain_rows}
 use Rattle.gufi_walk.proofs.Walked.{none_met}
 
 -- ---- pieces among the rows at and below a directory
@@ -42,6 +45,13 @@ module _ (tree : List Directory) (path : Components) where
         subst (λ l. IsPermutation (subtree_rows tree path) (l ++ others)) (filter-wider (λ (row : Row). is_prefix path (home row)) narrow implied (all_rows tree))
             (IsPermutation-filter_both narrow (λ row. not (narrow row)) (λ row. refl) (subtree_rows tree path)),
       )
+
+  -- those that are listed from the path on are no more
+  pub listed_few : (who : Principal) → length (plain_rows tree who path) ≤ length (subtree_rows tree path)
+  listed_few who =
+      let listed : Row → Bool = λ row. is_listed tree who path (home row) in
+      let w = rows_split listed (λ row h. (and_parts _ _ (and_parts _ _ h).0).0) in
+      omega (arith, length_permutation _ _ w.1, length-append (filter listed (all_rows tree)) w.0)
 
   -- the rows of a piece at or below the path are among them
   piece_among : (limit : ℕ) (below : Components) → is_prefix path below ≡ true → (rest : List Row) × IsPermutation (subtree_rows tree path) (piece tree below limit ++ rest)

@@ -5,7 +5,7 @@ use Rattle.std.specs.List.Sorted.{IsPermutation}
 use Rattle.std.proofs.lemmas.Bool.{false≢true, and_parts, and_from, cases_order}
 use Rattle.std.proofs.lemmas.Bool.Decides.{eqb_tells}
 use Rattle.std.proofs.lemmas.Grind.{flat_map-append}
-use Rattle.std.proofs.lemmas.List.{map-append, take_more}
+use Rattle.std.proofs.lemmas.List.{append-nil, map-append, take_more}
 use Rattle.std.proofs.lemmas.List.Elements.{filter-append, Contains-get_or, All-head, All-tail, All-nil, All-cons}
 use Rattle.std.proofs.lemmas.List.Sums.{sum_by-cons, sum_by-append}
 use Rattle.std.specs.declared.cmp.Ordering.TheVariants.{Less}
@@ -26,6 +26,8 @@ use Rattle.gufi_tree.proofs.Kids.{IsLater, kids_later}
 use Rattle.gufi_tree.proofs.Linked.{path_at-get}
 use Rattle.gufi_tree.proofs.Searched.{in_order}
 use Rattle.gufi_sums.specs.declared.summary.Summary.{Summary}
+use Rattle.gufi_sums.specs.Total.{rows_in, IsTotal}
+use Rattle.gufi_sums.specs.Laws.{IsTotal-counted}
 use Rattle.gufi_roll.specs.CanRoll.{can_roll}
 use Rattle.gufi_snap.specs.Pieces.{front, piece, kids}
 use Rattle.gufi_pool.specs.Jobs.{kids_weigh}
@@ -35,9 +37,10 @@ use Rattle.gufi_base.specs.Rows.{home}
 use Rattle.gufi_base.proofs.Permutations.{IsPermutation-flat_map}
 use Rattle.gufi_walk.specs.Answer.{answer}
 use Rattle.gufi_walk.specs.Walk.{meets, lists_at, open_ids, kid_ids, is_whole, task_dirs, task_kids, open_places, shown_piece, task_rows}
+use Rattle.gufi_walk.proofs.Passed.{listed_few}
 use Rattle.gufi_walk.proofs.Pieces.{Has-map, front-step}
 use Rattle.gufi_walk.proofs.Weights.{weigh_alike, sum_by-map, sum_by-flat}
-use Rattle.gufi_walk.proofs.Walked.{IsOpen, IsOpen-start, at_place, fronts_at, fronts-kids, kids_open, ids_children, filtered_fewer, listed_at_top, IsOpenTop-at, shown_as_many, answer-by_pieces}
+use Rattle.gufi_walk.proofs.Walked.{IsOpen, IsOpenTop, IsOpen-start, at_place, fronts_at, fronts-kids, kids_open, ids_children, filtered_fewer, listed_at_top, IsOpenTop-at, shown_as_many, answer-by_pieces}
 
 -- ---- elements
 
@@ -328,6 +331,19 @@ piece_few tree path limit = by (can_roll tree limit path) where
   by : (b : Bool) → length (cond b (subtree_rows tree path) (home_rows tree path)) ≤ length (all_rows tree)
   by true = filtered_fewer _ (all_rows tree)
   by false = filtered_fewer _ (all_rows tree)
+
+-- The rows of the directories that a task takes are no more than a sum counts, and these are among all rows.
+module _ (tree : List Directory) (who : Principal) (shape : HasTreeShape tree) (limit : ℕ) (path : Components) (sum : Summary) where
+  abbrev SumOf : Bool → Type 0
+  SumOf whole = IsTotal sum (cond whole (subtree_rows tree path) (piece tree path limit))
+
+  pub task_room : IsOpenTop tree who path → (whole : Bool) → SumOf whole → length (flat_map (λ p. piece tree p limit) (cond whole (front tree who path limit) (path ∷ []))) ≤ rows_in sum
+  task_room top true is = omega (arith, IsTotal-counted sum (subtree_rows tree path) is, length_permutation _ _ (listed_at_top tree who shape limit path top), listed_few tree path who)
+  task_room top false is = omega (arith, IsTotal-counted sum (piece tree path limit) is, ap length (append-nil (piece tree path limit)))
+
+  pub task_few : (whole : Bool) → SumOf whole → rows_in sum ≤ length (all_rows tree)
+  task_few true is = omega (arith, IsTotal-counted sum (subtree_rows tree path) is, filtered_fewer (λ row. is_prefix path (home row)) (all_rows tree))
+  task_few false is = omega (arith, IsTotal-counted sum (piece tree path limit) is, piece_few tree path limit)
 
 module _ (tree : List Directory) (who : Principal) (shape : HasTreeShape tree) (skips : Summary → Bool) (limit grain start : ℕ) (within : start < length tree) (on : lists_at tree who (path_at tree start) ≡ true)
     (tasks : List ℕ) (may : All (Contains (open_places tree who (path_at tree start))) tasks) (balanced : IsBalanced (start ∷ []) (task_kids skips tree who limit grain) tasks) where

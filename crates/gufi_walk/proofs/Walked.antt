@@ -366,9 +366,9 @@ module _ (tree : List Directory) (who : Principal) (shape : HasTreeShape tree) w
       pub walk_deep : length start ≤ length (path_at tree id.0)
       walk_deep = let r = is_prefix-rest start (path_at tree id.0) walk_last.below in omega (arith, ap length r.1, length-append start r.0)
 
-      -- the rows of the directory are within what is left of all rows
-      pub walk_room : IsOpenTop tree who start → length (flat_map (λ p. piece tree p limit) done) + length (piece tree (path_at tree id.0) limit) ≤ length (all_rows tree)
-      walk_room top =
+      -- the rows of the directory are within what is left of those of the front
+      pub walk_left : length (flat_map (λ p. piece tree p limit) done) + length (piece tree (path_at tree id.0) limit) ≤ length (flat_map (λ p. piece tree p limit) (front tree who start limit))
+      walk_left =
           let P : Components → List Row = λ p. piece tree p limit in
           let x : Components = path_at tree id.0 in
           let later : List Components = fronts_at tree who limit (rest ++ reverse (kid_ids tree who x limit)) in
@@ -381,6 +381,14 @@ module _ (tree : List Directory) (who : Principal) (shape : HasTreeShape tree) w
             ap length parts,
             length-append (flat_map P done ++ P x) (flat_map P later),
             length-append (flat_map P done) (P x),
+          )
+
+      -- and so of all rows
+      pub walk_room : IsOpenTop tree who start → length (flat_map (λ p. piece tree p limit) done) + length (piece tree (path_at tree id.0) limit) ≤ length (all_rows tree)
+      walk_room top =
+          omega (
+            arith,
+            walk_left,
             length_permutation _ _ (listed_at_top limit start top),
             filtered_fewer (λ row. is_listed tree who start (home row)) (all_rows tree),
           )

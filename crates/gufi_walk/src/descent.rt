@@ -194,9 +194,9 @@ fn tell<G: Gate>(gate: &G, id: DirId, first: DirId) {
     }
 }
 
-/// The rows of the pieces at and below a directory as they are shown, those that meet the question so. It takes the directories in path order, but none that
+/// Adds the rows of the pieces at and below a directory as they are shown, those that meet the question so. It takes the directories in path order, but none that
 /// lies too deep for a row that meets the query, and none below a directory where the sum of all rows shows that none does.
-pub(crate) fn rows_below<T: Tester, Y: Yield, S: Skip, G: Gate, L: Ledger>(
+pub(crate) fn add_rows_below<T: Tester, Y: Yield, S: Skip, G: Gate, L: Ledger>(
     alloc: Global,
     snap: &Snapshot,
     who: &Principal,
@@ -205,15 +205,19 @@ pub(crate) fn rows_below<T: Tester, Y: Yield, S: Skip, G: Gate, L: Ledger>(
     skip: &S,
     above: u32,
     gate: &G,
+    out: &mut Y,
     steps: &mut Steps<L>,
-) -> Result<Y, Memory>
+) -> Result<(), Memory>
     requires start { start.0 < length snap.now.tree }
     requires listed { lists_at snap.now.tree who.now (path_at snap.now.tree start.0) ≡ true }
+    requires room { Y.count out.old + length (flat_map (λ path. piece snap.now.tree path snap.now.limit) (front snap.now.tree who.now (path_at snap.now.tree start.0) snap.now.limit)) < 2 ^ 40 }
+    requires rows { (rows : List Row) × Y.stands_for out.old rows }
     requires above { above ≤ length (path_at snap.now.tree start.0) }
     requires query { (row : Row) (depth : ℕ) → T.meets tester.old row depth ≡ true → S.query skip.now row depth ≡ true }
     requires within { lies_within (S.deepest skip.now) above (path_at snap.now.tree start.0) ≡ true }
-    ensures rows { IfOk result (λ y. Y.stands_for y (filter (meets (T.meets tester.old) above)
+    ensures rows { OnOk result ((rows : List Row) → Y.stands_for out.old rows → Y.stands_for out.new (rows ++ filter (meets (T.meets tester.old) above)
         (flat_map (shown_piece snap.now.tree who.now snap.now.limit) (front snap.now.tree who.now (path_at snap.now.tree start.0) snap.now.limit)))) }
+    ensures same { OnOk result (T.meets tester.new ≡ T.meets tester.old) }
     ensures at_most { steps.new ≤ steps.old + length (not_passed (S.skips skip.now) snap.now.tree snap.now.limit
         (no_deeper (S.deepest skip.now) above (front snap.now.tree who.now (path_at snap.now.tree start.0) snap.now.limit))) }
     ensures exact { OnOk result (steps.new ≡ steps.old + length (not_passed (S.skips skip.now) snap.now.tree snap.now.limit
@@ -221,16 +225,13 @@ pub(crate) fn rows_below<T: Tester, Y: Yield, S: Skip, G: Gate, L: Ledger>(
 {
     // The tree's shape tells that the walk ends.
     let _tree = snap.tree();
-    let mut out = Y::none(alloc)?;
     let mut todo = list_of(alloc, start)?;
     while let Some(id) = todo.pop() {
         tell(gate, id, start);
-        let passed = visit(
-            alloc, snap, who, id, tester, skip, above, gate, &mut out, steps,
-        )?;
+        let passed = visit(alloc, snap, who, id, tester, skip, above, gate, out, steps)?;
         push_next(&mut todo, snap, who, id, skip, above, passed)?;
     }
-    Ok(out)
+    Ok(())
 }
 
 /// The rows that the principal lists from a directory on and that meet the question.
@@ -252,7 +253,8 @@ fn answer_from<P: Pred, Y: Yield, S: Skip, L: Ledger>(
 {
     let above = depth_of(snap.tree(), start);
     let mut tester = pred.tester(alloc)?;
-    rows_below(
+    let mut rows = Y::none(alloc)?;
+    add_rows_below(
         alloc,
         snap,
         who,
@@ -261,8 +263,10 @@ fn answer_from<P: Pred, Y: Yield, S: Skip, L: Ledger>(
         skip,
         above,
         &NoGate,
+        &mut rows,
         steps,
-    )
+    )?;
+    Ok(rows)
 }
 
 /// The rows that the principal gets who walks from the start and that meet the question, or the refusal of the start.

@@ -8,6 +8,7 @@
 mod chunk;
 mod descent;
 mod laws;
+mod piece;
 mod refusal;
 mod reply;
 mod shown;

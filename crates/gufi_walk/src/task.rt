@@ -1,20 +1,23 @@
 //! A walk as a job of tasks. A task is a directory of the front; where few directories are at and below it, it takes them all.
 
-ghost use Rattle.std.specs.Prelude.{◌≡◌, ℕ, ◌<◌, true, List, [], ◌∷◌, ◌++◌, length, filter, map, All, Contains, IfOk, OnOk};
+ghost use Rattle.std.specs.Prelude.{◌≡◌, ℕ, ◌+◌, ◌^◌, ◌<◌, ◌≤◌, true, List, [], ◌∷◌, ◌++◌, length, filter, map, All, Contains, IfOk, OnOk};
+ghost use Rattle.std.specs.List.{flat_map};
 ghost use Rattle.gufi_base.specs.declared.record.Row.{Row};
 ghost use Rattle.gufi_tree.specs.Places.{path_at};
-ghost use Rattle.gufi_snap.specs.Pieces.{tree_sum};
-ghost use Rattle.gufi_walk.specs.Walk.{lists_at, kid_ids, meets, is_whole, task_kids, task_rows, open_places};
-ghost use Rattle.gufi_walk.specs.Chunks.{AreChunks};
+ghost use Rattle.gufi_sums.specs.Total.{rows_in};
+ghost use Rattle.gufi_snap.specs.Pieces.{piece, tree_sum};
+ghost use Rattle.gufi_walk.specs.Walk.{lists_at, kid_ids, meets, is_whole, task_dirs, task_kids, task_rows, open_places};
+ghost use Rattle.gufi_walk.specs.Chunks.{Hold, chunks_in};
 
 use crate::chunk::Chunk;
-use crate::descent::{lies_within, may_be_listed, rows_below, visit};
+use crate::descent::{add_rows_below, lies_within, may_be_listed, sum_of_piece, visit};
+use crate::piece::WalkPiece;
 use gufi_access::Principal;
 use gufi_base::{Memory, Pred, Steps, Yield};
 use gufi_io::Gate;
 use gufi_pool::Job;
 use gufi_snap::Snapshot;
-use gufi_sums::Skip;
+use gufi_sums::{Skip, Summary};
 use gufi_tree::DirId;
 use std::alloc::{AllocError, Global};
 use std::marker::{Brand, PhantomData};
@@ -105,69 +108,85 @@ impl<P: Pred, Y: Yield, S: Skip> Walk<'_, P, Y, S> {
         self.snap.tree_sum(id).dirs <= self.grain || self.passes_below(id)
     }
 
-    /// The rows that a task adds.
-    fn rows_of_task<G: Gate, L: Ledger>(
+    /// The sum of the rows at the directories that a task takes.
+    fn sum_of_task(&self, id: DirId) -> &Summary
+        requires given { Contains (open_places self.now.snap.now.tree self.now.who.now (path_at self.now.snap.now.tree self.now.start.0)) id.0 }
+        ensures rows { length (flat_map (λ path. piece self.now.snap.now.tree path self.now.snap.now.limit)
+            (task_dirs (S.skips self.now.skip.now) self.now.snap.now.tree self.now.who.now self.now.snap.now.limit self.now.grain (path_at self.now.snap.now.tree id.0))) ≤ rows_in result.now }
+        ensures few { rows_in result.now < 2 ^ 40 }
+    {
+        // The tree's shape tells that the directory of a task may be listed.
+        let _tree = self.snap.tree();
+        if self.is_whole(id) {
+            return self.snap.tree_sum(id);
+        }
+        sum_of_piece(self.snap, id)
+    }
+
+    /// Adds the rows of a task.
+    fn add_rows<G: Gate, L: Ledger>(
         &self,
         alloc: Global,
         gate: &G,
         id: DirId,
+        tester: &mut P::Tester,
+        out: &mut Y,
         blank: Blank,
-    ) -> Result<Y, Memory>
+    ) -> Result<(), Memory>
         requires name { blank.name ≡ L.name }
         requires parts { blank.parts ≡ L.parts }
         requires one { 0 < blank.parts }
         requires given { Contains (open_places self.now.snap.now.tree self.now.who.now (path_at self.now.snap.now.tree self.now.start.0)) id.0 }
-        ensures { IfOk result (λ y. Y.stands_for y (task_rows (S.skips self.now.skip.now) self.now.snap.now.tree self.now.who.now self.now.snap.now.limit self.now.grain (meets (P.sat self.now.pred.now) self.now.above) id.0)) }
+        requires tester { P.Tester.meets tester.old ≡ P.sat self.now.pred.now }
+        requires room { Y.count out.old + length (flat_map (λ path. piece self.now.snap.now.tree path self.now.snap.now.limit)
+            (task_dirs (S.skips self.now.skip.now) self.now.snap.now.tree self.now.who.now self.now.snap.now.limit self.now.grain (path_at self.now.snap.now.tree id.0))) < 2 ^ 40 }
+        requires rows { (rows : List Row) × Y.stands_for out.old rows }
+        ensures rows { OnOk result ((rows : List Row) → Y.stands_for out.old rows →
+            Y.stands_for out.new (rows ++ task_rows (S.skips self.now.skip.now) self.now.snap.now.tree self.now.who.now self.now.snap.now.limit self.now.grain (meets (P.sat self.now.pred.now) self.now.above) id.0)) }
+        ensures tester { OnOk result (P.Tester.meets tester.new ≡ P.Tester.meets tester.old) }
     {
         // The tree's shape tells how deep the directory of a task lies.
         let _tree = self.snap.tree();
         if !lies_within(self.snap, id, self.skip, self.above) {
-            return Y::none(alloc);
+            return Ok(());
         }
         if self.passes_below(id) {
-            return Y::none(alloc);
+            return Ok(());
         }
         let mut steps = Steps::<L>::new(blank);
-        let mut tester = self.pred.tester(alloc)?;
         if self.is_whole(id) {
-            return rows_below(
-                alloc,
-                self.snap,
-                self.who,
-                id,
-                &mut tester,
-                self.skip,
-                self.above,
-                gate,
+            return add_rows_below(
+                alloc, self.snap, self.who, id, tester, self.skip, self.above, gate, out,
                 &mut steps,
             );
         }
-        let mut rows = Y::none(alloc)?;
         visit(
-            alloc,
-            self.snap,
-            self.who,
-            id,
-            &mut tester,
-            self.skip,
-            self.above,
-            gate,
-            &mut rows,
-            &mut steps,
+            alloc, self.snap, self.who, id, tester, self.skip, self.above, gate, out, &mut steps,
         )?;
-        Ok(rows)
+        Ok(())
     }
 
-    /// The rows that a task adds, in order where walkers share that work.
-    fn settled_rows<G: Gate>(&self, alloc: Global, gate: &G, id: DirId) -> Result<Y, Memory>
-        requires given { Contains (open_places self.now.snap.now.tree self.now.who.now (path_at self.now.snap.now.tree self.now.start.0)) id.0 }
-        ensures { IfOk result (λ y. Y.stands_for y (task_rows (S.skips self.now.skip.now) self.now.snap.now.tree self.now.who.now self.now.snap.now.limit self.now.grain (meets (P.sat self.now.pred.now) self.now.above) id.0)) }
+    /// Whether from a place up to another one stand only directories that may not be listed, with what lies below them.
+    fn none_listed(&self, from: u64, to: u32) -> bool
+        requires { to < length self.now.snap.now.tree }
     {
-        let mut rows = self.rows_of_task::<G, Brand>(alloc, gate, id, Blank::new(1))?;
-        if self.settles {
-            rows.settle(alloc)?;
+        let mut place = from;
+        'places: while place < u64::from(to) {
+            let id = DirId(place as u32);
+            if may_be_listed(self.snap, self.who, id) {
+                return false;
+            }
+            place = place.saturating_add(self.snap.tree_sum(id).dirs.max(1));
         }
-        Ok(rows)
+        place == u64::from(to)
+    }
+
+    /// Whether the rows of a task may stand behind those of a chunk: where no task can lie between, and the chunk hasn't half as
+    /// many directories as a task may take.
+    fn follows(&self, chunk: &Chunk<Y>, task: u32) -> bool
+        requires { task < length self.now.snap.now.tree }
+    {
+        chunk.directories() < self.grain / 2 && self.none_listed(chunk.end, task)
     }
 
     /// Adds the tasks that a task brings forth.
@@ -182,17 +201,35 @@ impl<P: Pred, Y: Yield, S: Skip> Walk<'_, P, Y, S> {
     }
 }
 
-impl<'a, P: Pred + Sync, Y: Yield + Send + Sync, S: Skip + Sync> Job for Walk<'a, P, Y, S> {
-    type Piece = Vec<Chunk<Y>>;
+/// How many rows a sum counts.
+fn rows_of(sum: &Summary) -> u64
+    requires { rows_in sum.now < 2 ^ 40 }
+    ensures { result ≡ rows_in sum.now }
+{
+    sum.dirs + sum.files + sum.links + sum.others
+}
+
+impl<'a, P: Pred + Sync, Y: Yield + Send + Sync, S: Skip + Sync> Job for Walk<'a, P, Y, S>
+where
+    P::Tester: Send,
+{
+    type Piece = WalkPiece<Y, P::Tester>;
 
     ghost given = { λ w. open_places w.snap.now.tree w.who.now (path_at w.snap.now.tree w.start.0) };
 
     ghost kids_of = { λ w task. task_kids (S.skips w.skip.now) w.snap.now.tree w.who.now w.snap.now.limit w.grain task };
 
-    ghost stands = { λ w piece ran. AreChunks Y.stands_for (task_rows (S.skips w.skip.now) w.snap.now.tree w.who.now w.snap.now.limit w.grain (meets (P.sat w.pred.now) w.above)) piece.items ran };
+    ghost stands = { λ w piece ran. Hold Y.stands_for (chunks_in piece) (flat_map (task_rows (S.skips w.skip.now) w.snap.now.tree w.who.now w.snap.now.limit w.grain (meets (P.sat w.pred.now) w.above)) ran)
+        × (P.Tester.meets piece.tester ≡ P.sat w.pred.now) };
 
-    fn fresh(&self, alloc: Global) -> Result<Vec<Chunk<Y>>, Memory> {
-        Ok(Vec::new(alloc))
+    fn fresh(&self, alloc: Global) -> Result<WalkPiece<Y, P::Tester>, Memory> {
+        let last = Chunk::at(alloc, 0, self.settles)?;
+        let tester = self.pred.tester(alloc)?;
+        Ok(WalkPiece {
+            last,
+            ended: Vec::new(alloc),
+            tester,
+        })
     }
 
     fn run<G: Gate>(
@@ -200,14 +237,26 @@ impl<'a, P: Pred + Sync, Y: Yield + Send + Sync, S: Skip + Sync> Job for Walk<'a
         alloc: Global,
         gate: &G,
         task: u32,
-        piece: &mut Vec<Chunk<Y>>,
+        piece: &mut WalkPiece<Y, P::Tester>,
         kids: &mut Vec<u32>,
     ) -> Result<(), Memory> {
         // The tree's shape tells that the directory of a task may be listed.
         let _tree = self.snap.tree();
         let id = DirId(task);
-        let rows = self.settled_rows(alloc, gate, id)?;
-        piece.push(Chunk { first: task, rows })?;
+        let sum = self.sum_of_task(id);
+        let rows = rows_of(sum);
+        let goes_on = self.follows(&piece.last, task);
+        piece.make_ready(alloc, task, rows, goes_on, self.settles)?;
+        self.add_rows::<G, Brand>(
+            alloc,
+            gate,
+            id,
+            &mut piece.tester,
+            &mut piece.last.rows,
+            Blank::new(1),
+        )?;
+        piece.last.end = u64::from(task) + sum.dirs;
+        piece.last.most += rows;
         self.push_kids(kids, id)?;
         Ok(())
     }

@@ -5,7 +5,9 @@ use Rattle.gufi_pool.proofs.Zips.{all_through}
 use Rattle.gufi_pool.proofs.start.deal.Goals as goal
 
 pub deal_one-requires-clause-at : goal.deal_one-requires-clause-at
-deal_one-requires-clause-at g c = let n = same_length but_pushed _ _ c.loop-i.invariant.same in let o = c.args.members.now.ok in let w = c.len-workers.ensures in omega arith
+deal_one-requires-clause-at g c =
+    let below = c.share_of-share.ensures.all c.loop-i.i c.loop-i-test.true in
+    omega (arith, below, same_length but_pushed _ _ c.loop-i.invariant.same, c.args.members.now.ok.0, c.len.ensures)
 
 pub deal_one-requires-clause-shares : goal.deal_one-requires-clause-shares
 deal_one-requires-clause-shares g c = all_through but_pushed (λ p. 0 < p.1.0.0) _ _ c.loop-i.invariant.same c.requires.shares

@@ -1,12 +1,15 @@
-use Rattle.std.proofs.Common.{◌≡◌, ◌∙◌, false, List, sym, subst, arith}
-use Rattle.std.proofs.lemmas.Result.{IfOk-weaker}
+use Rattle.std.proofs.Common.{◌≡◌, ◌∙◌, Bool, false, cond, List, [], ◌∷◌, ◌++◌, length, ap, sym, subst, arith}
+use Rattle.std.specs.List.{flat_map}
+use Rattle.std.proofs.lemmas.List.{append-nil}
+use Rattle.gufi_base.specs.declared.record.Row.{Row}
 use Rattle.gufi_base.specs.Paths.{Components}
 use Rattle.gufi_tree.specs.Places.{path_at}
+use Rattle.gufi_snap.specs.Pieces.{front, piece}
 use Rattle.gufi_walk.specs.Walk.{lies_within, task_dirs}
 use Rattle.gufi_walk.proofs.Bounded.{all_too_deep, all_passed, task_too_deep, task_passed}
 use Rattle.gufi_walk.proofs.Passed.{IsTest, test_of_query}
-use Rattle.gufi_walk.proofs.Tasks.{place_open, place_deep, place_listed, piece_few}
-use Rattle.gufi_walk.proofs.task.Walk.rows_of_task.Goals as goal
+use Rattle.gufi_walk.proofs.Tasks.{place_open, place_deep, place_listed}
+use Rattle.gufi_walk.proofs.task.Walk.add_rows.Goals as goal
 
 pub lies_within-requires-clause-id : goal.lies_within-requires-clause-id
 lies_within-requires-clause-id g c =
@@ -19,8 +22,8 @@ lies_within-requires-clause-above g c =
     omega (arith, w.above_is, place_deep w.snap.now.tree w.who.now c.tree-tree.ensures.shape (path_at w.snap.now.tree w.start.0) c.args.id.0 c.requires.given)
 
 -- a task that lies too deep adds no row
-pub returns-then-not-lies_within : goal.returns-then-not-lies_within
-returns-then-not-lies_within g c =
+pub returns-then-not-lies_within-clause-rows : goal.returns-then-not-lies_within-clause-rows
+returns-then-not-lies_within-clause-rows g c = λ rows h.
     let w = c.args.self.now in
     let tree = w.snap.now.tree in
     let path : Components = path_at tree c.args.id.0 in
@@ -32,7 +35,7 @@ returns-then-not-lies_within g c =
     let deep : lies_within deepest w.above path ≡ false = sym c.lies_within.ensures ∙ c.if-not-lies_within.true in
     let dirs : List Components = task_dirs skips tree w.who.now w.snap.now.limit w.grain path in
     let none = all_too_deep tree w.snap.now.limit w.who.now skips deepest w.above sat test dirs (task_too_deep tree w.snap.now.limit w.who.now skips deepest w.above w.grain path deep) in
-    IfOk-weaker c.none.result _ _ (λ y h. subst (g.Y.Yield.stands_for y) (sym none) h) c.none.ensures
+    subst (λ more. g.Y.Yield.stands_for c.args.out.now (rows ++ more)) (sym none) (subst (g.Y.Yield.stands_for c.args.out.now) (sym (append-nil rows)) h)
 
 pub passes_below-requires : goal.passes_below-requires
 passes_below-requires g c =
@@ -40,8 +43,8 @@ passes_below-requires g c =
     (place_open w.snap.now.tree w.who.now c.tree-tree.ensures.shape (path_at w.snap.now.tree w.start.0) c.args.id.0 c.requires.given).within
 
 -- nor does one of which all rows are passed over
-pub returns-then-passes_below : goal.returns-then-passes_below
-returns-then-passes_below g c =
+pub returns-then-passes_below-clause-rows : goal.returns-then-passes_below-clause-rows
+returns-then-passes_below-clause-rows g c = λ rows h.
     let w = c.args.self.now in
     let tree = w.snap.now.tree in
     let path : Components = path_at tree c.args.id.0 in
@@ -53,25 +56,25 @@ returns-then-passes_below g c =
     let dirs : List Components = task_dirs skips tree w.who.now w.snap.now.limit w.grain path in
     let passed = task_passed tree w.snap.now.limit w.who.now skips test.parts w.grain path (sym c.passes_below.ensures ∙ c.if-passes_below.true) in
     let none = all_passed tree w.snap.now.limit w.who.now skips deepest w.above sat test dirs passed in
-    IfOk-weaker c.none-then-passes_below.result _ _ (λ y h. subst (g.Y.Yield.stands_for y) (sym none) h) c.none-then-passes_below.ensures
+    subst (λ more. g.Y.Yield.stands_for c.args.out.now (rows ++ more)) (sym none) (subst (g.Y.Yield.stands_for c.args.out.now) (sym (append-nil rows)) h)
 
 pub is_whole-requires : goal.is_whole-requires
 is_whole-requires g c =
     let w = c.args.self.now in
     (place_open w.snap.now.tree w.who.now c.tree-tree.ensures.shape (path_at w.snap.now.tree w.start.0) c.args.id.0 c.requires.given).within
 
-pub rows_below-requires-clause-start : goal.rows_below-requires-clause-start
-rows_below-requires-clause-start g c =
+pub add_rows_below-requires-clause-start : goal.add_rows_below-requires-clause-start
+add_rows_below-requires-clause-start g c =
     let w = c.args.self.now in
     (place_open w.snap.now.tree w.who.now c.tree-tree.ensures.shape (path_at w.snap.now.tree w.start.0) c.args.id.0 c.requires.given).within
 
-pub rows_below-requires-clause-listed : goal.rows_below-requires-clause-listed
-rows_below-requires-clause-listed g c =
+pub add_rows_below-requires-clause-listed : goal.add_rows_below-requires-clause-listed
+add_rows_below-requires-clause-listed g c =
     let w = c.args.self.now in
     place_listed w.snap.now.tree w.who.now c.tree-tree.ensures.shape (path_at w.snap.now.tree w.start.0) c.args.id.0 c.requires.given
 
-pub rows_below-requires-clause-above : goal.rows_below-requires-clause-above
-rows_below-requires-clause-above g c =
+pub add_rows_below-requires-clause-above : goal.add_rows_below-requires-clause-above
+add_rows_below-requires-clause-above g c =
     let w = c.args.self.now in
     omega (arith, w.above_is, place_deep w.snap.now.tree w.who.now c.tree-tree.ensures.shape (path_at w.snap.now.tree w.start.0) c.args.id.0 c.requires.given)
 
@@ -87,6 +90,9 @@ visit-requires-clause-above g c =
 
 pub visit-requires-clause-room : goal.visit-requires-clause-room
 visit-requires-clause-room g c =
-    let law = g.met.Y.Yield.counted in
     let w = c.args.self.now in
-    omega (arith, law _ _ c.in_ok-rows.ensures, piece_few w.snap.now.tree (path_at w.snap.now.tree c.args.id.0) w.snap.now.limit, c.tree-tree.ensures.few)
+    let tree = w.snap.now.tree in
+    let path : Components = path_at tree c.args.id.0 in
+    let P : Components → List Row = λ p. piece tree p w.snap.now.limit in
+    let small = ap (λ (b : Bool). length (flat_map P (cond b (front tree w.who.now path w.snap.now.limit) (path ∷ [])))) (sym c.is_whole.ensures ∙ c.if-is_whole.false) in
+    omega (arith, c.requires.room, small, ap length (append-nil (P path)))
