@@ -169,28 +169,20 @@ impl DigitPairs {
         end_behind(self.separator, text, number, at)
     }
 
-    /// The same of so many of the first bytes as are looked at.
-    #[inline(never)]
-    fn number_in_front(&self, text: &[u8]) -> Option<(u64, usize)>
-        ensures { IfSome result (λ found. NumberBefore self.now text.now found.0 found.1) }
-    {
-        self.number_within(text, MOST_DIGITS.min(text.len()))
-    }
-
     /// The number that decimal digits write before the first separator of a text, and where that stands.
     ///
-    /// It looks at no more than sixteen digits, and where it gives nothing, nothing is known.
+    /// It looks at no more than ten digits, or sixteen where it may be wide; where it gives nothing, nothing is known.
     #[inline(always)]
-    pub(crate) fn number_before(&self, text: &[u8]) -> Option<(u64, usize)>
+    pub(crate) fn number_before<const WIDE: bool>(&self, text: &[u8]) -> Option<(u64, usize)>
         ensures { IfSome result (λ found. NumberBefore self.now text.now found.0 found.1) }
     {
+        if WIDE {
+            return self.number_within(text, MOST_DIGITS.min(text.len()));
+        }
         // Where so many bytes are there, only the digits end the loop.
         if text.len() >= USUAL {
-            let found = self.number_within(text, USUAL);
-            if found.is_some() {
-                return found;
-            }
+            return self.number_within(text, USUAL);
         }
-        self.number_in_front(text)
+        None
     }
 }
