@@ -103,7 +103,7 @@ pub some_behind : (s : ℕ) (text : List ℕ) (at k : ℕ) → IsClear s text at
 some_behind s text at k clear e =
     let h = position-Some (λ b. eqb b s) (drop at text) k 0 (sym e) in
     let earlier : (j : ℕ) → j < at + k → eqb (get_or text j 0) s ≡ false =
-        λ j below. ⊎_elim (λ (l : j < at). clear j l) (λ (g : at ≤ j). sym (left_at s text at (j - at) j (omega arith)) ∙ h.2 (j - at) (omega arith)) (cases_lt j at) in
+    λ j below. ⊎_elim (λ (l : j < at). clear j l) (λ (g : at ≤ j). sym (left_at s text at (j - at) j (omega arith)) ∙ h.2 (j - at) (omega arith)) (cases_lt j at) in
     first_place s text (Some (at + k)) (
       record { low = omega arith; high = (let d = length-drop at text in let i = h.0 in omega arith); before = λ j least below pass. false≢true (sym (earlier j below) ∙ pass) },
       sym (left_at s text at k (at + k) refl) ∙ h.1,

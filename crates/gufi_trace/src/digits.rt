@@ -113,12 +113,12 @@ fn end_behind(separator: u8, text: &[u8], number: u64, at: usize) -> Option<(u64
     requires front { ReadsFront text.now number at }
     ensures { IfSome result (λ found. NumberBefore separator text.now found.0 found.1) }
 {
-    if at == 0 || at >= text.len() {
+    if at == 0 || at >= text.len() || text[at] != separator {
         return None;
     }
-    match digit_of(text[at]) {
-        None if text[at] == separator => Some((number, at)),
-        _ => None,
+    match digit_of(separator) {
+        None => Some((number, at)),
+        Some(_) => None,
     }
 }
 
