@@ -1,6 +1,6 @@
 //! Lines that are seen to be sound in one pass: nearly all are. What is told nothing here, the exact readers read.
 
-ghost use Rattle.std.specs.Prelude.{◌≡◌, ℕ, ℤ, true, false, Ok, IfOk, IfSome};
+ghost use Rattle.std.specs.Prelude.{◌≡◌, ◌<◌, ◌^◌, ℕ, ℤ, true, false, Ok, IfOk, IfSome};
 ghost use Rattle.gufi_base.specs.Basics.{part_at};
 ghost use Rattle.gufi_base.specs.Kinds.{is_dir};
 ghost use Rattle.gufi_base.specs.Numbers.{read_u32, read_u64, read_i64};
@@ -23,12 +23,14 @@ fn next_u64<const WIDE: bool>(parts: &mut Parts<'_>, pairs: &DigitPairs) -> Opti
     parts.next_number::<WIDE>(pairs)
 }
 
+/// A number below 2^32, not yet in its own type: an `Option` of that would be made and taken apart at each field.
 #[inline(always)]
-fn next_u32<const WIDE: bool>(parts: &mut Parts<'_>, pairs: &DigitPairs) -> Option<u32>
-    ensures { IfSome result (λ n. Takes ℕ read_u32 parts.old parts.new n) }
+fn next_u32<const WIDE: bool>(parts: &mut Parts<'_>, pairs: &DigitPairs) -> Option<u64>
+    ensures takes { IfSome result (λ n. Takes ℕ read_u32 parts.old parts.new n) }
+    ensures fits { IfSome result (λ n. n < 2 ^ 32) }
 {
     match parts.next_number::<WIDE>(pairs)? {
-        number if number <= 4294967295 => Some(number as u32),
+        number if number <= 4294967295 => Some(number),
         _ => None,
     }
 }
@@ -53,10 +55,10 @@ fn take_meta<const WIDE: bool>(
 {
     meta.kind = parts.next_kind()?;
     meta.inode = next_u64::<WIDE>(parts, pairs)?;
-    meta.mode = (next_u32::<WIDE>(parts, pairs)? % MODES) as u16;
+    meta.mode = (next_u32::<WIDE>(parts, pairs)? as u32 % MODES) as u16;
     meta.nlink = next_u64::<WIDE>(parts, pairs)?;
-    meta.uid = next_u32::<WIDE>(parts, pairs)?;
-    meta.gid = next_u32::<WIDE>(parts, pairs)?;
+    meta.uid = next_u32::<WIDE>(parts, pairs)? as u32;
+    meta.gid = next_u32::<WIDE>(parts, pairs)? as u32;
     meta.size = next_u64::<WIDE>(parts, pairs)?;
     meta.blksize = next_u64::<WIDE>(parts, pairs)?;
     meta.blocks = next_u64::<WIDE>(parts, pairs)?;
