@@ -286,9 +286,25 @@ fn add_seen<const WIDE: bool>(
     }
 }
 
-/// Takes the next line as `add_seen` does, where a number has more digits than most.
+/// Takes the next line behind others, where it is seen to be sound by numbers of at most ten digits, as most are; tells whether
+/// it was.
 #[inline(never)]
-fn add_wide(
+pub(crate) fn add_usual(
+    alloc: Global,
+    delim: u8,
+    pairs: &DigitPairs,
+    root: &Path,
+    lines: &mut Lines,
+    text: &[u8],
+) -> Result<bool, AllocError>
+    ensures { IfOk result (λ taken. AddsNext taken delim root.now text.now lines.old lines.new) }
+{
+    add_seen::<false>(alloc, delim, pairs, root, lines, text)
+}
+
+/// The same where a number may have more digits.
+#[inline(never)]
+pub(crate) fn add_wide(
     alloc: Global,
     delim: u8,
     pairs: &DigitPairs,
@@ -299,22 +315,4 @@ fn add_wide(
     ensures { IfOk result (λ taken. AddsNext taken delim root.now text.now lines.old lines.new) }
 {
     add_seen::<true>(alloc, delim, pairs, root, lines, text)
-}
-
-/// Takes the next line behind others, where it is seen to be sound; tells whether it was.
-#[inline(always)]
-pub(crate) fn add_sound(
-    alloc: Global,
-    delim: u8,
-    pairs: &DigitPairs,
-    root: &Path,
-    lines: &mut Lines,
-    text: &[u8],
-) -> Result<bool, AllocError>
-    ensures { IfOk result (λ taken. AddsNext taken delim root.now text.now lines.old lines.new) }
-{
-    if add_seen::<false>(alloc, delim, pairs, root, lines, text)? {
-        return Ok(true);
-    }
-    add_wide(alloc, delim, pairs, root, lines, text)
 }

@@ -42,6 +42,7 @@ impl Model for TraceReader {
 }
 
 /// Takes the line that the rest begins and the part ends; most lines have no rest.
+#[inline(always)]
 fn end_line(
     alloc: Global,
     delim: u8,
