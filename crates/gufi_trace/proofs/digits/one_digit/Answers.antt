@@ -1,4 +1,4 @@
-use Rattle.std.proofs.Common.{◌+◌, ◌*◌, ◌-◌, ◌≡◌, ℕ, sym, subst, ◌∙◌, arith}
+use Rattle.std.proofs.Common.{ℕ, subst, arith}
 use Rattle.gufi_base.specs.Numbers.{NumberBefore}
 use Rattle.gufi_trace.proofs.Pairs.{no_digits, one_more}
 use Rattle.gufi_trace.proofs.digits.one_digit.Goals as goal

@@ -1,4 +1,4 @@
-use Rattle.std.proofs.Common.{◌+◌, ◌≤◌, length, drop, sym, ◌∙◌, arith}
+use Rattle.std.proofs.Common.{◌+◌, ◌≤◌, length, drop, arith}
 use Rattle.std.proofs.lemmas.List.{length-drop}
 use Rattle.gufi_trace.proofs.NearEnds.{near_end, clear_more, some_behind, none_behind}
 use Rattle.gufi_trace.proofs.fields.end_by_blocks.Goals as goal
