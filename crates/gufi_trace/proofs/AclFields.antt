@@ -1,5 +1,5 @@
 -- The field of an access control list: what is read is sound, and what is written is read again.
-use Rattle.std.proofs.Common.{◌≡◌, ℕ, Bool, true, false, cond, List, [], ◌∷◌, ◌++◌, refl, subst, arith}
+use Rattle.std.proofs.Common.{◌≡◌, ℕ, Bool, true, false, cond, List, [], ◌∷◌, ◌++◌, length, refl, subst, arith}
 use Rattle.std.specs.Prelude.{Ok}
 use Rattle.gufi_base.specs.Basics.{is_empty, part_at, result_map_err}
 use Rattle.gufi_base.specs.Rows.{are_bytes}
@@ -18,6 +18,10 @@ use Rattle.gufi_trace.proofs.MetaRead.{map_err_ok}
 no_list : acl_field [] ≡ Ok []
 unfolding acl_field
 no_list = refl
+
+pub no_bytes : (field : List ℕ) → length field ≡ 0 → acl_field field ≡ Ok []
+no_bytes [] e = no_list
+no_bytes (b ∷ field) e = absurd (omega arith)
 
 marked_back : (acl : List ℕ) → is_empty acl ≡ false → is_acl_or_none acl ≡ true → are_bytes acl ≡ true → acl_field (acl_text acl) ≡ Ok acl
 unfolding acl_field

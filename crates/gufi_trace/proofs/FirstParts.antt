@@ -50,7 +50,7 @@ part_left s text false parts open_still is e = sym is ∙ split_whole s text e
 none_pass : (s : ℕ) (text : List ℕ) → length text ≤ position_or_len (is_end s) text → (k : ℕ) → k < length text → eqb (get_or text k 0) s ≡ false
 none_pass s text h k lt = not-true _ (prefix_len_passes (λ b. not (eqb b s)) text k 0 (omega arith))
 
-first_byte : (s : ℕ) (text : List ℕ) → IsFirstByte (is_byte s) text (position (is_end s) text)
+pub first_byte : (s : ℕ) (text : List ℕ) → IsFirstByte (is_byte s) text (position (is_end s) text)
 first_byte s text = by (ltb (position_or_len (is_end s) text) (length text)) refl
   where
     by : (b : Bool) → ltb (position_or_len (is_end s) text) (length text) ≡ b → IsFirstByte (is_byte s) text (cond b (Some (position_or_len (is_end s) text)) None)

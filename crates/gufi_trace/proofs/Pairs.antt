@@ -63,6 +63,14 @@ pair_more s text n at v within front is small =
     let place : at + 1 + 1 ≡ at + 2 = omega arith in
     subst (λ k. ReadsFront text (n * 100 + v) k) place (subst (λ m. ReadsFront text m (at + 1 + 1)) number two)
 
+-- before any digit
+pub no_digits : (text : List ℕ) → ReadsFront text 0 0
+no_digits text = record { worth = refl; tested = refl; small = omega arith }
+
+-- the first two digits
+pub first_pair : (s : ℕ) (text : List ℕ) (n v : ℕ) → n ≡ v → 1 < length text → v ≡ pair_value s (get_or text 0 0) (get_or text 1 0) → v < 100 → ReadsFront text n 2
+first_pair s text n v e within is small = let same : 0 * 100 + v ≡ n = omega (arith, e) in subst (λ m. ReadsFront text m 2) same (pair_more s text 0 0 v within (no_digits text) is small)
+
 -- one digit more, and the separator
 pub one_more : (s : ℕ) (text : List ℕ) (n at v : ℕ) → at + 1 < length text → at + 1 < 19 → ReadsFront text n at → v ≡ pair_value s (get_or text at 0) (get_or text (at + 1) 0) → 100 ≤ v → v < 254
     → NumberBefore s text (n * 10 + (v - 100)) (at + 1)

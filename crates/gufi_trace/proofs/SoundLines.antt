@@ -1,6 +1,6 @@
 -- Lines that are seen to be sound.
-use Rattle.std.proofs.Common.{◌≡◌, ℕ, ℤ, Bool, ◌+◌, ◌%◌, ◌<◌, ◌≤◌, leb, true, false, List, [], ◌∷◌, ◌++◌, length, Option, Some, Ok, refl, sym, ap, subst, ◌∙◌, arith}
-use Rattle.std.specs.Prelude.{◌==◌, Result, Err, ok_or, IfOk}
+use Rattle.std.proofs.Common.{◌≡◌, ℕ, ℤ, Bool, ◌+◌, ◌%◌, ◌<◌, ◌≤◌, leb, true, false, List, [], ◌∷◌, ◌++◌, length, Option, Some, None, Ok, refl, sym, ap, subst, ◌∙◌, arith}
+use Rattle.std.specs.Prelude.{◌==◌, Result, Err, ok_or, IfOk, IfSome}
 use Rattle.std.specs.List.{list_any}
 use Rattle.std.specs.declared.alloc.AllocError.{AllocError}
 use Rattle.std.proofs.lemmas.Bool.{cond-true, cond-false, le-ltb}
@@ -9,8 +9,8 @@ use Rattle.gufi_base.specs.declared.record.Kind.{Kind}
 use Rattle.gufi_base.specs.declared.record.Line.{Line}
 use Rattle.gufi_base.specs.Limits.{max_dirs, max_entries, max_link}
 use Rattle.gufi_base.specs.Basics.{split, part_at, ◌>>=◌, ◌>>◌, refuse}
-use Rattle.gufi_base.specs.Numbers.{read_i64}
-use Rattle.gufi_base.specs.Kinds.{is_dir}
+use Rattle.gufi_base.specs.Numbers.{read_u32, read_u64, read_i64}
+use Rattle.gufi_base.specs.Kinds.{is_dir, read_kind}
 use Rattle.gufi_base.specs.Paths.{Components, read_path, is_prefix}
 use Rattle.gufi_base.proofs.Below.{is_prefix-append}
 use Rattle.gufi_tree.specs.StanzaLines.{stanza_holds}
@@ -18,15 +18,13 @@ use Rattle.gufi_trace.specs.declared.fault.TraceKind.{TraceKind}
 use Rattle.gufi_trace.specs.declared.fault.TraceKind.TheVariants.{Short}
 use Rattle.gufi_base.specs.declared.path.PathFault.{PathFault}
 use Rattle.gufi_trace.specs.declared.quick.Content.{Content}
-use Rattle.gufi_trace.specs.declared.quick.Owner.{Owner}
-use Rattle.gufi_trace.specs.declared.quick.Sizes.{Sizes}
 use Rattle.gufi_trace.specs.declared.lines.Progress.{Progress}
 use Rattle.gufi_trace.specs.AttributeField.{xattrs_of}
 use Rattle.gufi_trace.specs.AclField.{acl_field}
 use Rattle.gufi_trace.specs.Fields.{Texts, fields_of}
 use Rattle.gufi_trace.specs.Lines.{dirs_of, entries_of, place_fault, path_with_link, below_root, unless_fault, meta_in, line_in}
 use Rattle.gufi_trace.specs.Progress.{root_behind}
-use Rattle.gufi_trace.specs.Taken.{Takes, TakesOwner, TakesSizes, TakesMeta, TakesContent, IsPlaced, IsSoundBehind, line_with, Adds, AddsNext}
+use Rattle.gufi_trace.specs.Taken.{Takes, TakesMeta, TakesEnd, TakesContent, IsPlaced, IsSoundBehind, line_with, Adds, AddsListed, AddsNext}
 use Rattle.gufi_trace.proofs.Feeds.{progress_of}
 
 -- a directory below the root
@@ -55,33 +53,32 @@ step {A} r x kind f out e h = ap (λ (o : Option A). ok_or o kind >>= f) e ∙ h
 behind : (old new later : List (List ℕ)) (field : List ℕ) → old ≡ field ∷ new → new ≡ later → old ≡ field ∷ later
 behind old new later field e h = e ∙ ap (λ (ps : List (List ℕ)). field ∷ ps) h
 
-pub taken_meta : (p q r s t u : List (List ℕ)) (owner : Owner) (sizes : Sizes) (atime mtime ctime : ℤ) → TakesOwner p q owner → TakesSizes q r sizes → Takes ℤ read_i64 r s atime → Takes ℤ read_i64 s t mtime → Takes ℤ read_i64 t u ctime
-    → TakesMeta p u (record { kind = owner.kind; inode = owner.inode; mode = owner.mode % 4096; nlink = owner.nlink; uid = owner.uid; gid = owner.gid; size = sizes.size; blksize = sizes.blksize; blocks = sizes.blocks; atime = atime; mtime = mtime; ctime = ctime })
+pub taken_meta : (p0 p1 p2 p3 p4 p5 p6 p7 p8 p9 p10 p11 p12 : List (List ℕ)) (kind : Kind) (inode mode nlink uid gid size blksize blocks : ℕ) (atime mtime ctime : ℤ)
+    → Takes Kind read_kind p0 p1 kind → Takes ℕ read_u64 p1 p2 inode → Takes ℕ read_u32 p2 p3 mode → Takes ℕ read_u64 p3 p4 nlink → Takes ℕ read_u32 p4 p5 uid → Takes ℕ read_u32 p5 p6 gid → Takes ℕ read_u64 p6 p7 size → Takes ℕ read_u64 p7 p8 blksize → Takes ℕ read_u64 p8 p9 blocks → Takes ℤ read_i64 p9 p10 atime → Takes ℤ read_i64 p10 p11 mtime → Takes ℤ read_i64 p11 p12 ctime
+    → TakesMeta p0 p12 (record { kind = kind; inode = inode; mode = mode % 4096; nlink = nlink; uid = uid; gid = gid; size = size; blksize = blksize; blocks = blocks; atime = atime; mtime = mtime; ctime = ctime })
 unfolding meta_in
-taken_meta p q r s t u owner sizes atime mtime ctime o z a m c =
+taken_meta p0 p1 p2 p3 p4 p5 p6 p7 p8 p9 p10 p11 p12 kind inode mode nlink uid gid size blksize blocks atime mtime ctime a b c d e f g h i j k l =
     record {
       f = record {
         path = [];
-        kind = o.kind.field;
-        inode = o.inode.field;
-        mode = o.mode.field;
-        nlink = o.nlink.field;
-        uid = o.uid.field;
-        gid = o.gid.field;
-        size = z.size.field;
-        blksize = z.blksize.field;
-        blocks = z.blocks.field;
-        atime = a.field;
-        mtime = m.field;
-        ctime = c.field;
+        kind = a.field;
+        inode = b.field;
+        mode = c.field;
+        nlink = d.field;
+        uid = e.field;
+        gid = f.field;
+        size = g.field;
+        blksize = h.field;
+        blocks = i.field;
+        atime = j.field;
+        mtime = k.field;
+        ctime = l.field;
         link = [];
         xattrs = [];
         acl = [];
       };
-      is = behind _ _ _ _ o.kind.is (behind _ _ _ _ o.inode.is (behind _ _ _ _ o.mode.is (behind _ _ _ _ o.nlink.is (behind _ _ _ _ o.uid.is (behind _ _ _ _ o.gid.is
-          (behind _ _ _ _ z.size.is (behind _ _ _ _ z.blksize.is (behind _ _ _ _ z.blocks.is (behind _ _ _ _ a.is (behind _ _ _ _ m.is c.is))))))))));
-      reads = step _ _ _ _ _ o.kind.reads (step _ _ _ _ _ o.inode.reads (step _ _ _ _ _ o.mode.reads (step _ _ _ _ _ o.nlink.reads (step _ _ _ _ _ o.uid.reads (step _ _ _ _ _ o.gid.reads
-          (step _ _ _ _ _ z.size.reads (step _ _ _ _ _ z.blksize.reads (step _ _ _ _ _ z.blocks.reads (step _ _ _ _ _ a.reads (step _ _ _ _ _ m.reads (step _ _ _ _ _ c.reads refl)))))))))));
+      is = behind _ _ _ _ a.is (behind _ _ _ _ b.is (behind _ _ _ _ c.is (behind _ _ _ _ d.is (behind _ _ _ _ e.is (behind _ _ _ _ f.is (behind _ _ _ _ g.is (behind _ _ _ _ h.is (behind _ _ _ _ i.is (behind _ _ _ _ j.is (behind _ _ _ _ k.is (l.is)))))))))));
+      reads = step _ _ _ _ _ a.reads (step _ _ _ _ _ b.reads (step _ _ _ _ _ c.reads (step _ _ _ _ _ d.reads (step _ _ _ _ _ e.reads (step _ _ _ _ _ f.reads (step _ _ _ _ _ g.reads (step _ _ _ _ _ h.reads (step _ _ _ _ _ i.reads (step _ _ _ _ _ j.reads (step _ _ _ _ _ k.reads (step _ _ _ _ _ l.reads refl)))))))))));
     }
 
 -- the path, the record, the link and the names of extended attributes of a line's parts
@@ -99,6 +96,15 @@ taken_content p0 p1 p2 p3 content e m h no_zero short names list =
       xattrs = names;
       acl = list;
     }
+
+-- the same where the end of a line is put behind the rest of it
+content_ended : (p0 p1 p2 : List (List ℕ)) (old content : Content) → p0 ≡ old.path.now ∷ p1 → TakesMeta p1 p2 old.meta → TakesEnd p2 old content → TakesContent p0 content
+content_ended p0 p1 p2 old content e m end =
+    taken_content p0 p1 p2 end.behind content (e ∙ ap (λ (path : List ℕ). path ∷ p1) (sym end.path)) (subst (TakesMeta p1 p2) (sym end.meta) m) end.link end.no_zero end.short end.xattrs end.acl
+
+pub ended_result : (given : Option (Unit {0})) (p0 p1 p2 : List (List ℕ)) (old content : Content) → p0 ≡ old.path.now ∷ p1 → TakesMeta p1 p2 old.meta → IfSome given (λ _. TakesEnd p2 old content) → IfSome given (λ _. TakesContent p0 content)
+ended_result None p0 p1 p2 old content e m end = tt
+ended_result (Some x) p0 p1 p2 old content e m end = content_ended p0 p1 p2 old content e m end
 
 refuse_no : {A : Type 0} (b : Bool) (kind : TraceKind) (next out : Result A TraceKind) → b ≡ false → next ≡ out → (refuse b kind >> next) ≡ out
 refuse_no {A} b kind next out e h = ap (λ b. refuse b kind >> next) e ∙ h
@@ -144,10 +150,17 @@ pub sound_next : (taken : Bool) (delim : ℕ) (root : Components) (text : List �
 sound_next true delim root text parts content acl old new e holds list some h = (line_with old content acl h.0, sound_line delim root old text parts content acl h.0 e holds list h.1 some, h.2)
 sound_next false delim root text parts content acl old new e holds list some h = h
 
-pub sound_result : (given : Result Bool AllocError) (delim : ℕ) (root : Components) (text : List ℕ) (parts : List (List ℕ)) (content : Content) (acl : List ℕ) (old new : List Line) → parts ≡ split delim text → TakesContent parts content → acl_field content.acl.now ≡ Ok acl → 0 < length old
-    → IfOk given (λ taken. Adds taken root content acl old new) → IfOk given (λ taken. AddsNext taken delim root text old new)
-sound_result (Ok taken) delim root text parts content acl old new e holds list some h = sound_next taken delim root text parts content acl old new e holds list some h
-sound_result (Err error) delim root text parts content acl old new e holds list some h = tt
+-- the same of content with the list of its own field
+pub listed_result : (given : Result Bool AllocError) (root : Components) (content : Content) (acl : List ℕ) (old new : List Line) → acl_field content.acl.now ≡ Ok acl → IfOk given (λ taken. Adds taken root content acl old new) → IfOk given (λ taken. AddsListed taken root content old new)
+listed_result (Ok true) root content acl old new list h = (acl, list, h)
+listed_result (Ok false) root content acl old new list h = h
+listed_result (Err error) root content acl old new list h = tt
+
+pub sound_result : (given : Result Bool AllocError) (delim : ℕ) (root : Components) (text : List ℕ) (parts : List (List ℕ)) (content : Content) (old new : List Line) → parts ≡ split delim text → TakesContent parts content → 0 < length old
+    → IfOk given (λ taken. AddsListed taken root content old new) → IfOk given (λ taken. AddsNext taken delim root text old new)
+sound_result (Ok true) delim root text parts content old new e holds some h = sound_next true delim root text parts content h.0 old new e holds h.1 some h.2
+sound_result (Ok false) delim root text parts content old new e holds some h = h
+sound_result (Err error) delim root text parts content old new e holds some h = tt
 
 -- a reader that has a line has its root
 pub settled_behind : (delim : ℕ) (known : Progress) (text : List ℕ) → 0 < length known.lines → known ≡ progress_of (root_behind known.lines known.root delim (text ∷ [])) known.lines

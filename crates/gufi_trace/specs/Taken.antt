@@ -6,14 +6,13 @@ use Rattle.gufi_base.specs.declared.record.Kind.{Kind}
 use Rattle.gufi_base.specs.declared.record.Meta.{Meta}
 use Rattle.gufi_base.specs.declared.record.Line.{Line}
 use Rattle.gufi_base.specs.Limits.{max_link}
-use Rattle.gufi_base.specs.Basics.{split}
-use Rattle.gufi_base.specs.Numbers.{is_numeral, read_u32, read_u64}
+use Rattle.gufi_base.specs.Basics.{split, part_at}
+use Rattle.gufi_base.specs.Numbers.{is_numeral}
 use Rattle.gufi_base.specs.Kinds.{read_kind}
 use Rattle.gufi_base.specs.Paths.{Components, read_path}
 use Rattle.gufi_trace.specs.declared.quick.Content.{Content}
-use Rattle.gufi_trace.specs.declared.quick.Owner.{Owner}
-use Rattle.gufi_trace.specs.declared.quick.Sizes.{Sizes}
 use Rattle.gufi_trace.specs.AttributeField.{xattrs_of}
+use Rattle.gufi_trace.specs.AclField.{acl_field}
 use Rattle.gufi_trace.specs.Fields.{Texts, fields_of}
 use Rattle.gufi_trace.specs.Lines.{meta_in, place_fault, line_of}
 
@@ -37,32 +36,22 @@ pub record Takes (A : Type 0) (read : List ℕ → Option A) (old new : List (Li
   pub is : old ≡ field ∷ new
   pub reads : read field ≡ Some x
 
--- the same of fields 2 to 7 and of 8 to 10, with what is left behind each
-pub record TakesOwner (old new : List (List ℕ)) (owner : Owner) : Type 0 where
-  pub behind_kind : List (List ℕ)
-  pub behind_inode : List (List ℕ)
-  pub behind_mode : List (List ℕ)
-  pub behind_nlink : List (List ℕ)
-  pub behind_uid : List (List ℕ)
-  pub kind : Takes Kind read_kind old behind_kind owner.kind
-  pub inode : Takes ℕ read_u64 behind_kind behind_inode owner.inode
-  pub mode : Takes ℕ read_u32 behind_inode behind_mode owner.mode
-  pub nlink : Takes ℕ read_u64 behind_mode behind_nlink owner.nlink
-  pub uid : Takes ℕ read_u32 behind_nlink behind_uid owner.uid
-  pub gid : Takes ℕ read_u32 behind_uid new owner.gid
-
-pub record TakesSizes (old new : List (List ℕ)) (sizes : Sizes) : Type 0 where
-  pub behind_size : List (List ℕ)
-  pub behind_blksize : List (List ℕ)
-  pub size : Takes ℕ read_u64 old behind_size sizes.size
-  pub blksize : Takes ℕ read_u64 behind_size behind_blksize sizes.blksize
-  pub blocks : Takes ℕ read_u64 behind_blksize new sizes.blocks
-
 -- fields 2 to 13 are the first parts, and the others are left
 pub record TakesMeta (old new : List (List ℕ)) (meta : Meta) : Type 0 where
   pub f : Texts
   pub is : old ≡ f.kind ∷ f.inode ∷ f.mode ∷ f.nlink ∷ f.uid ∷ f.gid ∷ f.size ∷ f.blksize ∷ f.blocks ∷ f.atime ∷ f.mtime ∷ f.ctime ∷ new
   pub reads : meta_in f ≡ Ok meta
+
+-- the link and what stands behind it are put into content, and the rest of it stays
+pub record TakesEnd (parts : List (List ℕ)) (old new : Content) : Type 0 where
+  pub behind : List (List ℕ)
+  pub link : parts ≡ new.link.now ∷ behind
+  pub no_zero : list_any (λ b. b == 0) new.link.now ≡ false
+  pub short : length new.link.now ≤ max_link
+  pub xattrs : xattrs_of (part_at behind 1) ≡ Ok new.xattrs.now
+  pub acl : part_at behind 2 ≡ new.acl.now
+  pub path : new.path.now ≡ old.path.now
+  pub meta : new.meta ≡ old.meta
 
 -- the fields of a line whose parts these are, with a sound link and sound names of extended attributes, and what may hold a list
 pub record TakesContent (parts : List (List ℕ)) (content : Content) : Type 0 where
@@ -90,6 +79,11 @@ line_with earlier content acl path =
 abbrev pub Adds : Bool → Components → Content → List ℕ → List Line → List Line → Type 0
 Adds true root content acl old new = (path : Components) × IsPlaced root old content.meta.kind content.path.now path × (new ≡ line_with old content acl path ∷ old)
 Adds false root content acl old new = new ≡ old
+
+-- the same with the list that the content's own field holds
+abbrev pub AddsListed : Bool → Components → Content → List Line → List Line → Type 0
+AddsListed true root content old new = (acl : List ℕ) × (acl_field content.acl.now ≡ Ok acl) × Adds true root content acl old new
+AddsListed false root content old new = new ≡ old
 
 -- a line that is sound behind others
 pub record IsSoundBehind (delim : ℕ) (root : Components) (earlier : List Line) (text : List ℕ) (line : Line) : Type 0 where

@@ -93,14 +93,30 @@ fn end_in_pair(
     requires few { at + 1 < 16 }
     requires front { ReadsFront text.now number at }
     requires pair { value ≡ pair_value separator (slice_index_or text.now at 0) (slice_index_or text.now (at + 1) 0) }
+    requires some { 0 < at }
     requires ends { 100 ≤ value }
     ensures { IfSome result (λ found. NumberBefore separator text.now found.0 found.1) }
 {
     if value < NO_DIGIT {
         return Some((number * 10 + u64::from(value - ONE_DIGIT), at + 1));
     }
-    if value == NO_DIGIT && at > 0 {
+    if value == NO_DIGIT {
         Some((number, at))
+    } else {
+        None
+    }
+}
+
+/// The number that the first of the first pair writes, where the separator stands right behind.
+#[inline(always)]
+fn one_digit(separator: u8, text: &[u8], value: u8) -> Option<(u64, usize)>
+    requires within { 1 < length text.now }
+    requires pair { value ≡ pair_value separator (slice_index_or text.now 0 0) (slice_index_or text.now 1 0) }
+    requires ends { 100 ≤ value }
+    ensures { IfSome result (λ found. NumberBefore separator text.now found.0 found.1) }
+{
+    if value < NO_DIGIT {
+        Some((u64::from(value - ONE_DIGIT), 1))
     } else {
         None
     }
@@ -113,12 +129,12 @@ fn end_behind(separator: u8, text: &[u8], number: u64, at: usize) -> Option<(u64
     requires front { ReadsFront text.now number at }
     ensures { IfSome result (λ found. NumberBefore separator text.now found.0 found.1) }
 {
-    if at == 0 || at >= text.len() {
+    if at == 0 || at >= text.len() || text[at] != separator {
         return None;
     }
-    match digit_of(text[at]) {
-        None if text[at] == separator => Some((number, at)),
-        _ => None,
+    match digit_of(separator) {
+        None => Some((number, at)),
+        Some(_) => None,
     }
 }
 
@@ -156,8 +172,15 @@ impl DigitPairs {
         requires few { most ≤ 16 }
         ensures { IfSome result (λ found. NumberBefore self.now text.now found.0 found.1) }
     {
-        let mut number: u64 = 0;
-        let mut at = 0;
+        if most < 2 {
+            return None;
+        }
+        let first = self.value(text, 0);
+        if first >= ONE_DIGIT {
+            return one_digit(self.separator, text, first);
+        }
+        let mut number = u64::from(first);
+        let mut at = 2;
         'pairs: while at + 1 < most {
             let value = self.value(text, at);
             if value >= ONE_DIGIT {
@@ -169,28 +192,20 @@ impl DigitPairs {
         end_behind(self.separator, text, number, at)
     }
 
-    /// The same of so many of the first bytes as are looked at.
-    #[inline(never)]
-    fn number_in_front(&self, text: &[u8]) -> Option<(u64, usize)>
-        ensures { IfSome result (λ found. NumberBefore self.now text.now found.0 found.1) }
-    {
-        self.number_within(text, MOST_DIGITS.min(text.len()))
-    }
-
     /// The number that decimal digits write before the first separator of a text, and where that stands.
     ///
-    /// It looks at no more than sixteen digits, and where it gives nothing, nothing is known.
+    /// It looks at no more than ten digits, or sixteen where it may be wide; where it gives nothing, nothing is known.
     #[inline(always)]
-    pub(crate) fn number_before(&self, text: &[u8]) -> Option<(u64, usize)>
+    pub(crate) fn number_before<const WIDE: bool>(&self, text: &[u8]) -> Option<(u64, usize)>
         ensures { IfSome result (λ found. NumberBefore self.now text.now found.0 found.1) }
     {
+        if WIDE {
+            return self.number_within(text, MOST_DIGITS.min(text.len()));
+        }
         // Where so many bytes are there, only the digits end the loop.
         if text.len() >= USUAL {
-            let found = self.number_within(text, USUAL);
-            if found.is_some() {
-                return found;
-            }
+            return self.number_within(text, USUAL);
         }
-        self.number_in_front(text)
+        None
     }
 }

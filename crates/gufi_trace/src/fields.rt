@@ -1,6 +1,6 @@
 //! The fields of a line.
 
-ghost use Rattle.std.specs.Prelude.{◌≡◌, ◌+◌, ◌<◌, ◌==◌, length, drop, Some, IfSome, option_map, position};
+ghost use Rattle.std.specs.Prelude.{◌≡◌, ◌+◌, ◌<◌, ◌≤◌, ◌==◌, [], ◌∷◌, length, drop, Some, IfSome, IsTrue, option_map, position};
 ghost use Rattle.std.specs.Iterator.{YieldsFirstRef};
 ghost use Rattle.gufi_base.specs.Basics.{split};
 ghost use Rattle.gufi_trace.specs.Reading.{Gives};
@@ -28,21 +28,31 @@ fn behind(text: &[u8], at: usize) -> &[u8]
     &text[at + 1..]
 }
 
-/// The place of the first delimiter, where it is one of the first 64 bytes.
-#[inline(always)]
-fn near_end_of(text: &[u8], delim: u8) -> Option<usize>
-    ensures { IfSome result (λ at. Some at ≡ position (λ b. b == delim) text.now) }
+fn from(text: &[u8], at: usize) -> &[u8]
+    requires { at ≤ length text.now }
+    ensures { result.now ≡ drop at text.now }
 {
-    if text.len() < 64 {
-        return None;
+    &text[at..]
+}
+
+/// The place of the first delimiter. Looks at 64 bytes at once, as far as there are so many.
+#[inline(always)]
+fn end_by_blocks(text: &[u8], delim: u8) -> Option<usize>
+    ensures { result ≡ position (λ b. b == delim) text.now }
+{
+    let mut at = 0;
+    'by_blocks: while text.len() - at >= 64 {
+        let ends = u8x64::from_slice(&text[at..])
+            .simd_eq(u8x64::splat(delim))
+            .to_bitmask();
+        if ends != 0 {
+            return Some(at + ends.trailing_zeros() as usize);
+        }
+        at += 64;
     }
-    let ends = u8x64::from_slice(text)
-        .simd_eq(u8x64::splat(delim))
-        .to_bitmask();
-    if ends == 0 {
-        None
-    } else {
-        Some(ends.trailing_zeros() as usize)
+    match end_of(from(text, at), delim) {
+        Some(last) => Some(at + last),
+        None => None,
     }
 }
 
@@ -94,32 +104,33 @@ impl<'a> Parts<'a> {
         }
     }
 
-    /// The next part, quicker where it ends within 64 bytes, as most paths do.
+    /// The next part, quicker where it has few bytes and others stand behind it, as most paths and lines.
     #[inline(always)]
-    pub(crate) fn next_path(&mut self) -> Option<&'a [u8]>
+    pub(crate) fn next_by_blocks(&mut self) -> Option<&'a [u8]>
         ensures { YieldsFirstRef (λ parts. parts) self.old result self.new }
     {
         if self.is_done {
             return None;
         }
         let rest = self.rest;
-        let Some(at) = near_end_of(rest, self.delim) else {
-            return self.next_part();
-        };
-        self.rest = behind(rest, at);
-        Some(&rest[..at])
+        match end_by_blocks(rest, self.delim) {
+            Some(at) => {
+                self.rest = behind(rest, at);
+                Some(&rest[..at])
+            }
+            None => {
+                self.is_done = true;
+                Some(rest)
+            }
+        }
     }
 
-    /// The next part, quicker where nothing is left but an empty part, as where a line ends in an empty link.
+    /// Whether nothing is left but an empty part, as where a line ends in an empty link.
     #[inline(always)]
-    pub(crate) fn next_link(&mut self) -> Option<&'a [u8]>
-        ensures { YieldsFirstRef (λ parts. parts) self.old result self.new }
+    pub(crate) fn are_blank(&self) -> bool
+        ensures { IsTrue result → self.now ≡ [] ∷ [] }
     {
-        if self.rest.is_empty() && !self.is_done {
-            self.is_done = true;
-            return Some(self.rest);
-        }
-        self.next_part()
+        self.rest.is_empty() && !self.is_done
     }
 }
 
@@ -154,14 +165,14 @@ impl<'a> Parts<'a> {
     ///
     /// For speed alone: where it gives nothing, nothing is known.
     #[inline(always)]
-    pub(crate) fn next_number(&mut self, pairs: &DigitPairs) -> Option<u64>
+    pub(crate) fn next_number<const WIDE: bool>(&mut self, pairs: &DigitPairs) -> Option<u64>
         ensures { IfSome result (TakesNumber self.old self.new) }
     {
         if self.is_done || pairs.separator() != self.delim {
             return None;
         }
         let rest = self.rest;
-        let (number, at) = pairs.number_before(rest)?;
+        let (number, at) = pairs.number_before::<WIDE>(rest)?;
         self.rest = behind(rest, at);
         Some(number)
     }

@@ -19,7 +19,7 @@ use crate::content::{read_meta, read_path};
 use crate::digits::DigitPairs;
 use crate::fault::{Refused, TraceError, TraceFault, TraceKind};
 use crate::fields::{Parts, read_fields};
-use crate::quick::add_sound;
+use crate::quick::{add_usual, add_wide};
 use gufi_base::{Bytes, Kind, Line, Memory, Path, PathFault, Rec, RecRef};
 use gufi_tree::Stanzas;
 use std::alloc::{AllocError, Global};
@@ -271,7 +271,27 @@ impl Progress {
         }
     }
 
+    /// Takes a whole line that isn't sound by numbers of few digits.
+    #[inline(never)]
+    fn add_slowly(
+        &mut self,
+        alloc: Global,
+        delim: u8,
+        pairs: &DigitPairs,
+        text: &[u8],
+    ) -> Result<(), TraceError>
+        ensures ok { OnOk result ((more : List (List ℕ)) → lines_from delim self.old (text.now ∷ more) ≡ lines_from delim self.new more) }
+        ensures err { IfErr result (λ e. (more : List (List ℕ)) → Stops e (lines_from delim self.old (text.now ∷ more))) }
+    {
+        let taken = add_wide(alloc, delim, pairs, &self.root, &mut self.lines, text)?;
+        if taken {
+            return Ok(());
+        }
+        self.add_exactly(alloc, delim, text)
+    }
+
     /// Takes a whole line.
+    #[inline(always)]
     pub(crate) fn add(
         &mut self,
         alloc: Global,
@@ -282,10 +302,10 @@ impl Progress {
         ensures ok { OnOk result ((more : List (List ℕ)) → lines_from delim self.old (text.now ∷ more) ≡ lines_from delim self.new more) }
         ensures err { IfErr result (λ e. (more : List (List ℕ)) → Stops e (lines_from delim self.old (text.now ∷ more))) }
     {
-        let taken = add_sound(alloc, delim, pairs, &self.root, &mut self.lines, text)?;
+        let taken = add_usual(alloc, delim, pairs, &self.root, &mut self.lines, text)?;
         if taken {
             return Ok(());
         }
-        self.add_exactly(alloc, delim, text)
+        self.add_slowly(alloc, delim, pairs, text)
     }
 }

@@ -1,11 +1,11 @@
 //! Lines that are seen to be sound in one pass: nearly all are. What is told nothing here, the exact readers read.
 
-ghost use Rattle.std.specs.Prelude.{◌≡◌, ℕ, ℤ, true, false, Ok, IfOk, IfSome};
+ghost use Rattle.std.specs.Prelude.{◌≡◌, ◌<◌, ◌^◌, ℕ, ℤ, true, false, Ok, IfOk, IfSome};
 ghost use Rattle.gufi_base.specs.Basics.{part_at};
 ghost use Rattle.gufi_base.specs.Kinds.{is_dir};
 ghost use Rattle.gufi_base.specs.Numbers.{read_u32, read_u64, read_i64};
 ghost use Rattle.gufi_trace.specs.AttributeField.{xattrs_of};
-ghost use Rattle.gufi_trace.specs.Taken.{Takes, TakesOwner, TakesSizes, TakesMeta, TakesContent, Adds, AddsNext};
+ghost use Rattle.gufi_trace.specs.Taken.{Takes, TakesMeta, TakesEnd, TakesContent, Adds, AddsListed, AddsNext};
 
 use crate::acls::read_list;
 use crate::attributes::behind_mark;
@@ -13,112 +13,59 @@ use crate::content::{MAX_LINK, MODES, has_zero};
 use crate::digits::DigitPairs;
 use crate::fields::Parts;
 use crate::lines::Lines;
-use gufi_base::{Bytes, Kind, Meta, Path, Rec, RecRef, are_xattrs};
+use gufi_base::{Kind, Meta, Path, RecRef, are_xattrs};
 use std::alloc::{AllocError, Global};
 
 #[inline(always)]
-fn next_u64(parts: &mut Parts<'_>, pairs: &DigitPairs) -> Option<u64>
+fn next_u64<const WIDE: bool>(parts: &mut Parts<'_>, pairs: &DigitPairs) -> Option<u64>
     ensures { IfSome result (λ n. Takes ℕ read_u64 parts.old parts.new n) }
 {
-    parts.next_number(pairs)
+    parts.next_number::<WIDE>(pairs)
 }
 
+/// A number below 2^32, not yet in its own type: an `Option` of that would be made and taken apart at each field.
 #[inline(always)]
-fn next_u32(parts: &mut Parts<'_>, pairs: &DigitPairs) -> Option<u32>
-    ensures { IfSome result (λ n. Takes ℕ read_u32 parts.old parts.new n) }
+fn next_u32<const WIDE: bool>(parts: &mut Parts<'_>, pairs: &DigitPairs) -> Option<u64>
+    ensures takes { IfSome result (λ n. Takes ℕ read_u32 parts.old parts.new n) }
+    ensures fits { IfSome result (λ n. n < 2 ^ 32) }
 {
-    match parts.next_number(pairs)? {
-        number if number <= 4294967295 => Some(number as u32),
+    match parts.next_number::<WIDE>(pairs)? {
+        number if number <= 4294967295 => Some(number),
         _ => None,
     }
 }
 
 /// A time since the epoch: one before it has a sign, and is left to the exact reader.
 #[inline(always)]
-fn next_time(parts: &mut Parts<'_>, pairs: &DigitPairs) -> Option<i64>
+fn next_time<const WIDE: bool>(parts: &mut Parts<'_>, pairs: &DigitPairs) -> Option<i64>
     ensures { IfSome result (λ z. Takes ℤ read_i64 parts.old parts.new z) }
 {
-    let number = parts.next_number(pairs)?;
+    let number = parts.next_number::<WIDE>(pairs)?;
     Some(number as i64)
 }
 
-/// Fields 2 to 7.
-#[derive(Clone, Copy)]
-pub(crate) struct Owner {
-    pub kind: Kind,
-    pub inode: u64,
-    pub mode: u32,
-    pub nlink: u64,
-    pub uid: u32,
-    pub gid: u32,
-}
-
-/// Fields 8 to 10.
-#[derive(Clone, Copy)]
-pub(crate) struct Sizes {
-    pub size: u64,
-    pub blksize: u64,
-    pub blocks: u64,
-}
-
+/// Puts the record of fields 2 to 13 in place of another. Where there is none, nothing is known of what stands there.
 #[inline(always)]
-fn next_owner(parts: &mut Parts<'_>, pairs: &DigitPairs) -> Option<Owner>
-    ensures { IfSome result (TakesOwner parts.old parts.new) }
+fn take_meta<const WIDE: bool>(
+    parts: &mut Parts<'_>,
+    pairs: &DigitPairs,
+    meta: &mut Meta,
+) -> Option<()>
+    ensures { IfSome result (λ _. TakesMeta parts.old parts.new meta.new) }
 {
-    let kind = parts.next_kind()?;
-    let inode = next_u64(parts, pairs)?;
-    let mode = next_u32(parts, pairs)?;
-    let nlink = next_u64(parts, pairs)?;
-    let uid = next_u32(parts, pairs)?;
-    let gid = next_u32(parts, pairs)?;
-    Some(Owner {
-        kind,
-        inode,
-        mode,
-        nlink,
-        uid,
-        gid,
-    })
-}
-
-#[inline(always)]
-fn next_sizes(parts: &mut Parts<'_>, pairs: &DigitPairs) -> Option<Sizes>
-    ensures { IfSome result (TakesSizes parts.old parts.new) }
-{
-    let size = next_u64(parts, pairs)?;
-    let blksize = next_u64(parts, pairs)?;
-    let blocks = next_u64(parts, pairs)?;
-    Some(Sizes {
-        size,
-        blksize,
-        blocks,
-    })
-}
-
-/// The record of fields 2 to 13.
-#[inline(always)]
-fn next_meta(parts: &mut Parts<'_>, pairs: &DigitPairs) -> Option<Meta>
-    ensures { IfSome result (TakesMeta parts.old parts.new) }
-{
-    let owner = next_owner(parts, pairs)?;
-    let sizes = next_sizes(parts, pairs)?;
-    let atime = next_time(parts, pairs)?;
-    let mtime = next_time(parts, pairs)?;
-    let ctime = next_time(parts, pairs)?;
-    Some(Meta {
-        kind: owner.kind,
-        inode: owner.inode,
-        mode: (owner.mode % MODES) as u16,
-        nlink: owner.nlink,
-        uid: owner.uid,
-        gid: owner.gid,
-        size: sizes.size,
-        blksize: sizes.blksize,
-        blocks: sizes.blocks,
-        atime,
-        mtime,
-        ctime,
-    })
+    meta.kind = parts.next_kind()?;
+    meta.inode = next_u64::<WIDE>(parts, pairs)?;
+    meta.mode = (next_u32::<WIDE>(parts, pairs)? as u32 % MODES) as u16;
+    meta.nlink = next_u64::<WIDE>(parts, pairs)?;
+    meta.uid = next_u32::<WIDE>(parts, pairs)? as u32;
+    meta.gid = next_u32::<WIDE>(parts, pairs)? as u32;
+    meta.size = next_u64::<WIDE>(parts, pairs)?;
+    meta.blksize = next_u64::<WIDE>(parts, pairs)?;
+    meta.blocks = next_u64::<WIDE>(parts, pairs)?;
+    meta.atime = next_time::<WIDE>(parts, pairs)?;
+    meta.mtime = next_time::<WIDE>(parts, pairs)?;
+    meta.ctime = next_time::<WIDE>(parts, pairs)?;
+    Some(())
 }
 
 /// What a line holds, its path, its link, the names of extended attributes, and what may hold its list, as they stand in it.
@@ -129,6 +76,31 @@ pub(crate) struct Content<'a> {
     pub link: &'a [u8],
     pub xattrs: &'a [u8],
     pub acl: &'a [u8],
+}
+
+/// Content to be written over.
+#[inline(always)]
+fn blank_content<'a>() -> Content<'a> {
+    Content {
+        path: b"",
+        meta: Meta {
+            uid: 0,
+            gid: 0,
+            mode: 0,
+            kind: Kind::Block,
+            size: 0,
+            mtime: 0,
+            blocks: 0,
+            nlink: 0,
+            inode: 0,
+            atime: 0,
+            ctime: 0,
+            blksize: 0,
+        },
+        link: b"",
+        xattrs: b"",
+        acl: b"",
+    }
 }
 
 /// The names of extended attributes of a field, where they stand there as they are read.
@@ -165,23 +137,40 @@ fn next_extras<'a>(parts: &mut Parts<'a>) -> Option<Extras<'a>>
     Some(Extras { xattrs, acl })
 }
 
-fn content_of<'a>(parts: &mut Parts<'a>, pairs: &DigitPairs) -> Option<Content<'a>>
-    ensures { IfSome result (TakesContent parts.old) }
+/// Puts a link and what stands behind it in place of those of other content.
+#[inline(never)]
+fn take_end<'a>(mut parts: Parts<'a>, content: &mut Content<'a>) -> Option<()>
+    ensures { IfSome result (λ _. TakesEnd parts.entry content.old content.new) }
 {
-    let path = parts.next_path()?;
-    let meta = next_meta(parts, pairs)?;
-    let link = parts.next_link()?;
+    let link = parts.next_part()?;
     if link.len() > MAX_LINK || has_zero(link) {
         return None;
     }
-    let Extras { xattrs, acl } = next_extras(parts)?;
-    Some(Content {
-        path,
-        meta,
-        link,
-        xattrs,
-        acl,
-    })
+    let Extras { xattrs, acl } = next_extras(&mut parts)?;
+    content.link = link;
+    content.xattrs = xattrs;
+    content.acl = acl;
+    Some(())
+}
+
+/// Puts what a line holds in place of other content. Where it isn't seen to be sound, nothing is known of what stands there.
+#[inline(always)]
+fn take_content<'a, const WIDE: bool>(
+    mut parts: Parts<'a>,
+    pairs: &DigitPairs,
+    content: &mut Content<'a>,
+) -> Option<()>
+    ensures { IfSome result (λ _. TakesContent parts.entry content.new) }
+{
+    content.path = parts.next_by_blocks()?;
+    take_meta::<WIDE>(&mut parts, pairs, &mut content.meta)?;
+    if parts.are_blank() {
+        content.link = b"";
+        content.xattrs = b"";
+        content.acl = b"";
+        return Some(());
+    }
+    take_end(parts, content)
 }
 
 /// Takes a directory's line, where its path is plain and it stands at its place. The names that it shares with the directory
@@ -191,10 +180,10 @@ fn add_directory(
     root: &Path,
     lines: &mut Lines,
     content: &Content<'_>,
-    acl: Bytes,
+    acl: &[u8],
 ) -> Result<bool, AllocError>
     requires { is_dir content.now.meta.kind ≡ true }
-    ensures { IfOk result (λ taken. Adds taken root.now content.now acl lines.old lines.new) }
+    ensures { IfOk result (λ taken. Adds taken root.now content.now acl.now lines.old lines.new) }
 {
     if lines.has_max_dirs() {
         return Ok(false);
@@ -206,16 +195,8 @@ fn add_directory(
         return Ok(false);
     };
     let path = Path::of_names(alloc, names)?;
-    let link = Bytes::from_slice(alloc, content.link)?;
-    let xattrs = Bytes::from_slice(alloc, content.xattrs)?;
-    let meta = content.meta;
-    let rec = Rec {
-        meta,
-        link,
-        xattrs,
-        acl,
-    };
-    lines.push_dir(alloc, path, rec)?;
+    let rec = RecRef::of(&content.meta, content.link, content.xattrs, acl);
+    lines.push_dir(alloc, path, rec.copy(alloc)?)?;
     Ok(true)
 }
 
@@ -244,8 +225,44 @@ fn add_entry(
     Ok(true)
 }
 
-/// Takes the next line behind others, where it is seen to be sound; tells whether it was.
-pub(crate) fn add_sound(
+/// Takes a line with a list, where it is seen to be sound.
+#[inline(never)]
+fn add_line(
+    alloc: Global,
+    root: &Path,
+    lines: &mut Lines,
+    content: &Content<'_>,
+    acl: &[u8],
+) -> Result<bool, AllocError>
+    ensures { IfOk result (λ taken. Adds taken root.now content.now acl.now lines.old lines.new) }
+{
+    if content.meta.kind.is_dir() {
+        add_directory(alloc, root, lines, content, acl)
+    } else {
+        add_entry(alloc, root, lines, content, acl)
+    }
+}
+
+/// The same with the list that the content's own field holds.
+#[inline(never)]
+fn add_listed(
+    alloc: Global,
+    root: &Path,
+    lines: &mut Lines,
+    content: &Content<'_>,
+) -> Result<bool, AllocError>
+    ensures { IfOk result (λ taken. AddsListed taken root.now content.now lines.old lines.new) }
+{
+    let Ok(acl) = read_list(alloc, content.acl) else {
+        return Ok(false);
+    };
+    add_line(alloc, root, lines, content, acl.as_slice())
+}
+
+/// Takes the next line behind others, where it is seen to be sound; tells whether it was. A number of more than ten digits
+/// is read only where it may be wide.
+#[inline(always)]
+fn add_seen<const WIDE: bool>(
     alloc: Global,
     delim: u8,
     pairs: &DigitPairs,
@@ -258,16 +275,44 @@ pub(crate) fn add_sound(
     if lines.len() == 0 {
         return Ok(false);
     }
-    let mut parts = Parts::of(text, delim);
-    let Some(content) = content_of(&mut parts, pairs) else {
+    let mut content = blank_content();
+    let Some(()) = take_content::<WIDE>(Parts::of(text, delim), pairs, &mut content) else {
         return Ok(false);
     };
-    let Ok(acl) = read_list(alloc, content.acl) else {
-        return Ok(false);
-    };
-    if content.meta.kind.is_dir() {
-        add_directory(alloc, root, lines, &content, acl)
+    if content.acl.is_empty() {
+        add_line(alloc, root, lines, &content, b"")
     } else {
-        add_entry(alloc, root, lines, &content, acl.as_slice())
+        add_listed(alloc, root, lines, &content)
     }
+}
+
+/// Takes the next line behind others, where it is seen to be sound by numbers of at most ten digits, as most are; tells whether
+/// it was.
+#[inline(never)]
+pub(crate) fn add_usual(
+    alloc: Global,
+    delim: u8,
+    pairs: &DigitPairs,
+    root: &Path,
+    lines: &mut Lines,
+    text: &[u8],
+) -> Result<bool, AllocError>
+    ensures { IfOk result (λ taken. AddsNext taken delim root.now text.now lines.old lines.new) }
+{
+    add_seen::<false>(alloc, delim, pairs, root, lines, text)
+}
+
+/// The same where a number may have more digits.
+#[inline(never)]
+pub(crate) fn add_wide(
+    alloc: Global,
+    delim: u8,
+    pairs: &DigitPairs,
+    root: &Path,
+    lines: &mut Lines,
+    text: &[u8],
+) -> Result<bool, AllocError>
+    ensures { IfOk result (λ taken. AddsNext taken delim root.now text.now lines.old lines.new) }
+{
+    add_seen::<true>(alloc, delim, pairs, root, lines, text)
 }

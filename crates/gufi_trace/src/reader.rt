@@ -42,6 +42,7 @@ impl Model for TraceReader {
 }
 
 /// Takes the line that the rest begins and the part ends; most lines have no rest.
+#[inline(always)]
 fn end_line(
     alloc: Global,
     delim: u8,
@@ -67,7 +68,7 @@ fn end_line(
 fn first_part<'a>(parts: &mut Parts<'a>) -> &'a [u8]
     ensures { parts.old ≢ [] → parts.old ≡ result.now ∷ parts.new }
 {
-    match parts.next_part() {
+    match parts.next_by_blocks() {
         Some(first) => first,
         None => b"",
     }
@@ -89,7 +90,7 @@ fn take_piece(
 {
     let mut parts = Parts::of(piece, b'\n');
     let mut last = first_part(&mut parts);
-    'lines: while let Some(part) = parts.next_part() {
+    'lines: while let Some(part) = parts.next_by_blocks() {
         end_line(alloc, delim, pairs, progress, rest, last)?;
         last = part;
     }

@@ -19,5 +19,5 @@ returns-then-value-lt-NO_DIGIT c =
     subst (λ (d : ℕ). NumberBefore c.args.separator c.args.text.now (c.args.number * 10 + d) (c.args.at + 1)) (sym c.from.ensures)
     (one_more c.args.separator c.args.text.now c.args.number c.args.at c.args.value c.requires.within (omega (arith, c.requires.few)) c.requires.front c.requires.pair c.requires.ends c.if-value-lt-NO_DIGIT.true)
 
-pub returns-then-at-gt0 : goal.returns-then-at-gt0
-returns-then-at-gt0 c = no_more c.args.separator c.args.text.now c.args.number c.args.at c.args.value c.requires.within (omega (arith, c.requires.few)) c.requires.front c.requires.pair c.if-value-eq-NO_DIGIT.true c.if-at-gt0.true
+pub returns-then-value-eq-NO_DIGIT : goal.returns-then-value-eq-NO_DIGIT
+returns-then-value-eq-NO_DIGIT c = no_more c.args.separator c.args.text.now c.args.number c.args.at c.args.value c.requires.within (omega (arith, c.requires.few)) c.requires.front c.requires.pair c.if-value-eq-NO_DIGIT.true c.requires.some
