@@ -15,7 +15,7 @@ ghost use Rattle.gufi_base.specs.PathTexts.{kept_text};
 ghost use Rattle.gufi_tree.specs.Tree.{entry_row, own_rows};
 ghost use Rattle.gufi_store.specs.Scan.{rows_met, rows_met_in};
 
-use gufi_base::{Memory, PathRef, RecRef, RowRef, Steps, Tester, View, Yield};
+use gufi_base::{Memory, RowRef, Steps, Tester, View, Yield};
 use gufi_tree::{DirRange, DirRef, EntryRef};
 use std::alloc::Global;
 use std::marker::Model;
@@ -35,13 +35,15 @@ impl<'a> Model for DirStore<'a> {
     ghost view = { λ s. s.dir };
 }
 
-/// The own row of a directory, in borrowed parts.
+/// The own row of a directory, in borrowed parts. Its path isn't looked at.
 #[inline]
-fn own_row<'a>(path: &PathRef<'a>, rec: &RecRef<'a>) -> RowRef<'a>
-    requires { IsTrue (list_all is_name path.now) }
-    ensures { Stands result (record { path = path.now; rec = rec.now }) }
+fn own_row<'a>(dir: &DirRef<'a>) -> RowRef<'a>
+    ensures { Stands result (record { path = dir.now.path; rec = dir.now.rec }) }
 {
-    let (stem, base) = path.stem_and_base();
+    // A path's own text tells that its names are names.
+    let _text = dir.path().text();
+    let (stem, base) = dir.stem_and_base();
+    let rec = dir.rec();
     RowRef {
         stem,
         base,
@@ -172,10 +174,10 @@ impl<'a> DirStore<'a> {
             Y.stands_for out.new (rows ++ rows_met above (T.meets tester.old) (V.shows view.now) self.now)) }
         ensures same { T.meets tester.new ≡ T.meets tester.old }
     {
+        let depth = depth_between(self.dir.depth(), above)?;
         let path = self.dir.path();
-        let depth = depth_between(path.depth(), above)?;
         let stem = path.text();
-        let own = own_row(&path, &self.dir.rec());
+        let own = own_row(&self.dir);
         offer(alloc, own, depth, tester, view, out)?;
         let entries = self.dir.entries();
         for place in 0..entries.len() {

@@ -1,10 +1,11 @@
 -- What is packed goes on to mean the same when more is packed behind it.
-use Rattle.std.proofs.Common.{◌≡◌, ◌∙◌, ℕ, ◌+◌, ◌≤◌, List, [], ◌∷◌, ◌++◌, length, map, suc, take, drop, refl, sym, ap, subst, append_assoc, arith}
+use Rattle.std.proofs.Common.{◌≡◌, ◌∙◌, ℕ, ◌+◌, ◌<◌, ◌≤◌, List, [], ◌∷◌, ◌++◌, length, map, suc, take, drop, refl, sym, ap, subst, append_assoc, arith}
 use Rattle.std.specs.Prelude.{All, IsTrue, true}
 use Rattle.std.specs.List.{list_all}
 use Rattle.std.proofs.lemmas.List.{append-nil, drop-append-le, drop_at, drop-map, length-append, length-drop, length-map, take-append-le, take-map, take_all}
 use Rattle.std.proofs.lemmas.List.Elements.{All-drop, All-push, All-take, All-weaker}
 use Rattle.gufi_base.specs.Names.{is_name}
+use Rattle.gufi_base.specs.Paths.{parent_path}
 use Rattle.gufi_base.specs.PathTexts.{kept_text, names, IsText}
 use Rattle.gufi_base.specs.declared.extras.Extras.{Extras}
 use Rattle.gufi_base.specs.Extras.{kept_xattrs, kept_acl, AreKept}
@@ -67,9 +68,11 @@ GoesOn-start text rows all = record { bytes = ([], sym (append-nil text)); entri
 -- directories, when a text and its entries go on
 module _ (text next : List ℕ) (rows after : List Packed) (goes : GoesOn text next rows after) (all : All (IsPacked text) rows) where
   IsHead-more : (h : Head) → IsHead text rows h → IsHead next after h
-  IsHead-more h is = record {
+  IsHead-more h is = let same : path_in next h ≡ path_in text h = ap (λ t. path_in t h) goes.bytes.1 ∙ part-more text goes.bytes.0 h.at h.path (omega (arith, is.within)) in record {
     within = subst (λ t. AreKept t (h.at + h.path + h.link) h.extras) (sym goes.bytes.1) (AreKept-more text goes.bytes.0 (h.at + h.path + h.link) h.extras is.within);
-    path = subst IsText (sym (ap (λ t. path_in t h) goes.bytes.1 ∙ part-more text goes.bytes.0 h.at h.path (omega (arith, is.within)))) is.path;
+    path = subst IsText (sym same) is.path;
+    depth = is.depth ∙ ap (λ t. length (names t)) (sym same);
+    last = λ some. is.last some ∙ ap (λ t. length (kept_text (parent_path (names t)))) (sym same);
     entries = omega (arith, is.entries, ap length goes.entries.1, length-append rows goes.entries.0);
   }
 
@@ -121,10 +124,15 @@ module _ (text mid next : List ℕ) (rows after : List Packed) (h : Head) (dir :
   behind_link : h.at + length kept + length link ≡ h.at + h.path + h.link
   behind_link = omega (arith, path, target)
 
-  pub IsHead-put : IsHead next after h
-  IsHead-put = record {
+  names_there : names (path_in next h) ≡ dir.path
+  names_there = ap names kept_there ∙ names-kept_text dir.path named
+
+  pub IsHead-put : h.depth ≡ length dir.path → (1 < length (kept_text dir.path) → h.last ≡ length (kept_text (parent_path dir.path))) → IsHead next after h
+  IsHead-put depth last = record {
     within = subst (λ n. AreKept next n h.extras) behind_link within;
     path = subst IsText (sym kept_there) (IsText-kept_text dir.path named);
+    depth = depth ∙ ap length (sym names_there);
+    last = λ some. last (omega (arith, some, path, ap length of)) ∙ ap (λ names'. length (kept_text (parent_path names'))) (sym names_there);
     entries = omega (arith, first, count, length-last text mid rows after dir.entries is);
   }
 
@@ -133,7 +141,6 @@ module _ (text mid next : List ℕ) (rows after : List Packed) (h : Head) (dir :
       → All (IsPacked mid) after → directory_in next after h ≡ dir
   directory_in-put meta l there own_xattrs own_acl packed =
       let own : List Packed = take h.count (drop h.first after) in
-      let names_there : names (path_in next h) ≡ dir.path = ap names kept_there ∙ names-kept_text dir.path named in
       let link_there : bytes_at next (h.at + h.path) h.link ≡ dir.rec.link = ap (λ n. bytes_at next (h.at + n) h.link) path ∙ ap (bytes_at next (h.at + length kept)) target ∙ there ∙ l in
       let xattrs_there : kept_xattrs next (h.at + h.path + h.link) h.extras ≡ dir.rec.xattrs = ap (λ n. kept_xattrs next n h.extras) (sym behind_link) ∙ own_xattrs in
       let acl_there : kept_acl next (h.at + h.path + h.link) h.extras ≡ dir.rec.acl = ap (λ n. kept_acl next n h.extras) (sym behind_link) ∙ own_acl in

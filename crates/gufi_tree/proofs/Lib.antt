@@ -39,3 +39,4 @@ pub mod Bundled
 pub mod TooLong
 pub mod GraftParents
 pub mod Short
+pub mod LastNames

@@ -1,8 +1,9 @@
 -- Directories packed in a bundle: each by its record, its path, its link and what is kept behind it (names of extended attributes and an access
 -- control list), and its entries by theirs, all bytes in one text.
-use Rattle.std.specs.Prelude.{ℕ, ◌+◌, ◌≤◌, List, length, take, drop, map, All, IsTrue}
+use Rattle.std.specs.Prelude.{◌≡◌, ℕ, ◌+◌, ◌<◌, ◌≤◌, List, length, take, drop, map, All, IsTrue}
 use Rattle.std.specs.List.{list_all}
 use Rattle.gufi_base.specs.Names.{is_name}
+use Rattle.gufi_base.specs.Paths.{parent_path}
 use Rattle.gufi_base.specs.PathTexts.{kept_text, names, IsText}
 use Rattle.gufi_base.specs.Extras.{kept_xattrs, kept_acl, AreKept}
 use Rattle.gufi_tree.specs.declared.tree.Entry.{Entry}
@@ -53,9 +54,12 @@ pub record IsPacked (text : List ℕ) (p : Packed) : Type 0 where
   pub within : AreKept text (p.at + p.name + p.link) p.extras
   pub name : IsTrue (is_name (name_in text p))
 
+-- it tells how many names its path has, and where the last of them begins, the root's path apart
 pub record IsHead (text : List ℕ) (rows : List Packed) (h : Head) : Type 0 where
   pub within : AreKept text (h.at + h.path + h.link) h.extras
   pub path : IsText (path_in text h)
+  pub depth : h.depth ≡ length (names (path_in text h))
+  pub last : 1 < h.path → h.last ≡ length (kept_text (parent_path (names (path_in text h))))
   pub entries : h.first + h.count ≤ length rows
 
 -- no path has more bytes than the longest

@@ -3,6 +3,8 @@
 ghost use Rattle.std.specs.Prelude.{◌≡◌, ◌+◌, ◌<◌, ◌≤◌, nat_lt, length, slice_index_or, All, IsTrue};
 ghost use Rattle.std.specs.List.{list_any};
 ghost use Rattle.gufi_base.specs.Names.{is_name};
+ghost use Rattle.gufi_base.specs.Paths.{base_name, parent_path, stem};
+ghost use Rattle.gufi_base.specs.PathTexts.{kept_text, names, IsText};
 ghost use Rattle.gufi_base.specs.Extras.{kept_xattrs, kept_acl, AreKept};
 ghost use Rattle.gufi_tree.specs.declared.tree.Entry.{Entry as SeenEntry};
 ghost use Rattle.gufi_tree.specs.Bundles.{bytes_at, directory_in, entry_in, entries_in, IsHead, IsPacked};
@@ -34,12 +36,45 @@ fn record_at<'a>(
     requires { AreKept text.now (at + link) extras }
     ensures { result ≡ record { link = bytes_at text.now at link; xattrs = kept_xattrs text.now (at + link) extras; acl = kept_acl text.now (at + link) extras; meta = meta.now } }
 {
+    let target = bytes_at(text, at, link);
+    if matches!(extras, Extras::Neither) {
+        return RecRef::of(meta, target, &[], &[]);
+    }
     RecRef::of(
         meta,
-        bytes_at(text, at, link),
+        target,
         xattrs_at(text, at + link, extras),
         acl_at(text, at + link, extras),
     )
+}
+
+/// Where the last name of a path begins, of which a head tells so: before the text's end.
+#[inline]
+#[tactic(auto, using(crate::proofs::LastNames::last_within))]
+fn last_name_at(kept: &[u8], last: u16) -> usize
+    requires text { IsText kept.now }
+    requires last { 1 < length kept.now → last ≡ length (kept_text (parent_path (names kept.now))) }
+    requires named { 1 < length kept.now }
+    ensures value { result ≡ length (kept_text (parent_path (names kept.now))) }
+    ensures within { result < length kept.now }
+{
+    usize::from(last)
+}
+
+/// The stem and the base name of a path whose last name begins there.
+#[inline]
+#[tactic(auto, using(crate::proofs::LastNames::stem_there, crate::proofs::LastNames::base_there))]
+fn parted_at(kept: &[u8], last: u16) -> (&[u8], &[u8])
+    requires text { IsText kept.now }
+    requires last { 1 < length kept.now → last ≡ length (kept_text (parent_path (names kept.now))) }
+    ensures stem { result.0.now ≡ stem (names kept.now) }
+    ensures base { result.1.now ≡ base_name (names kept.now) }
+{
+    if kept.len() <= 1 {
+        return (&[], kept);
+    }
+    let at = last_name_at(kept, last);
+    (&kept[..at], &kept[at..kept.len() - 1])
 }
 
 /// An entry whose parts stand elsewhere.
@@ -188,6 +223,25 @@ impl<'a> DirRef<'a> {
     {
         let head = self.head;
         PathRef::of_text(bytes_at(self.text, head.at as usize, head.path as usize))
+    }
+
+    /// How many names its path has. Doesn't look at the path.
+    #[inline]
+    pub fn depth(&self) -> usize
+        ensures { result ≡ length self.now.path }
+    {
+        usize::from(self.head.depth)
+    }
+
+    /// The stem and the base name of its path. Looks at no byte of it.
+    #[inline]
+    pub fn stem_and_base(&self) -> (&'a [u8], &'a [u8])
+        ensures stem { result.0.now ≡ stem self.now.path }
+        ensures base { result.1.now ≡ base_name self.now.path }
+    {
+        let head = self.head;
+        let kept = bytes_at(self.text, head.at as usize, head.path as usize);
+        parted_at(kept, head.last)
     }
 
     #[inline]

@@ -2,6 +2,8 @@
 
 ghost use Rattle.std.specs.Prelude.{◌≡◌, ℕ, ◌+◌, ◌<◌, ◌++◌, ◌∷◌, [], List, length, slice_index_or, All, IsTrue, IfOk, OnOk, OnErr};
 ghost use Rattle.gufi_base.specs.Names.{is_name};
+ghost use Rattle.gufi_base.specs.Paths.{parent_path};
+ghost use Rattle.gufi_base.specs.PathTexts.{kept_text};
 ghost use Rattle.gufi_base.specs.Extras.{kept_xattrs, kept_acl, AreKept};
 ghost use Rattle.gufi_tree.specs.Tree.{Directory};
 ghost use Rattle.gufi_tree.specs.Bundles.{bytes_at, directory_in, entry_in, entries_in, IsHead, IsPacked, IsShort};
@@ -44,14 +46,17 @@ impl Packed {
     }
 }
 
-/// A directory: its record, where the kept text of its path and behind it its link stand in a text, by their lengths in bytes, and
-/// which entries are its own. The same two stand behind the link. It has 104 bytes.
+/// A directory: its record, where the kept text of its path and behind it its link stand in a text, by their lengths in bytes, how many
+/// names the path has and where in it the last one begins, and which entries are its own. The same two stand behind the link. It has 104
+/// bytes.
 #[derive(Clone, Copy)]
 pub(crate) struct Head {
     pub(crate) meta: Meta,
     pub(crate) at: u32,
     pub(crate) path: u16,
     pub(crate) link: u16,
+    pub(crate) depth: u16,
+    pub(crate) last: u16,
     pub(crate) first: u32,
     pub(crate) count: u32,
     pub(crate) extras: Extras,
@@ -139,6 +144,16 @@ fn push_entries(
     rows.push_rows(entries.rows.as_slice(), base)
 }
 
+/// Where the last name of a path begins in its text; 0 for the root.
+fn last_at(path: &PathRef<'_>) -> usize
+    ensures { 1 < length (kept_text path.now) → result ≡ length (kept_text (parent_path path.now)) }
+{
+    match path.parent_text() {
+        None => 0,
+        Some(above) => above.len(),
+    }
+}
+
 /// Packs a directory's entries behind others, and puts its path and its record's bytes behind the text.
 fn pack_directory(
     text: &mut Vec<u8>,
@@ -158,6 +173,8 @@ fn pack_directory(
     let kept = path.text();
     let length = u16_of(kept.len())?;
     let link = u16_of(rec.link().len())?;
+    let depth = u16_of(path.depth())?;
+    let last = u16_of(last_at(path))?;
     let (at, extras) = put_bytes(text, kept, rec)?;
     let meta = *rec.meta();
     Ok(Head {
@@ -165,6 +182,8 @@ fn pack_directory(
         at,
         path: length,
         link,
+        depth,
+        last,
         first,
         count,
         extras,

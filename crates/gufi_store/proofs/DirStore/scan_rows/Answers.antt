@@ -8,7 +8,7 @@ use Rattle.gufi_store.proofs.Entries.{filter-own_rows, room_left}
 use Rattle.gufi_store.proofs.DirStore.scan_rows.Goals as goal
 
 pub offer-requires-clause-row : goal.offer-requires-clause-row
-offer-requires-clause-row g c = (record { path = c.path-path.result; rec = c.rec.result }, c.own_row-own.ensures)
+offer-requires-clause-row g c = (_, c.own_row-own.ensures)
 
 pub offer-requires-in-loop-place-clause-row : goal.offer-requires-in-loop-place-clause-row
 offer-requires-in-loop-place-clause-row g c =
@@ -38,7 +38,7 @@ loop-place-preserved g c =
     let stands_here : Stands c.row_below-row.result (entry_row d.path x) =
     subst (λ (p : Components). Stands c.row_below-row.result (entry_row p x)) ps (c.row_below-row.ensures c.path-path.result c.text-stem.ensures.names c.text-stem.ensures.text) in
     let deep : c.in_ok-depth.depth + 1 ≡ length (shows (entry_row d.path x)).path - c.args.above =
-    omega (arith, ap (λ (p : Components). length p) (g.V.View.same_path c.args.view.now (entry_row d.path x)), length-append d.path (x.name ∷ []), c.in_ok-depth.ensures.0, c.depth.ensures, ap (λ (p : Components). length p) ps, c.requires.above) in
+    omega (arith, ap (λ (p : Components). length p) (g.V.View.same_path c.args.view.now (entry_row d.path x)), length-append d.path (x.name ∷ []), c.in_ok-depth.ensures.0, c.depth.ensures, ap (λ (p : Components). length p) c.path-path.ensures, ap (λ (p : Components). length p) ps, c.requires.above) in
     let more = filter-own_rows (is_met c.args.above meets) shows d c.loop-place.place x inside is in
     record {
       same = c.in_ok-offer-2.ensures.same ∙ asked;
