@@ -47,7 +47,7 @@ fn are_same(left: &[u8], front: &[u8], right: &[u8], back: &[u8]) -> bool
 }
 
 /// Whether texts that end with `back` can end with these bytes, as far as the last byte tells.
-#[inline]
+#[inline(always)]
 #[tactic(auto, using(crate::proofs::Texts::other_end))]
 fn can_end(tail: &[u8], back: &[u8]) -> bool
     ensures { result ≡ false → (front : List ℕ) → ends_with (front ++ back.now) tail.now ≡ false }
@@ -59,6 +59,7 @@ fn can_end(tail: &[u8], back: &[u8]) -> bool
 }
 
 /// Whether a text in two pieces is these bytes.
+#[inline(never)]
 #[tactic(auto, using(crate::proofs::Texts::cut_eq, crate::proofs::Texts::unlike_short))]
 fn is_text(bytes: &[u8], front: &[u8], back: &[u8]) -> bool
     ensures { result ≡ bytes_eq bytes.now (front.now ++ back.now) }
@@ -71,6 +72,7 @@ fn is_text(bytes: &[u8], front: &[u8], back: &[u8]) -> bool
 }
 
 /// Whether a text in two pieces ends with these bytes.
+#[inline(never)]
 #[tactic(auto, using(crate::proofs::Texts::ends_in_back, crate::proofs::Texts::ends_in_both, crate::proofs::Texts::ends_nowhere))]
 fn ends_text(tail: &[u8], front: &[u8], back: &[u8]) -> bool
     ensures { result ≡ ends_with (front.now ++ back.now) tail.now }
@@ -114,7 +116,7 @@ impl Glob {
     /// At most as many steps as the pattern and the text are long, multiplied; no memory.
     ///
     /// Made part of its callers, so that most texts are refused by their last byte, without a call.
-    #[inline]
+    #[inline(always)]
     #[tactic(auto, using(crate::proofs::Texts::matches_plain, crate::proofs::Texts::matches_tail, crate::proofs::Texts::end_of_same))]
     pub fn matches(&self, front: &[u8], back: &[u8]) -> bool
         ensures { result ≡ matches self.now (front.now ++ back.now) }
