@@ -78,7 +78,7 @@ impl FindExpr {
 
     /// Whether its formula is true of a row.
     ///
-    /// Made part of its callers, and one test alone isn't lent the row, so that a row's parts needn't go through memory there.
+    /// Made part of its callers, and only a copy is lent, so that for one test alone a row's parts needn't go through memory.
     #[inline(always)]
     #[tactic(auto, using(crate::proofs::RowLemmas::truth_of_parts, crate::proofs::RowLemmas::truth_of_one))]
     fn is_met(&self, row: RowRef<'_>) -> bool
@@ -86,7 +86,10 @@ impl FindExpr {
     {
         match self.formula.only_test() {
             Some(test) => row.is_true(test),
-            None => self.formula.is_true(&row),
+            None => {
+                let lent = row;
+                self.formula.is_true(&lent)
+            }
         }
     }
 
