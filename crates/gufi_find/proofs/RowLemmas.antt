@@ -1,5 +1,5 @@
 -- The truth of expressions at rows, in borrowed parts too.
-use Rattle.std.proofs.Common.{◌≡◌, ◌∙◌, ℕ, ◌≤◌, ◌++◌, true, false, refl, sym, ap, subst, arith}
+use Rattle.std.proofs.Common.{◌≡◌, ◌∙◌, ℕ, ◌≤◌, ◌++◌, Bool, true, false, refl, sym, ap, subst, arith}
 use Rattle.std.specs.Prelude.{Option, Some, None, ◌==◌, ◌&&◌, nat_le, is_none}
 use Rattle.std.proofs.lemmas.Bool.{false≢true, and_parts, eqb-true, leb-true, le-leb}
 use Rattle.gufi_base.specs.declared.record.Row.{Row}
@@ -17,6 +17,16 @@ pub truth_of_parts : (f : Formula Test) (ref : RowRef) (row : Row) → Stands re
     → holds (λ t. is_true t (ref.stem.now ++ ref.base.now) ref.base.now ref.meta.now) f ≡ holds (λ t. test_holds t row) f
 truth_of_parts f ref row stands =
     rw (stands.stem, stands.base, stands.meta) (ap (λ path. holds (λ t. is_true t path (base_name row.path) row.rec.meta) f) (sym (path_text-parts row.path)))
+
+-- that of one test alone is that test's
+truth_alone : (f : Formula Test) (t : Test) (truth : Test → Bool) → only_test f ≡ Some t → truth t ≡ holds truth f
+truth_alone (test own) t truth e = ap truth (grind (arith, e))
+truth_alone _ t truth e = grind (arith, e)
+
+pub truth_of_one : (f : Formula Test) (t : Test) (ref : RowRef) (row : Row) → only_test f ≡ Some t → Stands ref row
+    → is_true t (ref.stem.now ++ ref.base.now) ref.base.now ref.meta.now ≡ holds (λ t. test_holds t row) f
+truth_of_one f t ref row e stands =
+    truth_alone f t (λ t. is_true t (ref.stem.now ++ ref.base.now) ref.base.now ref.meta.now) e ∙ truth_of_parts f ref row stands
 
 -- ---- no words
 

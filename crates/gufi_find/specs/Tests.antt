@@ -38,6 +38,12 @@ abbrev pub is_always : Test → Bool
 is_always tests.Always = true
 is_always _ = false
 
+-- the tests of a path's text
+abbrev pub is_of_text : Test → Bool
+is_of_text (tests.NameMatches parts) = true
+is_of_text (tests.PathMatches parts) = true
+is_of_text _ = false
+
 -- the truth of a test, of a path's text, its base name and a record
 abbrev pub is_true : Test → List ℕ → List ℕ → Meta → Bool
 is_true tests.Always path name meta = true

@@ -2,11 +2,13 @@
 ghost use Rattle.std.specs.Prelude.{◌≡◌, ℕ, ◌≤◌, ◌&&◌, nat_le, true, IsTrue, Some};
 ghost use Rattle.gufi_base.specs.declared.record.Row.{Row};
 ghost use Rattle.gufi_base.specs.Rows.{Stands, StandsForSome};
+ghost use Rattle.gufi_formula.specs.Formulas.{holds};
+ghost use Rattle.gufi_find.specs.Tests.{test_holds};
 ghost use Rattle.gufi_find.specs.Expressions.{find_holds, has_no_words, is_at_most};
 
 use crate::test::Test;
 use gufi_base::{Memory, Pred, RowRef, Tester};
-use gufi_formula::Formula;
+use gufi_formula::{Formula, Valuation};
 use std::alloc::Global;
 use std::marker::Model;
 
@@ -74,16 +76,32 @@ impl FindExpr {
         }
     }
 
+    /// Whether its formula is true of a row.
+    ///
+    /// Made part of its callers, and only a copy is lent, so that for one test alone a row's parts needn't go through memory.
+    #[inline(always)]
+    #[tactic(auto, using(crate::proofs::RowLemmas::truth_of_parts, crate::proofs::RowLemmas::truth_of_one))]
+    fn is_met(&self, row: RowRef<'_>) -> bool
+        ensures { (of : Row) → Stands row.entry of → result ≡ holds (λ t. test_holds t of) self.now.expr }
+    {
+        match self.formula.only_test() {
+            Some(test) => row.is_true(test),
+            None => {
+                let lent = row;
+                self.formula.is_true(&lent)
+            }
+        }
+    }
+
     /// Whether it is true of a row at that depth below the start, and the depth within its bounds. No memory.
     ///
     /// Made part of its callers, so that a row's parts needn't go through memory once more.
     #[inline(always)]
-    #[tactic(auto, using(crate::proofs::RowLemmas::truth_of_parts))]
     pub fn sat(&self, row: RowRef<'_>, depth: u32) -> bool
         requires { StandsForSome row }
         ensures { (of : Row) → Stands row.entry of → result ≡ find_holds self.now of depth }
     {
-        self.is_within(depth) && self.formula.is_true(&row)
+        self.is_within(depth) && self.is_met(row)
     }
 }
 

@@ -1,5 +1,5 @@
 -- Plain patterns, and texts in two pieces.
-use Rattle.std.proofs.Common.{◌≡◌, ℕ, zero, suc, ◌+◌, ◌-◌, ◌<◌, ◌≤◌, Bool, true, false, List, [], ◌∷◌, ◌++◌, length, take, drop, refl, sym, ap, ◌∙◌, inl, inr, arith, eqb, leb, length-append, length-drop}
+use Rattle.std.proofs.Common.{◌≡◌, ℕ, zero, suc, ◌+◌, ◌-◌, ◌<◌, ◌≤◌, Bool, true, false, List, [], ◌∷◌, ◌++◌, length, take, drop, refl, sym, ap, ◌∙◌, inl, inr, arith, eqb, leb, get_or, get_or-drop, get_or-append-add, length-append, length-drop}
 use Rattle.std.specs.Prelude.{◌||◌, ◌&&◌, Ok, map, bytes_eq, not}
 use Rattle.std.specs.List.{list_all}
 use Rattle.std.proofs.lemmas.Bool.{cases_Bool, cases_lt, false≢true}
@@ -122,6 +122,31 @@ ends_in_both tail front back left right last is_left is_right is_last sum few =
     ∙ ap (λ n. bytes_eq (drop n tail) back && bytes_eq (take n tail) last) (sym cut)
     ∙ ap (λ r. bytes_eq r back && bytes_eq (take (length tail - length back) tail) last) (sym is_right)
     ∙ ap (λ l. bytes_eq right back && bytes_eq l last) (sym is_left)
+
+-- texts whose last bytes differ don't end alike
+pub other_end : (front back tail : List ℕ) → 1 ≤ length tail → 1 ≤ length back → eqb (get_or tail (length tail - 1) 0) (get_or back (length back - 1) 0) ≡ false → ends_with (front ++ back) tail ≡ false
+other_end front back tail some_tail some_back apart =
+    elim (cases_Bool (ends_with (front ++ back) tail)) [
+      | inl same ↦
+          let at = length (front ++ back) - length tail in
+          let is : tail ≡ drop at (front ++ back) = (bytes_eq-Decides tail (drop at (front ++ back))).0 same in
+          let long : length tail ≡ length (front ++ back) - at = ap length is ∙ length-drop at (front ++ back) in
+          let place : at + (length tail - 1) ≡ length front + (length back - 1) = omega (arith, length-append front back) in
+          let last : get_or tail (length tail - 1) 0 ≡ get_or back (length back - 1) 0 =
+          ap (λ t. get_or t (length tail - 1) 0) is ∙ get_or-drop at (front ++ back) (length tail - 1) 0
+          ∙ ap (λ n. get_or (front ++ back) n 0) place ∙ get_or-append-add front back (length back - 1) 0 in
+          absurd (false≢true (sym apart ∙ grind (arith, last, nat_tests)))
+      | inr other ↦ other
+    ]
+
+pub end_of_same : (bytes text : List ℕ) → ends_with text bytes ≡ false → bytes_eq bytes text ≡ false
+end_of_same bytes text apart =
+    elim (cases_Bool (bytes_eq bytes text)) [
+      | inl same ↦
+          let long : length bytes ≡ length text = ap length ((bytes_eq-Decides bytes text).0 same) in
+          absurd (false≢true (sym apart ∙ ap (bytes_eq bytes) (drop_none (length text) (length bytes) text (omega arith)) ∙ same))
+      | inr other ↦ other
+    ]
 
 -- ---- reading
 

@@ -1,5 +1,5 @@
 //! Patterns.
-ghost use Rattle.std.specs.Prelude.{◌≡◌, ◌++◌, ◌&&◌, bytes_eq};
+ghost use Rattle.std.specs.Prelude.{◌≡◌, ◌++◌, ◌&&◌, ℕ, List, false, bytes_eq};
 ghost use Rattle.gufi_base.specs.Basics.{GivesUnless};
 ghost use Rattle.gufi_glob.specs.Patterns.{matches, read_pattern};
 ghost use Rattle.gufi_glob.specs.Plain.{ends_with};
@@ -46,7 +46,20 @@ fn are_same(left: &[u8], front: &[u8], right: &[u8], back: &[u8]) -> bool
     right == back && left == front
 }
 
+/// Whether texts that end with `back` can end with these bytes, as far as the last byte tells.
+#[inline(always)]
+#[tactic(auto, using(crate::proofs::Texts::other_end))]
+fn can_end(tail: &[u8], back: &[u8]) -> bool
+    ensures { result ≡ false → (front : List ℕ) → ends_with (front ++ back.now) tail.now ≡ false }
+{
+    match (tail, back) {
+        ([.., wanted], [.., last]) => wanted == last,
+        _ => true,
+    }
+}
+
 /// Whether a text in two pieces is these bytes.
+#[inline(never)]
 #[tactic(auto, using(crate::proofs::Texts::cut_eq, crate::proofs::Texts::unlike_short))]
 fn is_text(bytes: &[u8], front: &[u8], back: &[u8]) -> bool
     ensures { result ≡ bytes_eq bytes.now (front.now ++ back.now) }
@@ -59,6 +72,7 @@ fn is_text(bytes: &[u8], front: &[u8], back: &[u8]) -> bool
 }
 
 /// Whether a text in two pieces ends with these bytes.
+#[inline(never)]
 #[tactic(auto, using(crate::proofs::Texts::ends_in_back, crate::proofs::Texts::ends_in_both, crate::proofs::Texts::ends_nowhere))]
 fn ends_text(tail: &[u8], front: &[u8], back: &[u8]) -> bool
     ensures { result ≡ ends_with (front.now ++ back.now) tail.now }
@@ -100,13 +114,22 @@ impl Glob {
     /// Whether it matches a text, which comes in two pieces.
     ///
     /// At most as many steps as the pattern and the text are long, multiplied; no memory.
-    #[tactic(auto, using(crate::proofs::Texts::matches_plain, crate::proofs::Texts::matches_tail))]
+    ///
+    /// Made part of its callers, so that most texts are refused by their last byte, without a call.
+    #[inline(always)]
+    #[tactic(auto, using(crate::proofs::Texts::matches_plain, crate::proofs::Texts::matches_tail, crate::proofs::Texts::end_of_same))]
     pub fn matches(&self, front: &[u8], back: &[u8]) -> bool
         ensures { result ≡ matches self.now (front.now ++ back.now) }
     {
         match &self.form {
-            Form::Plain(bytes) => is_text(bytes.as_slice(), front, back),
-            Form::Tail(tail) => ends_text(tail.as_slice(), front, back),
+            Form::Plain(bytes) => {
+                let bytes = bytes.as_slice();
+                can_end(bytes, back) && is_text(bytes, front, back)
+            }
+            Form::Tail(tail) => {
+                let tail = tail.as_slice();
+                can_end(tail, back) && ends_text(tail, front, back)
+            }
             Form::Parts(parts) => match_whole(parts.as_slice(), Joined { front, back }),
         }
     }

@@ -60,6 +60,7 @@ fn match_some_end(parts: &[Part], text: Joined<'_>) -> bool
 }
 
 /// Whether the parts match the whole text. At most as many steps as parts and bytes, multiplied; no memory.
+#[inline(never)]
 pub(crate) fn match_whole(parts: &[Part], text: Joined<'_>) -> bool
     ensures { result ≡ matches (parts_of parts.now) (joined text.entry) }
 {
