@@ -78,7 +78,8 @@ impl FindExpr {
 
     /// Whether its formula is true of a row.
     ///
-    /// Made part of its callers, and only a copy is lent, so that for one test alone a row's parts needn't go through memory.
+    /// Made part of its callers, and only a copy is lent, so that a row's parts needn't go through memory for one test alone, nor for
+    /// the first of an "and" where that is false.
     #[inline(always)]
     #[tactic(auto, using(crate::proofs::RowLemmas::truth_of_parts, crate::proofs::RowLemmas::truth_of_one))]
     fn is_met(&self, row: RowRef<'_>) -> bool
@@ -87,6 +88,9 @@ impl FindExpr {
         match self.formula.only_test() {
             Some(test) => row.is_true(test),
             None => {
+                if self.formula.fails_at_first(&row) {
+                    return false;
+                }
                 let lent = row;
                 self.formula.is_true(&lent)
             }

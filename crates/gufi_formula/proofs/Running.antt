@@ -4,7 +4,7 @@ use Rattle.std.specs.Prelude.{◌&&◌, ◌||◌}
 use Rattle.std.specs.Prelude.{Some, None}
 use Rattle.std.specs.List.{list_all}
 use Rattle.std.proofs.lemmas.List.Folds.{list_all-append}
-use Rattle.gufi_formula.specs.Formulas.{Formula, test, negation, both, either, holds, is_positive, only_test}
+use Rattle.gufi_formula.specs.Formulas.{Formula, test, negation, both, either, hangs_on_first, holds, is_positive, only_test}
 use Rattle.gufi_formula.specs.Steps.{first_of, steps_of, run, with_steps, newest_or, formula_in, is_no_inversion, IsKept}
 use Rattle.gufi_formula.specs.declared.step.Step.{Step}
 use Rattle.gufi_formula.specs.declared.step.Step.TheVariants.{Invert, IfTrue, IfFalse, BothEnd, EitherEnd}
@@ -38,13 +38,14 @@ module _ {A : Type 0} where
   -- the first test and the steps of a formula, and that formula
   pub record Keeps (first : A) (steps : List (Step A)) (f : Formula A) : Type 0 where
     pub formula : formula_in first steps ≡ f
+    pub hangs : hangs_on_first (formula_in first steps) ≡ hangs_on_first f
     pub is : IsKept first steps
 
   keeps : (first : A) (steps : List (Step A)) (f : Formula A) → first_of f ≡ first → steps_of f ≡ steps → Keeps first steps f
   keeps first steps f first_same steps_same =
       let formula : formula_in first steps ≡ f =
       sym (ap (λ a. formula_in a (steps_of f)) first_same ∙ ap (formula_in first) steps_same) ∙ formula_in-steps_of f in
-      record { formula = formula; is = record { test_is = ap first_of formula ∙ first_same; steps_are = ap steps_of formula ∙ steps_same } }
+      record { formula = formula; hangs = ap hangs_on_first formula; is = record { test_is = ap first_of formula ∙ first_same; steps_are = ap steps_of formula ∙ steps_same } }
 
   pub kept_test : (a : A) → Keeps a [] (test a)
   kept_test a = keeps a [] (test a) refl refl
@@ -71,6 +72,17 @@ module _ {A : Type 0} where
       → Keeps first (((steps ++ IfFalse second (length more) ∷ []) ++ more) ++ EitherEnd ∷ []) (either (formula_in first steps) (formula_in second more))
   kept_either first steps second more is others =
       keeps first _ (either (formula_in first steps) (formula_in second more)) is.test_is (joined steps second more (formula_in first steps) (formula_in second more) IfFalse EitherEnd is.steps_are others.test_is others.steps_are)
+
+  -- a formula that is false wherever its first test is
+  falls : (truth : A → Bool) (f : Formula A) → hangs_on_first f ≡ true → truth (first_of f) ≡ false → holds truth f ≡ false
+  falls truth (test a) h fails = fails
+  falls truth (negation f) h fails = grind (arith, h)
+  falls truth (both f g) h fails = rw (falls truth f h fails) refl
+  falls truth (either f g) h fails = grind (arith, h)
+
+  pub hung : (truth : A → Bool) (first : A) (steps : List (Step A)) (hangs : Bool) → IsKept first steps → hangs ≡ hangs_on_first (formula_in first steps)
+      → hangs ≡ true → truth first ≡ false → holds truth (formula_in first steps) ≡ false
+  hung truth first steps hangs is told h fails = falls truth (formula_in first steps) (sym told ∙ h) (ap truth is.test_is ∙ fails)
 
   -- what is kept of one test, and of more
   pub kept_alone : (first : A) (steps : List (Step A)) → length steps ≡ 0 → only_test (formula_in first steps) ≡ Some first

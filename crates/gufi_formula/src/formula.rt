@@ -11,6 +11,8 @@ use std::marker::Model;
 pub struct Formula<T> {
     first: T,
     steps: Vec<Step<T>>,
+    /// Whether it is false wherever its first test is.
+    hangs: bool,
 }
 
 impl<T> Model for Formula<T> {
@@ -21,11 +23,13 @@ impl<T> Model for Formula<T> {
 
     ghost coded = { formula_coded T.code };
 
+    ghost use Rattle.std.specs.Prelude.{◌≡◌};
+    ghost use Rattle.gufi_formula.specs.Formulas.{hangs_on_first};
     ghost use Rattle.gufi_formula.specs.Steps.{formula_in, IsKept};
 
     ghost view = { λ f. formula_in f.first f.steps.items };
 
-    ghost invariant = { λ f. IsKept f.first f.steps.items };
+    ghost invariant = { λ f. IsKept f.first f.steps.items × (f.hangs ≡ hangs_on_first (formula_in f.first f.steps.items)) };
 }
 
 impl<T: Drop> Formula<T> {
@@ -40,6 +44,7 @@ impl<T: Drop> Formula<T> {
         Formula {
             first: test,
             steps: Vec::new(alloc),
+            hangs: true,
         }
     }
 
@@ -48,9 +53,17 @@ impl<T: Drop> Formula<T> {
     pub fn inverted(self) -> Result<Formula<T>, AllocError>
         ensures { IfOk result (λ f. f ≡ negation self) }
     {
-        let Formula { first, mut steps } = self;
+        let Formula {
+            first,
+            mut steps,
+            ..
+        } = self;
         steps.push(Step::Invert)?;
-        Ok(Formula { first, steps })
+        Ok(Formula {
+            first,
+            steps,
+            hangs: false,
+        })
     }
 
     /// It and another.
@@ -58,15 +71,24 @@ impl<T: Drop> Formula<T> {
     pub fn and(self, other: Formula<T>) -> Result<Formula<T>, AllocError>
         ensures { IfOk result (λ f. f ≡ both self other) }
     {
-        let Formula { first, mut steps } = self;
+        let Formula {
+            first,
+            mut steps,
+            hangs,
+        } = self;
         let Formula {
             first: second,
             steps: mut more,
+            ..
         } = other;
         steps.push(Step::IfTrue(second, more.len()))?;
         steps.append(&mut more)?;
         steps.push(Step::BothEnd)?;
-        Ok(Formula { first, steps })
+        Ok(Formula {
+            first,
+            steps,
+            hangs,
+        })
     }
 
     /// It or another.
@@ -74,20 +96,29 @@ impl<T: Drop> Formula<T> {
     pub fn or(self, other: Formula<T>) -> Result<Formula<T>, AllocError>
         ensures { IfOk result (λ f. f ≡ either self other) }
     {
-        let Formula { first, mut steps } = self;
+        let Formula {
+            first,
+            mut steps,
+            ..
+        } = self;
         let Formula {
             first: second,
             steps: mut more,
+            ..
         } = other;
         steps.push(Step::IfFalse(second, more.len()))?;
         steps.append(&mut more)?;
         steps.push(Step::EitherEnd)?;
-        Ok(Formula { first, steps })
+        Ok(Formula {
+            first,
+            steps,
+            hangs: false,
+        })
     }
 }
 
 impl<T> Formula<T> {
-    ghost use Rattle.std.specs.Prelude.{◌≡◌, Some, None, MatchOption};
+    ghost use Rattle.std.specs.Prelude.{◌≡◌, true, false, Some, None, MatchOption};
     ghost use Rattle.gufi_formula.specs.Formulas.{holds, is_positive, only_test};
 
     /// Its test, where it is no more than one.
@@ -108,6 +139,17 @@ impl<T> Formula<T> {
         ensures { result ≡ is_positive self.now }
     {
         has_no_inversion(self.steps.as_slice())
+    }
+
+    /// Whether its first test tells that it is false, which that of an "and" may. Looks at no other.
+    ///
+    /// Made part of its callers, so that what the first test looks at needn't go through memory.
+    #[inline(always)]
+    #[tactic(auto, using(crate::proofs::Running::hung))]
+    pub fn fails_at_first<V: Valuation<T>>(&self, valuation: &V) -> bool
+        ensures { result ≡ true → holds (V.truth valuation.now) self.now ≡ false }
+    {
+        self.hangs && !valuation.is_true(&self.first)
     }
 
     /// Whether it is true where its tests have these truths.
