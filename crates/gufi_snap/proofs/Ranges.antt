@@ -29,7 +29,8 @@ entries_none path (e ∷ es) h =
       by true n h = absurd (false≢true n)
       by false n h = omega arith
 
-own_one : (d : Directory) → is_kinded d ≡ true → (total (own_rows d)).dirs ≡ 1
+-- a directory's own rows have one directory, itself
+pub own_one : (d : Directory) → is_kinded d ≡ true → (total (own_rows d)).dirs ≡ 1
 unfolding total
 own_one d h =
     let both = and_parts _ _ h in

@@ -1,5 +1,5 @@
 -- What a test of sums passes over: with all rows at and below a directory, each piece there.
-use Rattle.std.proofs.Common.{◌≡◌, ℕ, ◌≤◌, Bool, true, false, cond, List, [], ◌∷◌, ◌++◌, length, refl, sym, ap, ◌∙◌, subst, arith, length-append}
+use Rattle.std.proofs.Common.{◌≡◌, ℕ, ◌<◌, ◌≤◌, Bool, true, false, cond, List, [], ◌∷◌, ◌++◌, length, refl, sym, ap, ◌∙◌, subst, arith, length-append}
 use Rattle.std.specs.Prelude.{not, Option, Some}
 use Rattle.std.specs.List.{filter}
 use Rattle.std.specs.List.Sorted.{IsPermutation}
@@ -11,17 +11,20 @@ use Rattle.gufi_base.specs.Rows.{home}
 use Rattle.gufi_access.specs.declared.class.Principal.{Principal}
 use Rattle.gufi_sums.specs.declared.summary.Summary.{Summary}
 use Rattle.gufi_sums.specs.Total.{total, join, NoneMeets}
-use Rattle.gufi_sums.specs.Laws.{total-append, total-IsPermutation}
-use Rattle.gufi_tree.specs.Tree.{Directory, all_rows, subtree_rows, home_rows}
+use Rattle.gufi_sums.specs.Laws.{total-append, total-counts, total-IsPermutation}
+use Rattle.gufi_tree.specs.Tree.{Directory, all_rows, subtree_rows, home_rows, is_kinded, HasTreeShape}
+use Rattle.gufi_tree.specs.Places.{path_at}
 use Rattle.gufi_tree.specs.Listed.{is_listed}
-use Rattle.gufi_tree.proofs.Built.{path_eq-Decides}
+use Rattle.gufi_tree.proofs.Built.{Has, path_eq-Decides}
+use Rattle.gufi_tree.proofs.Flat.{all_at}
 use Rattle.gufi_tree.proofs.Ranges.{own_prefix}
 use Rattle.gufi_roll.specs.CanRoll.{can_roll}
 use Rattle.gufi_roll.proofs.Tops.{prefix_trans}
 use Rattle.gufi_snap.specs.Pieces.{piece, tree_sum}
+use Rattle.gufi_snap.proofs.Ranges.{own_one}
 use Rattle.gufi_walk.specs.Walk.{meets}
-use Rattle.gufi_walk.proofs.Pieces.{plain_rows}
-use Rattle.gufi_walk.proofs.Walked.{none_met}
+use Rattle.gufi_walk.proofs.Pieces.{plain_rows, own_piece}
+use Rattle.gufi_walk.proofs.Walked.{none_met, at_place, filtered_fewer}
 
 -- ---- pieces among the rows at and below a directory
 
@@ -59,6 +62,37 @@ module _ (tree : List Directory) (path : Components) where
     by : (b : Bool) → (rest : List Row) × IsPermutation (subtree_rows tree path) (cond b (subtree_rows tree below) (home_rows tree below) ++ rest)
     by true = rows_split (λ row. is_prefix below (home row)) (λ row h. prefix_trans path below (home row) leads h)
     by false = rows_split (λ row. path_eq below (home row)) (λ row h. subst (λ p. is_prefix path p ≡ true) ((path_eq-Decides below (home row)).0 h) leads)
+
+-- ---- how many directories there are
+
+-- as many as rows at most, so fewer than all rows
+pub tree_few : (tree : List Directory) (path : Components) → (tree_sum tree path).dirs ≤ length (all_rows tree)
+tree_few tree path = omega (arith, total-counts (subtree_rows tree path), filtered_fewer (λ row. is_prefix path (home row)) (all_rows tree))
+
+module _ (tree : List Directory) (shape : HasTreeShape tree) (d : Directory) (there : Has tree d) where
+  home_counted : 0 < (total (home_rows tree d.path)).dirs
+  home_counted =
+      let same = ap (λ (s : Summary). s.dirs) (total-IsPermutation _ _ (own_piece tree shape d there)) in
+      omega (arith, same, own_one d (all_at is_kinded tree d shape.kinds there))
+
+  tree_counted : 0 < (tree_sum tree d.path).dirs
+  tree_counted =
+      let w = rows_split tree d.path (λ row. path_eq d.path (home row)) (λ row h. subst (λ p. is_prefix d.path p ≡ true) ((path_eq-Decides d.path (home row)).0 h) (own_prefix d.path)) in
+      let parts = ap (λ (s : Summary). s.dirs) (total-IsPermutation _ _ w.1 ∙ total-append (home_rows tree d.path) w.0) in
+      omega (arith, parts, home_counted)
+
+  piece_counted : (limit : ℕ) → 0 < (total (piece tree d.path limit)).dirs
+  piece_counted limit = by (can_roll tree limit d.path) where
+    by : (b : Bool) → 0 < (total (cond b (subtree_rows tree d.path) (home_rows tree d.path))).dirs
+    by true = tree_counted
+    by false = home_counted
+
+-- the sums of a directory's piece and of all at and below it count the directory itself
+pub tree_has_dir : (tree : List Directory) → HasTreeShape tree → (k : ℕ) → k < length tree → 0 < (tree_sum tree (path_at tree k)).dirs
+tree_has_dir tree shape k within = let w = at_place tree k within in subst (λ p. 0 < (tree_sum tree p).dirs) w.2 (tree_counted tree shape w.0 w.1)
+
+pub piece_has_dir : (tree : List Directory) → HasTreeShape tree → (limit k : ℕ) → k < length tree → 0 < (total (piece tree (path_at tree k) limit)).dirs
+piece_has_dir tree shape limit k within = let w = at_place tree k within in subst (λ p. 0 < (total (piece tree p limit)).dirs) w.2 (piece_counted tree shape w.0 w.1 limit)
 
 -- ---- tests
 

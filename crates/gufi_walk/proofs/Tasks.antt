@@ -26,8 +26,6 @@ use Rattle.gufi_tree.proofs.Kids.{IsLater, kids_later}
 use Rattle.gufi_tree.proofs.Linked.{path_at-get}
 use Rattle.gufi_tree.proofs.Searched.{in_order}
 use Rattle.gufi_sums.specs.declared.summary.Summary.{Summary}
-use Rattle.gufi_sums.specs.Total.{rows_in, IsTotal}
-use Rattle.gufi_sums.specs.Laws.{IsTotal-counted}
 use Rattle.gufi_roll.specs.CanRoll.{can_roll}
 use Rattle.gufi_snap.specs.Pieces.{front, piece, kids}
 use Rattle.gufi_pool.specs.Jobs.{kids_weigh}
@@ -77,7 +75,7 @@ module _ (tree : List Directory) (who : Principal) (shape : HasTreeShape tree) w
       let w = Has-filter (λ k. is_prefix start (path_at tree k) && lists_at tree who (path_at tree k)) (range_with_len 0 (length tree)) k (contains_has _ k c) in
       let within : k < length tree = let r = range-within 0 (length tree) k w.0 in omega arith in
       let tests = and_parts _ _ w.1 in
-      let d = at_place tree who shape k within in
+      let d = at_place tree k within in
       record {
         within = within;
         dir = d.0;
@@ -216,7 +214,7 @@ module _ (tree : List Directory) (who : Principal) (shape : HasTreeShape tree) w
 
     same_place : (k j : ℕ) → k < length tree → j < length tree → path_at tree k ≡ path_at tree j → k ≡ j
     same_place k j within within' same =
-        let d = at_place tree who shape k within in
+        let d = at_place tree k within in
         let x : Directory = d.0 in
         let p : (get_or tree k x).path ≡ (get_or tree j x).path = sym (path_at-get tree k x within) ∙ same ∙ path_at-get tree j x within' in
         let apart : (a b : ℕ) → path_cmp (get_or tree a x).path (get_or tree b x).path ≡ Less → (get_or tree a x).path ≡ (get_or tree b x).path → ⊥ = λ a b less e.
@@ -332,18 +330,18 @@ piece_few tree path limit = by (can_roll tree limit path) where
   by true = filtered_fewer _ (all_rows tree)
   by false = filtered_fewer _ (all_rows tree)
 
--- The rows of the directories that a task takes are no more than a sum counts, and these are among all rows.
-module _ (tree : List Directory) (who : Principal) (shape : HasTreeShape tree) (limit : ℕ) (path : Components) (sum : Summary) where
-  abbrev SumOf : Bool → Type 0
-  SumOf whole = IsTotal sum (cond whole (subtree_rows tree path) (piece tree path limit))
+-- The rows of the directories that a task takes are no more than those of which its sum is, and these are among all rows.
+abbrev rows_at : List Directory → ℕ → Components → Bool → List Row
+rows_at tree limit path whole = cond whole (subtree_rows tree path) (piece tree path limit)
 
-  pub task_room : IsOpenTop tree who path → (whole : Bool) → SumOf whole → length (flat_map (λ p. piece tree p limit) (cond whole (front tree who path limit) (path ∷ []))) ≤ rows_in sum
-  task_room top true is = omega (arith, IsTotal-counted sum (subtree_rows tree path) is, length_permutation _ _ (listed_at_top tree who shape limit path top), listed_few tree path who)
-  task_room top false is = omega (arith, IsTotal-counted sum (piece tree path limit) is, ap length (append-nil (piece tree path limit)))
+pub task_room : (tree : List Directory) (who : Principal) → HasTreeShape tree → (limit : ℕ) (path : Components) → IsOpenTop tree who path → (whole : Bool)
+    → length (flat_map (λ p. piece tree p limit) (cond whole (front tree who path limit) (path ∷ []))) ≤ length (rows_at tree limit path whole)
+task_room tree who shape limit path top true = omega (arith, length_permutation _ _ (listed_at_top tree who shape limit path top), listed_few tree path who)
+task_room tree who shape limit path top false = omega (arith, ap length (append-nil (piece tree path limit)))
 
-  pub task_few : (whole : Bool) → SumOf whole → rows_in sum ≤ length (all_rows tree)
-  task_few true is = omega (arith, IsTotal-counted sum (subtree_rows tree path) is, filtered_fewer (λ row. is_prefix path (home row)) (all_rows tree))
-  task_few false is = omega (arith, IsTotal-counted sum (piece tree path limit) is, piece_few tree path limit)
+pub task_few : (tree : List Directory) (limit : ℕ) (path : Components) (whole : Bool) → length (rows_at tree limit path whole) ≤ length (all_rows tree)
+task_few tree limit path true = filtered_fewer (λ row. is_prefix path (home row)) (all_rows tree)
+task_few tree limit path false = piece_few tree path limit
 
 module _ (tree : List Directory) (who : Principal) (shape : HasTreeShape tree) (skips : Summary → Bool) (limit grain start : ℕ) (within : start < length tree) (on : lists_at tree who (path_at tree start) ≡ true)
     (tasks : List ℕ) (may : All (Contains (open_places tree who (path_at tree start))) tasks) (balanced : IsBalanced (start ∷ []) (task_kids skips tree who limit grain) tasks) where

@@ -167,23 +167,24 @@ depth_at-place (d ∷ ds) shape k within =
     let depth = depth_within (d ∷ ds) shape (k + 1) k d (omega arith) within in
     omega (arith, ap length (path_at-get (d ∷ ds) k d within))
 
-module _ (tree : List Directory) (who : Principal) (shape : HasTreeShape tree) where
-  pub at_place : (k : ℕ) → k < length tree → (d : Directory) × Has tree d × (d.path ≡ path_at tree k)
-  at_place k within = by tree within refl where
-    by : (ds : List Directory) → k < length tree → ds ≡ tree → (d : Directory) × Has tree d × (d.path ≡ path_at tree k)
-    by [] h e = absurd (omega (arith, h, ap length e))
-    by (d ∷ ds) h e = (get_or tree k d, Has-get_or tree k d h, sym (path_at-get tree k d h))
+-- the directory at a place
+pub at_place : (tree : List Directory) (k : ℕ) → k < length tree → (d : Directory) × Has tree d × (d.path ≡ path_at tree k)
+at_place tree k within = by tree within refl where
+  by : (ds : List Directory) → k < length tree → ds ≡ tree → (d : Directory) × Has tree d × (d.path ≡ path_at tree k)
+  by [] h e = absurd (omega (arith, h, ap length e))
+  by (d ∷ ds) h e = (get_or tree k d, Has-get_or tree k d h, sym (path_at-get tree k d h))
 
+module _ (tree : List Directory) (who : Principal) (shape : HasTreeShape tree) where
   -- whether the directory at a place may be listed, by what guards it
   pub lists_at-place : (k : ℕ) → k < length tree → (rights : Rights) → ((d : Directory) → rights ≡ rights_of (get_or tree k d).rec) → can_list who rights ≡ lists_at tree who (path_at tree k)
   lists_at-place k within rights same =
-      let w = at_place k within in
+      let w = at_place tree k within in
       let d : Directory = get_or tree k w.0 in
       ap (can_list who) (same w.0) ∙ sym (ap (lists_at tree who) (path_at-get tree k w.0 within) ∙ lists_at-own tree who (λ p. false) shape d (Has-get_or tree k w.0 within))
 
   pub IsOpenTop-at : (k : ℕ) → k < length tree → lists_at tree who (path_at tree k) ≡ true → IsOpenTop tree who (path_at tree k)
   IsOpenTop-at k within on =
-      let w = at_place k within in
+      let w = at_place tree k within in
       record { dir = w.0; there = w.1; on = sym (lists_at-own tree who (λ p. false) shape w.0 w.1) ∙ ap (lists_at tree who) w.2 ∙ on; path = w.2 }
 
   -- a start that is found may be listed
@@ -224,7 +225,7 @@ module _ (tree : List Directory) (who : Principal) (shape : HasTreeShape tree) w
   module _ (limit : ℕ) where
     pub IsOpen-start : (k : ℕ) → k < length tree → lists_at tree who (path_at tree k) ≡ true → IsOpen tree who (path_at tree k) (dir_id k)
     IsOpen-start k within on =
-        let w = at_place k within in
+        let w = at_place tree k within in
         record {
           within = within;
           dir = w.0;
@@ -261,7 +262,7 @@ module _ (tree : List Directory) (who : Principal) (shape : HasTreeShape tree) w
 
     kid_open : (start path : Components) → is_prefix start path ≡ true → (id : DirId) → id.0 < length tree → lists_at tree who (path_at tree id.0) ≡ true → is_child_of path (path_at tree id.0) ≡ true → IsOpen tree who start id
     kid_open start path leads id within on child =
-        let w = at_place id.0 within in
+        let w = at_place tree id.0 within in
         let r = is_prefix-rest start path leads in
         let n = child_name path (path_at tree id.0) child in
         let q : path_at tree id.0 ≡ start ++ (r.0 ++ n.0 ∷ []) = n.1 ∙ ap (λ (p : Components). p ++ n.0 ∷ []) r.1 ∙ append_assoc start r.0 (n.0 ∷ []) in

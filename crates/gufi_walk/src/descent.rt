@@ -76,16 +76,28 @@ pub(crate) fn push_kids(
 }
 
 /// The kept sum of a piece. It looks at no row.
-pub(crate) fn sum_of_piece(snap: &Snapshot, id: DirId) -> &Summary
+pub(crate) fn sum_of_piece(snap: &Snapshot, id: DirId) -> Summary
     requires { id.0 < length snap.now.tree }
-    ensures { IsTotal result.now (piece snap.now.tree (path_at snap.now.tree id.0) snap.now.limit) }
+    ensures { IsTotal result (piece snap.now.tree (path_at snap.now.tree id.0) snap.now.limit) }
 {
     let is_whole = snap.rolled(id);
     if is_whole {
-        snap.tree_sum(id)
+        *snap.tree_sum(id)
     } else {
-        snap.dir_sum(id)
+        *snap.dir_sum(id)
     }
+}
+
+/// Whether the test passes over a piece.
+///
+/// Where no sum is to be asked it looks at none: the piece has the directory's own row, so its sum counts a directory.
+fn passes_piece<S: Skip>(snap: &Snapshot, id: DirId, skip: &S) -> bool
+    requires { id.0 < length snap.now.tree }
+    ensures { result ≡ S.skips skip.now (total (piece snap.now.tree (path_at snap.now.tree id.0) snap.now.limit)) }
+{
+    // The tree's shape tells that the own row is a directory's.
+    let _tree = snap.tree();
+    skip.asks_sums() && skip.none_match(&sum_of_piece(snap, id))
 }
 
 /// Adds the rows of a piece as they are shown, those that meet the question so, unless its sum shows that there are none. It
@@ -113,12 +125,22 @@ pub(crate) fn visit<T: Tester, Y: Yield, S: Skip, G: Gate, L: Ledger>(
     ensures passed { IfOk result (λ passed. passed ≡ S.skips skip.now (total (piece snap.now.tree (path_at snap.now.tree id.0) snap.now.limit))) }
     ensures exact { steps.new ≡ steps.old + length (not_passed (S.skips skip.now) snap.now.tree snap.now.limit (path_at snap.now.tree id.0 ∷ [])) }
 {
-    if skip.none_match(sum_of_piece(snap, id)) {
+    if passes_piece(snap, id, skip) {
         return Ok(true);
     }
     gate.begin(GateKind::Store, id.0);
     snap.scan_piece(alloc, id, tester, &Shown { who }, above, out, steps)?;
     Ok(false)
+}
+
+/// Whether the test passes over all that is at and below a directory. Where no sum is to be asked it looks at none, as with a piece.
+pub(crate) fn passes_tree<S: Skip>(snap: &Snapshot, id: DirId, skip: &S) -> bool
+    requires { id.0 < length snap.now.tree }
+    ensures { result ≡ S.skips skip.now (tree_sum snap.now.tree (path_at snap.now.tree id.0)) }
+{
+    // The tree's shape tells that the own row is a directory's.
+    let _tree = snap.tree();
+    skip.asks_sums() && skip.none_match(&*snap.tree_sum(id))
 }
 
 /// Whether the test passes over all that is at and below a directory, where it is known whether it passes over its piece.
@@ -129,7 +151,7 @@ fn passes_below<S: Skip>(snap: &Snapshot, id: DirId, skip: &S, passed: bool) -> 
     requires passed { passed ≡ S.skips skip.now (total (piece snap.now.tree (path_at snap.now.tree id.0) snap.now.limit)) }
     ensures { result ≡ S.skips skip.now (tree_sum snap.now.tree (path_at snap.now.tree id.0)) }
 {
-    passed && skip.none_match(snap.tree_sum(id))
+    passed && passes_tree(snap, id, skip)
 }
 
 /// How many components the path of a directory has: no more than there are directories before it.
@@ -273,7 +295,8 @@ fn answer_from<P: Pred, Y: Yield, S: Skip, L: Ledger>(
 ///
 /// It takes the directories in path order. Cost: one step for each piece of the front whose directory lies no deeper than a row
 /// that meets the query may and whose sum isn't passed over; nothing is looked at below a directory whose rows, all in all, are
-/// passed over, and of such a directory two sums at most. A start that is refused costs no step.
+/// passed over, and of such a directory two sums at most. Where no sum is to be asked none is looked at. A start that is refused
+/// costs no step.
 pub fn answer_alone<P: Pred, Y: Yield, S: Skip, L: Ledger>(
     alloc: Global,
     snap: &Snapshot,

@@ -9,8 +9,10 @@ ghost use Rattle.gufi_snap.specs.Pieces.{piece, tree_sum};
 ghost use Rattle.gufi_walk.specs.Walk.{lists_at, kid_ids, meets, is_whole, task_dirs, task_kids, task_rows, open_places};
 ghost use Rattle.gufi_walk.specs.Chunks.{Hold, chunks_in};
 
-use crate::chunk::Chunk;
-use crate::descent::{add_rows_below, lies_within, may_be_listed, sum_of_piece, visit};
+use crate::chunk::{Chunk, MOST_ROWS};
+use crate::descent::{
+    add_rows_below, lies_within, may_be_listed, passes_tree, sum_of_piece, visit,
+};
 use crate::piece::WalkPiece;
 use gufi_access::Principal;
 use gufi_base::{Memory, Pred, Steps, Yield};
@@ -35,7 +37,7 @@ pub(crate) struct Walk<'a, P: Pred, Y, S: Skip> {
     pub(crate) skip: &'a S,
     /// Of how many directories a task takes all that is at and below it.
     pub(crate) grain: u64,
-    /// Whether each task puts what it adds in order, so that walkers share that work too.
+    /// Whether each walker puts the rows of each of its chunks in order, once, so that walkers share that work too.
     pub(crate) settles: bool,
     pub(crate) collects: PhantomData<Y>,
     ghost above_is: { above ≡ length (path_at snap.now.tree start.0) },
@@ -91,13 +93,29 @@ fn push_places(
     push_listed(kids, snap, who, snap.tree().subdirs(id))
 }
 
+/// How large a task is.
+#[derive(Clone, Copy)]
+struct TaskSize {
+    /// How many rows it has at most.
+    rows: u64,
+    /// How many directories its rows are of, those between them that may not be listed among them, at most.
+    dirs: u64,
+}
+
 impl<P: Pred, Y: Yield, S: Skip> Walk<'_, P, Y, S> {
+    /// Whether one task takes the whole walk, as it does for one walker. No sum tells then how large the task is.
+    fn is_one_task(&self) -> bool
+        ensures { result ≡ true → 2 ^ 40 ≤ self.now.grain }
+    {
+        self.grain == u64::MAX
+    }
+
     /// Whether the test passes over all that is at and below a directory.
     fn passes_below(&self, id: DirId) -> bool
         requires { id.0 < length self.now.snap.now.tree }
         ensures { result ≡ S.skips self.now.skip.now (tree_sum self.now.snap.now.tree (path_at self.now.snap.now.tree id.0)) }
     {
-        self.skip.none_match(self.snap.tree_sum(id))
+        passes_tree(self.snap, id, self.skip)
     }
 
     /// Whether a task takes all directories at and below its own: where they are few, or passed over.
@@ -105,22 +123,51 @@ impl<P: Pred, Y: Yield, S: Skip> Walk<'_, P, Y, S> {
         requires { id.0 < length self.now.snap.now.tree }
         ensures { result ≡ is_whole (S.skips self.now.skip.now) self.now.snap.now.tree self.now.grain (path_at self.now.snap.now.tree id.0) }
     {
+        // The tree's count tells that it has no more directories than one task takes.
+        let _tree = self.snap.tree();
+        if self.is_one_task() {
+            return true;
+        }
         self.snap.tree_sum(id).dirs <= self.grain || self.passes_below(id)
     }
 
     /// The sum of the rows at the directories that a task takes.
-    fn sum_of_task(&self, id: DirId) -> &Summary
+    fn sum_of_task(&self, id: DirId) -> Summary
         requires given { Contains (open_places self.now.snap.now.tree self.now.who.now (path_at self.now.snap.now.tree self.now.start.0)) id.0 }
         ensures rows { length (flat_map (λ path. piece self.now.snap.now.tree path self.now.snap.now.limit)
-            (task_dirs (S.skips self.now.skip.now) self.now.snap.now.tree self.now.who.now self.now.snap.now.limit self.now.grain (path_at self.now.snap.now.tree id.0))) ≤ rows_in result.now }
-        ensures few { rows_in result.now < 2 ^ 40 }
+            (task_dirs (S.skips self.now.skip.now) self.now.snap.now.tree self.now.who.now self.now.snap.now.limit self.now.grain (path_at self.now.snap.now.tree id.0))) ≤ rows_in result }
+        ensures few { rows_in result < 2 ^ 40 }
     {
         // The tree's shape tells that the directory of a task may be listed.
         let _tree = self.snap.tree();
         if self.is_whole(id) {
-            return self.snap.tree_sum(id);
+            return *self.snap.tree_sum(id);
         }
         sum_of_piece(self.snap, id)
+    }
+
+    /// How large a task is. Where one task takes the whole walk it is as large as a tree may be.
+    fn size_of_task(&self, id: DirId) -> TaskSize
+        requires given { Contains (open_places self.now.snap.now.tree self.now.who.now (path_at self.now.snap.now.tree self.now.start.0)) id.0 }
+        ensures rows { length (flat_map (λ path. piece self.now.snap.now.tree path self.now.snap.now.limit)
+            (task_dirs (S.skips self.now.skip.now) self.now.snap.now.tree self.now.who.now self.now.snap.now.limit self.now.grain (path_at self.now.snap.now.tree id.0))) ≤ result.rows }
+        ensures few { result.rows < 2 ^ 40 }
+        ensures dirs { result.dirs ≤ result.rows }
+    {
+        // The tree's shape tells that the directory of a task may be listed, and its count that all rows are few.
+        let _tree = self.snap.tree();
+        if self.is_one_task() {
+            let all = MOST_ROWS - 1;
+            return TaskSize {
+                rows: all,
+                dirs: all,
+            };
+        }
+        let sum = self.sum_of_task(id);
+        TaskSize {
+            rows: rows_of(&sum),
+            dirs: sum.dirs,
+        }
     }
 
     /// Adds the rows of a task.
@@ -182,11 +229,12 @@ impl<P: Pred, Y: Yield, S: Skip> Walk<'_, P, Y, S> {
     }
 
     /// Whether the rows of a task may stand behind those of a chunk: where no task can lie between, and the chunk hasn't half as
-    /// many directories as a task may take.
+    /// many directories as a task may take. The only task always may.
     fn follows(&self, chunk: &Chunk<Y>, task: u32) -> bool
         requires { task < length self.now.snap.now.tree }
     {
-        chunk.directories() < self.grain / 2 && self.none_listed(chunk.end, task)
+        self.is_one_task()
+            || (chunk.directories() < self.grain / 2 && self.none_listed(chunk.end, task))
     }
 
     /// Adds the tasks that a task brings forth.
@@ -243,10 +291,9 @@ where
         // The tree's shape tells that the directory of a task may be listed.
         let _tree = self.snap.tree();
         let id = DirId(task);
-        let sum = self.sum_of_task(id);
-        let rows = rows_of(sum);
+        let size = self.size_of_task(id);
         let goes_on = self.follows(&piece.last, task);
-        piece.make_ready(alloc, task, rows, goes_on, self.settles)?;
+        piece.make_ready(alloc, task, size.rows, goes_on, self.settles)?;
         self.add_rows::<G, Brand>(
             alloc,
             gate,
@@ -255,8 +302,8 @@ where
             &mut piece.last.rows,
             Blank::new(1),
         )?;
-        piece.last.end = u64::from(task) + sum.dirs;
-        piece.last.most += rows;
+        piece.last.end = u64::from(task) + size.dirs;
+        piece.last.most += size.rows;
         self.push_kids(kids, id)?;
         Ok(())
     }

@@ -35,7 +35,7 @@ pub fn total_from(
     let mut sum = Summary::empty();
     let mut todo = list_of(alloc, start)?;
     while let Some(id) = todo.pop() {
-        sum.join(sum_of_piece(snap, id));
+        sum.join(&sum_of_piece(snap, id));
         push_kids(&mut todo, snap, who, id)?;
     }
     Ok(sum)

@@ -120,7 +120,7 @@ where
 ///
 /// Walkers share the directories, each in a thread where one can be made. One walker does all in the thread that calls; so do
 /// many where no row can meet the query that lies more than two levels below the start.
-/// Cost: as `answer_alone`, shared among the walkers.
+/// Cost: as `answer_alone`, shared among the walkers. Several look at sums too, by which they share the directories.
 pub fn answer<
     R: Threads + Wait + Sync,
     P: Pred + Sync,
