@@ -11,10 +11,10 @@ overflow_cast-result c =
     let shape : HasTreeShape tree = subst HasTreeShape c.self.view_is c.self.invariant.shape in
     let count = c.dirs-count.ensures.count in
     let few = c.dirs-count.type_inv in
-    omega (arith, ap length c.self.view_is, dirs_counted tree (path_at tree c.args.id.0) c.tree_sum.result.now shape c.tree_sum.ensures, below_within tree c.args.id.0 shape.order c.requires)
+    omega (arith, ap length c.self.view_is, dirs_counted tree (path_at tree c.args.id.0) c.tree_sum.result shape c.tree_sum.ensures, below_within tree c.args.id.0 shape.order c.requires)
 
 pub returns : goal.returns
 returns c =
     let tree = c.args.self.now in
     let shape : HasTreeShape tree = subst HasTreeShape c.self.view_is c.self.invariant.shape in
-    dirs_counted tree (path_at tree c.args.id.0) c.tree_sum.result.now shape c.tree_sum.ensures
+    dirs_counted tree (path_at tree c.args.id.0) c.tree_sum.result shape c.tree_sum.ensures
