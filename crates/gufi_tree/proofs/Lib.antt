@@ -40,3 +40,4 @@ pub mod TooLong
 pub mod GraftParents
 pub mod Short
 pub mod LastNames
+pub mod LastBelow

@@ -10,6 +10,7 @@ pub mod Texts
 pub mod Resolve
 pub mod Reached
 pub mod Listed
+pub mod Subtree
 pub mod Bundles
 pub mod GoingOn
 pub mod Packs

@@ -26,6 +26,7 @@ mod search;
 mod shape;
 mod sort;
 mod stanzas;
+mod subtree;
 mod too_long;
 mod tree;
 
