@@ -1,5 +1,5 @@
 //! Tests of sums and of depths, by which whole lists of rows are passed over.
-ghost use Rattle.std.specs.Prelude.{◌≡◌, ℕ, ◌≤◌, Bool, true, false, List, Option, Some, None};
+ghost use Rattle.std.specs.Prelude.{◌≡◌, ℕ, ◌<◌, ◌≤◌, Bool, true, false, List, Option, Some, None};
 ghost use Rattle.gufi_base.specs.declared.record.Row.{Row};
 ghost use Rattle.gufi_sums.specs.declared.summary.Summary.{Summary};
 ghost use Rattle.gufi_sums.specs.Depths.{is_within, nothing_within, within_most};
@@ -35,6 +35,11 @@ pub trait Skip {
     fn none_match(&self, sum: &Summary) -> bool
         ensures { result ≡ skips self.now sum.now };
 
+    /// Whether a sum that counts a directory may tell that none of its rows meets the query. Where it is false, such sums needn't be
+    /// made or looked at. True tells nothing.
+    fn asks_sums(&self) -> bool
+        ensures { result ≡ false → (sum : Summary) → 0 < sum.dirs → skips self.now sum ≡ false };
+
     /// No row that lies deeper than this below the start meets the query. None tells nothing.
     fn deepest(&self) -> Option<u32>
         ensures { result ≡ deepest self.now };
@@ -58,6 +63,10 @@ impl Skip for NoSkip {
     ghost bounded = { λ skip most is row depth met. nothing_within most is depth };
 
     fn none_match(&self, _sum: &Summary) -> bool {
+        false
+    }
+
+    fn asks_sums(&self) -> bool {
         false
     }
 
@@ -87,6 +96,10 @@ impl Skip for NoDeeper {
 
     fn none_match(&self, sum: &Summary) -> bool {
         NoSkip.none_match(sum)
+    }
+
+    fn asks_sums(&self) -> bool {
+        NoSkip.asks_sums()
     }
 
     fn deepest(&self) -> Option<u32> {
