@@ -266,7 +266,7 @@ impl Bundle {
         })
     }
 
-    /// Gives up all directories as a bundle that takes no more memory than it must. Entries, which are most of it, aren't copied.
+    /// Gives up all directories as a bundle that takes no more memory than it must. Numbers of entries, which are most of it, aren't copied.
     pub(crate) fn take(&mut self, alloc: Global) -> Result<Bundle, AllocError>
         ensures taken { IfOk result (λ full. full ≡ self.old) }
         ensures emptied { OnOk result (self.new ≡ []) }
@@ -275,7 +275,7 @@ impl Bundle {
         self.rows.shrink_to_fit();
         let heads = Vec::from_slice(alloc, self.heads.as_slice())?;
         let text = Vec::from_slice(alloc, self.text.as_slice())?;
-        let rows = mem::replace(&mut self.rows, PackedRows::new(alloc));
+        let rows = self.rows.take(alloc)?;
         let longest = mem::replace(&mut self.longest, 0);
         self.heads.clear();
         self.text.clear();
