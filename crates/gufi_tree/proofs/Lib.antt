@@ -34,6 +34,7 @@ pub mod Steps
 pub mod Kept
 pub mod GoingOn
 pub mod Paired
+pub mod PairedHeads
 pub mod Waiting
 pub mod Bundled
 pub mod TooLong

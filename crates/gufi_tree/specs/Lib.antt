@@ -15,5 +15,6 @@ pub mod Bundles
 pub mod GoingOn
 pub mod Packs
 pub mod Rows
+pub mod Heads
 pub mod Bundled
 pub mod Graft

@@ -11,6 +11,7 @@ mod dirs;
 mod fault;
 mod gather;
 mod graft;
+mod heads;
 mod likely;
 mod lines;
 mod link;
