@@ -10,8 +10,8 @@ ghost use Rattle.gufi_tree.specs.Places.{path_at};
 ghost use Rattle.gufi_store.specs.Scan.{is_met};
 ghost use Rattle.gufi_sums.specs.Total.{IsTotal};
 
-use crate::stores::sum_stores;
-use crate::sums::{add_above, add_below};
+use crate::stores::{sums_of, sums_uncounted};
+use crate::sums::{add_above, own_sum, sum_below};
 use gufi_base::{Memory, Steps, Tester, View, Yield};
 use gufi_store::{DirStore, scan_fold};
 use gufi_sums::{SharedSums, Summary};
@@ -20,13 +20,13 @@ use std::alloc::Global;
 use std::marker::Model;
 use std::sync::ledger::Ledger;
 
-/// A tree and the sums of the rows of its directories.
+/// A tree, and the sums of the rows of its directories where they are kept.
 ///
 /// Rows are kept once: the tree lends a store its directory, and a fold the range of its directories.
 #[derive(Drop)]
 pub(crate) struct Contents {
     tree: Tree,
-    sums: SharedSums,
+    sums: Option<SharedSums>,
 }
 
 impl Model for Contents {
@@ -35,11 +35,11 @@ impl Model for Contents {
 
     ghost Value = { List Directory };
 
-    ghost use Rattle.gufi_snap.specs.Kept.{IsContents};
+    ghost use Rattle.gufi_snap.specs.Kept.{IsKept};
 
     ghost view = { λ c. c.tree };
 
-    ghost invariant = { λ c. IsContents c.tree c.sums };
+    ghost invariant = { λ c. IsKept c.tree c.sums };
 }
 
 impl Contents {
@@ -53,14 +53,38 @@ impl Contents {
         ensures ticks { OnOk result (steps.new ≡ steps.old + length tree) }
         ensures at_most { steps.new ≤ steps.old + length tree }
     {
-        let mut sums = sum_stores(alloc, &tree, steps)?;
-        add_below(alloc, &tree, &mut sums)?;
-        Ok(Contents { tree, sums })
+        let sums = sums_of(alloc, &tree, steps)?;
+        Ok(Contents {
+            tree,
+            sums: Some(sums),
+        })
+    }
+
+    /// A tree without sums, which are made anew each time that one is asked for.
+    pub(crate) fn bare(tree: Tree) -> Contents
+        ensures { result ≡ tree }
+    {
+        Contents { tree, sums: None }
+    }
+
+    /// The same with sums, made if there are none. Linear in the rows then.
+    pub(crate) fn summed(self, alloc: Global) -> Result<Contents, Memory>
+        ensures { IfOk result (λ contents. contents ≡ self) }
+    {
+        if self.sums.is_some() {
+            return Ok(self);
+        }
+        let sums = sums_uncounted(alloc, &self.tree)?;
+        Ok(Contents {
+            tree: self.tree,
+            sums: Some(sums),
+        })
     }
 
     /// The tree in which a directory and all below it, so many in all, are replaced by another tree, with its sums.
     ///
-    /// Rows and sums outside and of the part are shared. Only the directories above it are summed again.
+    /// Rows and sums outside and of the part are shared. Only the directories above it are summed again. Where either has no sums,
+    /// neither has what is made.
     pub(crate) fn refreshed(
         &self,
         alloc: Global,
@@ -74,11 +98,17 @@ impl Contents {
         ensures { IfOk result (λ contents. contents ≡ graft self.now (path_at self.now at.0) part.now) }
     {
         let tree = self.tree.graft(alloc, at, count, &part.tree)?;
+        let (Some(sums), Some(others)) = (&self.sums, &part.sums) else {
+            return Ok(Contents::bare(tree));
+        };
         let first = at.0 as usize;
         let end = first + count as usize;
-        let mut sums = self.sums.spliced(alloc, first, end, &part.sums)?;
+        let mut sums = sums.spliced(alloc, first, end, others)?;
         add_above(alloc, &tree, at, &mut sums)?;
-        Ok(Contents { tree, sums })
+        Ok(Contents {
+            tree,
+            sums: Some(sums),
+        })
     }
 
     pub(crate) fn tree(&self) -> &Tree
@@ -89,28 +119,36 @@ impl Contents {
         &self.tree
     }
 
-    pub(crate) fn dir_sum(&self, id: DirId) -> &Summary
+    /// The sum of a directory's own row and its entries. `O(1)`, or linear in these where no sums are kept.
+    #[inline]
+    pub(crate) fn dir_sum(&self, id: DirId) -> Summary
         requires { id.0 < length self.now }
-        ensures { IsTotal result.now (home_rows self.now (path_at self.now id.0)) }
+        ensures { IsTotal result (home_rows self.now (path_at self.now id.0)) }
     {
-        self.sums.own(id.0 as usize)
+        match &self.sums {
+            Some(sums) => *sums.own(id.0 as usize),
+            None => own_sum(&self.tree.dir(id)),
+        }
     }
 
-    pub(crate) fn tree_sum(&self, id: DirId) -> &Summary
+    /// The sum of the rows at and below a directory. `O(1)`, or linear in these where no sums are kept.
+    #[inline]
+    pub(crate) fn tree_sum(&self, id: DirId) -> Summary
         requires { id.0 < length self.now }
-        ensures { IsTotal result.now (subtree_rows self.now (path_at self.now id.0)) }
+        ensures { IsTotal result (subtree_rows self.now (path_at self.now id.0)) }
     {
-        self.sums.below(id.0 as usize)
+        match &self.sums {
+            Some(sums) => *sums.below(id.0 as usize),
+            None => sum_below(&self.tree, id),
+        }
     }
 
-    /// How many directories there are at and below one. The sum of their rows counts them.
+    /// How many directories there are at and below one.
     pub(crate) fn dirs_below(&self, id: DirId) -> u32
         requires { id.0 < length self.now }
         ensures { result ≡ length (filter (λ dir. is_prefix (path_at self.now id.0) dir.path) self.now) }
     {
-        // How many there are in all tells that these are counted by a number of 32 bits.
-        let _count = self.tree.dirs();
-        self.tree_sum(id).dirs as u32
+        self.tree.dirs_below(id)
     }
 
     /// The stores of a directory and of all below it, which stand side by side.

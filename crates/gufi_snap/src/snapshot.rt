@@ -20,7 +20,7 @@ use std::marker::{Brand, Model};
 use std::sync::Arc;
 use std::sync::ledger::{Blank, Ledger};
 
-/// A tree, the sums of the rows of its directories, and what is rolled up under a limit.
+/// A tree, the sums of the rows of its directories where they are kept, and what is rolled up under a limit.
 ///
 /// Snapshots of one tree under several limits share all but what is rolled up.
 #[derive(Drop)]
@@ -84,9 +84,34 @@ impl Snapshot {
         Snapshot::build_with::<Brand>(alloc, tree, limit, Blank::new(1))
     }
 
+    /// The snapshot of a tree, without sums: each that is asked for is made anew, so that it suits an answer that asks for few.
+    /// [`Snapshot::with_sums`] makes them. Linear in the directories.
+    pub fn bare(alloc: Global, tree: Tree, limit: u64) -> Result<Snapshot, Memory>
+        ensures { IfOk result (λ snap. snap ≡ record { tree = tree; limit = limit }) }
+    {
+        Snapshot::under(alloc, Arc::new(alloc, Contents::bare(tree))?, limit)
+    }
+
+    /// The same snapshot with sums, made if it has none. Linear in the rows then.
+    ///
+    /// Where other snapshots share its tree, it is left as it is.
+    pub fn with_sums(self, alloc: Global) -> Result<Snapshot, Memory>
+        ensures { IfOk result (λ snap. snap ≡ self) }
+    {
+        let contents = match Arc::try_unwrap(self.contents) {
+            Ok(own) => Arc::new(alloc, own.summed(alloc)?)?,
+            Err(shared) => shared,
+        };
+        Ok(Snapshot {
+            contents,
+            limit: self.limit,
+            flags: self.flags,
+        })
+    }
+
     /// The same tree under another limit. Its tree and sums are shared; only what is rolled up is found anew.
     ///
-    /// Linear in the directories.
+    /// Linear in the directories. Where it has no sums, the other has none.
     pub fn with_limit(&self, alloc: Global, limit: u64) -> Result<Snapshot, Memory>
         ensures { IfOk result (λ snap. snap ≡ record { tree = self.now.tree; limit = limit }) }
     {
@@ -159,20 +184,22 @@ impl Snapshot {
         self.flags[id.0 as usize]
     }
 
-    /// The sum of a directory's own row and its entries.
-    pub fn dir_sum(&self, id: DirId) -> &Summary
+    /// The sum of a directory's own row and its entries. `O(1)`, or linear in these where no sums are kept.
+    #[inline]
+    pub fn dir_sum(&self, id: DirId) -> Summary
         requires { id.0 < length self.now.tree }
-        ensures sum { result.now ≡ dir_sum self.now.tree (path_at self.now.tree id.0) }
-        ensures total { IsTotal result.now (home_rows self.now.tree (path_at self.now.tree id.0)) }
+        ensures sum { result ≡ dir_sum self.now.tree (path_at self.now.tree id.0) }
+        ensures total { IsTotal result (home_rows self.now.tree (path_at self.now.tree id.0)) }
     {
         self.contents.dir_sum(id)
     }
 
-    /// The sum of the rows at and below a directory.
-    pub fn tree_sum(&self, id: DirId) -> &Summary
+    /// The sum of the rows at and below a directory. `O(1)`, or linear in these where no sums are kept.
+    #[inline]
+    pub fn tree_sum(&self, id: DirId) -> Summary
         requires { id.0 < length self.now.tree }
-        ensures sum { result.now ≡ tree_sum self.now.tree (path_at self.now.tree id.0) }
-        ensures total { IsTotal result.now (subtree_rows self.now.tree (path_at self.now.tree id.0)) }
+        ensures sum { result ≡ tree_sum self.now.tree (path_at self.now.tree id.0) }
+        ensures total { IsTotal result (subtree_rows self.now.tree (path_at self.now.tree id.0)) }
     {
         self.contents.tree_sum(id)
     }

@@ -37,6 +37,22 @@ pub(crate) fn own_sum(dir: &DirRef<'_>) -> Summary
     sum
 }
 
+/// The sum of the rows at and below a directory, from these rows. Linear in them.
+///
+/// Calls go one deeper for each component below the directory.
+pub(crate) fn sum_below(tree: &Tree, id: DirId) -> Summary
+    requires id { id.0 < length tree.now }
+    requires few { length (flat_map own_rows tree.now) < 2 ^ 32 }
+    requires shape { HasTreeShape tree.now }
+    ensures { IsTotal result (rows_under tree.now (path_at tree.now id.0)) }
+{
+    let mut sum = own_sum(&tree.dir(id));
+    for kid in tree.subdirs(id) {
+        sum.join(&sum_below(tree, *kid));
+    }
+    sum
+}
+
 /// The sum of the rows at and below a directory, from its own and those of the directories behind it.
 fn sum_under(tree: &Tree, id: DirId, sums: &SharedSums) -> Summary
     requires id { id.0 < length tree.now }
