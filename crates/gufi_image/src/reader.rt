@@ -340,7 +340,7 @@ fn roll(alloc: Global, parts: Parts, room: usize) -> Result<Snapshot, Refused>
     let directories = parts.directories;
     let flags = directories.flags;
     let tree = tree_of_directories(alloc, directories.packing.into_dirs(), directories.parents)?;
-    let snap = Snapshot::build_uncounted(alloc, tree, limit)?;
+    let snap = Snapshot::bare(alloc, tree, limit)?;
     flags_hold(&snap, flags.as_slice(), room)?;
     Ok(snap)
 }
@@ -440,7 +440,7 @@ impl ImageReader {
         }
     }
 
-    /// The snapshot whose image the bytes are, or the first fault from the left, with its offset.
+    /// The snapshot whose image the bytes are, or the first fault from the left, with its offset. It has no sums.
     pub fn finish(self, alloc: Global) -> Result<Snapshot, ImageError>
         ensures { (bytes : List ℕ) → HasRead self bytes → length bytes ≤ max_image → GivesUnless ImageError.Memory result (image_means bytes) }
     {
@@ -461,7 +461,7 @@ impl ImageReader {
     }
 }
 
-/// The snapshot whose image the bytes are, or the first fault from the left, with its offset.
+/// The snapshot whose image the bytes are, or the first fault from the left, with its offset. It has no sums.
 ///
 /// One pass over the bytes.
 pub fn read_image(alloc: Global, bytes: &[u8]) -> Result<Snapshot, ImageError>

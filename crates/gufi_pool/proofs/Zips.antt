@@ -1,21 +1,20 @@
 -- Two lists, member by member.
-use Rattle.std.proofs.Common.{◌≡◌, ℕ, zero, suc, ◌+◌, ◌<◌, List, [], ◌∷◌, ◌++◌, map, length, get_or, arith, refl, subst, Ok, IfOk, Result, ap, All, sum_by, set, add-one}
+use Rattle.std.proofs.Common.{◌≡◌, ℕ, zero, suc, ◌+◌, ◌<◌, List, [], ◌∷◌, ◌++◌, map, length, get_or, arith, refl, sym, subst, Ok, IfOk, Result, ap, All, sum_by, set, add-one}
 use Rattle.std.proofs.lemmas.List.Sums.{sum_by-cons}
 use Rattle.std.proofs.lemmas.List.Elements.{All-nil, All-cons, All-head, All-tail}
 use Rattle.std.specs.List.{AllZip}
 use Rattle.gufi_pool.specs.Members.{changed}
 
-module _ {A B E : Type 0} (R : A → B → Type 0) where
-  zip_each : (xs : List A) (ys : List B) → length (map {B = Result B E} Ok ys) ≡ length xs → ((i : ℕ) (d : A) (e : Result B E) → i < length xs → IfOk (get_or (map Ok ys) i e) (R (get_or xs i d))) → AllZip R xs ys
-  zip_each [] [] len each = tt
-  zip_each [] (b ∷ ys) len each = absurd (omega arith)
-  zip_each (a ∷ xs) [] len each = absurd (omega arith)
-  zip_each (a ∷ xs) (b ∷ ys) len each = (each 0 a (Ok b) (omega arith), zip_each xs ys (omega arith) (λ i d e lt. each (suc i) d e (omega arith)))
+module _ {A B : Type 0} (R : A → B → Type 0) where
+  zip_values : (E : Type 0) (xs : List A) (ys : List B) → AllZip (λ a r. IfOk r (R a)) xs (map {B = Result B E} Ok ys) → AllZip R xs ys
+  zip_values E [] [] z = tt
+  zip_values E [] (b ∷ ys) z = absurd z
+  zip_values E (a ∷ xs) [] z = absurd z
+  zip_values E (a ∷ xs) (b ∷ ys) z = (z.0, zip_values E xs ys z.1)
 
   -- results of which each is there
-  pub zip_results : (xs : List A) (rs : List (Result B E)) (ys : List B) → rs ≡ map Ok ys → length rs ≡ length xs → ((i : ℕ) (d : A) (e : Result B E) → i < length xs → IfOk (get_or rs i e) (R (get_or xs i d))) → AllZip R xs ys
-  zip_results xs rs ys is len each =
-      zip_each xs ys (subst (λ l. length l ≡ length xs) is len) (subst (λ l. (i : ℕ) (d : A) (e : Result B E) → i < length xs → IfOk (get_or l i e) (R (get_or xs i d))) is each)
+  pub zip_results : {E : Type 0} (xs : List A) (rs : List (Result B E)) (ys : List B) → rs ≡ map Ok ys → AllZip (λ a r. IfOk r (R a)) xs rs → AllZip R xs ys
+  zip_results {E} xs rs ys is z = zip_values E xs ys (subst (AllZip (λ a r. IfOk r (R a)) xs) is z)
 
 module _ {A B : Type 0} (f : A → B) where
   -- what follows from a part of each member that has stayed
@@ -92,3 +91,10 @@ module _ {A B : Type 0} (R : A → B → Type 0) where
   zip_length [] (b ∷ bs) z = absurd z
   zip_length (a ∷ xs) [] z = absurd z
   zip_length (a ∷ xs) (b ∷ bs) z = let r = zip_length xs bs z.1 in omega arith
+
+module _ {A B E : Type 0} (R : A → B → Type 0) where
+  -- one more result, behind the others
+  pub zip_one_more : (all xs : List A) (x : A) (answers rs : List (Result B E)) (r : Result B E) → all ≡ xs ++ x ∷ [] → answers ≡ rs ++ r ∷ [] → AllZip (λ a s. IfOk s (R a)) xs rs → IfOk r (R x) → AllZip (λ a s. IfOk s (R a)) all answers
+  zip_one_more all xs x answers rs r e f z k =
+      let S : A → Result B E → Type 0 = λ a s. IfOk s (R a) in
+      subst (λ l. AllZip S l answers) (sym e) (subst (AllZip S (xs ++ x ∷ [])) (sym f) (zip_push S xs rs x r z k))

@@ -5,7 +5,7 @@ use Rattle.std.specs.Int.{int_min, int_max}
 use Rattle.std.proofs.Math.Bool.{or-true}
 use Rattle.std.specs.Cmp.Derive.{both_true}
 use Rattle.std.proofs.lemmas.List.Elements.{All-nil, All-cons, All-head, All-tail, All-weaker}
-use Rattle.std.proofs.lemmas.Bool.{cases_Bool, false≢true, and_parts, ltb-true, lt-ltb, leb-true, le-leb, eqb-true, eq-eqb}
+use Rattle.std.proofs.lemmas.Bool.{cases_Bool, false≢true, false_from_ne_true, and_parts, ltb-true, lt-ltb, leb-true, le-leb, eqb-true, eq-eqb}
 use Rattle.std.proofs.lemmas.Int.{ints, clamps}
 use Rattle.gufi_base.specs.declared.record.Kind.{Kind}
 use Rattle.gufi_base.specs.declared.record.Kind.TheVariants.{Block, Char, Dir, Link, Fifo, File, Socket}
@@ -22,7 +22,7 @@ use Rattle.gufi_sums.specs.Total.{span, join, total, meta_total, NoneMeets}
 use Rattle.gufi_sums.specs.Laws.{total-append, total_of-one}
 use Rattle.gufi_prune.specs.declared.class.Class.{Class}
 use Rattle.gufi_prune.specs.declared.class.Class.TheVariants.{Dirs, Files, Links, Others}
-use Rattle.gufi_prune.specs.NoMatch.{is_of, count_of, is_below, are_times, fits, chance_within, chance_of_kind, chance_of_size, chance_in, open_chance, may_meet, no_match, may_meet_at, Pruning}
+use Rattle.gufi_prune.specs.NoMatch.{is_of, count_of, is_below, are_times, fits, chance_within, chance_of_kind, chance_of_size, chance_in, chance_alone, open_chance, closed_chance, may_meet, always_may_meet, no_match, may_meet_at, Pruning}
 
 -- what may be in the first may be in the second
 pub record Below (a b : Chance) : Type 0 where
@@ -34,6 +34,9 @@ Below-same a = record { holds = λ e. e; fails = λ e. e }
 
 Below-open : (a : Chance) → Below a open_chance
 Below-open a = record { holds = λ e. refl; fails = λ e. refl }
+
+Below-closed : (b : Chance) → Below closed_chance b
+Below-closed b = record { holds = λ e. absurd (false≢true e); fails = λ e. absurd (false≢true e) }
 
 Below-trans : (a b c : Chance) → Below a b → Below b c → Below a c
 Below-trans a b c f g = record { holds = λ e. g.holds (f.holds e); fails = λ e. g.fails (f.fails e) }
@@ -421,6 +424,27 @@ ruled_out list sum class e =
       by Others false true l true di fi li oi e = absurd (false≢true e)
       by Others false false true true di fi li oi e = absurd (false≢true e)
       by Others false false false true di fi li oi e = absurd (false≢true e)
+
+-- what a hint may be whatever the sum, it may be with each
+chance_alone-below : (class : Class) (sum : Summary) (hint : Hint) → Below (chance_alone class hint) (chance_in class sum hint)
+chance_alone-below class sum (hints.Kind kind) = Below-same _
+chance_alone-below Dirs sum (hints.SizeIn first last) = Below-same _
+chance_alone-below Files sum (hints.SizeIn first last) = Below-closed _
+chance_alone-below Links sum (hints.SizeIn first last) = Below-same _
+chance_alone-below Others sum (hints.SizeIn first last) = Below-same _
+chance_alone-below class sum (hints.MtimeIn first last) = Below-closed _
+chance_alone-below class sum (hints.UidIn first last) = Below-closed _
+chance_alone-below class sum (hints.GidIn first last) = Below-closed _
+chance_alone-below class sum hints.Unknown = Below-same _
+chance_alone-below class sum hints.Not = Below-same _
+chance_alone-below class sum hints.And = Below-same _
+chance_alone-below class sum hints.Or = Below-same _
+
+-- no sum rules out rows that it counts and that may meet the hints whatever their sum
+pub never_ruled_out : (list : List Hint) (class : Class) → always_may_meet list class ≡ true → (sum : Summary) → nat_lt 0 (count_of class sum) ≡ true → no_match list sum ≡ false
+never_ruled_out list class always sum counted =
+    let may = (chance_or-grows (chance_alone class) (chance_in class sum) (chance_alone-below class sum) (formula_of list)).holds always in
+    false_from_ne_true (no_match list sum) (λ out. false≢true (sym (ruled_out list sum class out) ∙ both_true counted may))
 
 in_range_fits : (list : List Hint) (sum : Summary) → no_match list sum ≡ true → fits sum ≡ true
 unfolding no_match

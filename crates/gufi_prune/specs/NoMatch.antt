@@ -37,6 +37,10 @@ chance_within le first last (Some pair) = record {
 abbrev pub open_chance : Chance
 open_chance = record { holds = true; fails = true }
 
+-- what isn't known to be either
+abbrev pub closed_chance : Chance
+closed_chance = record { holds = false; fails = false }
+
 -- a type in a class: the others are of several types
 abbrev pub chance_of_kind : Class → Kind → Chance
 chance_of_kind Others kind = record { holds = is_other kind; fails = true }
@@ -55,6 +59,23 @@ chance_in class sum (hints.MtimeIn first last) = chance_within int_le first last
 chance_in class sum (hints.UidIn first last) = chance_within nat_le first last sum.uid
 chance_in class sum (hints.GidIn first last) = chance_within nat_le first last sum.gid
 chance_in class sum hint = open_chance
+
+-- What a hint may be of the rows of a class whatever their sum: nothing is known of a range that a sum bounds.
+abbrev pub chance_of_any_size : Class → Chance
+chance_of_any_size Files = closed_chance
+chance_of_any_size class = open_chance
+
+abbrev pub chance_alone : Class → Hint → Chance
+chance_alone class (hints.Kind kind) = chance_of_kind class kind
+chance_alone class (hints.SizeIn first last) = chance_of_any_size class
+chance_alone class (hints.MtimeIn first last) = closed_chance
+chance_alone class (hints.UidIn first last) = closed_chance
+chance_alone class (hints.GidIn first last) = closed_chance
+chance_alone class hint = open_chance
+
+-- rows of the class may meet the hints whatever their sum
+abbrev pub always_may_meet : List Hint → Class → Bool
+always_may_meet hints class = (chance_or (chance_alone class) (formula_of hints)).holds
 
 -- a row of the class may meet the hints
 abbrev pub may_meet : List Hint → Summary → Class → Bool

@@ -1,6 +1,6 @@
 //! Hints of which it is asked whether they may hold, or whether they may fail.
 ghost use Rattle.std.specs.Prelude.{◌≡◌, nat_le, int_le};
-ghost use Rattle.gufi_prune.specs.NoMatch.{chance_within, chance_of_kind, chance_of_size, chance_in};
+ghost use Rattle.gufi_prune.specs.NoMatch.{chance_within, chance_of_kind, chance_of_size, chance_in, chance_alone};
 ghost use Rattle.gufi_prune.specs.Normal.{asked_of};
 
 use crate::class::Class;
@@ -20,6 +20,12 @@ pub struct Leaf {
 pub(crate) struct ClassSum<'s> {
     pub(crate) class: Class,
     pub(crate) sum: &'s Summary,
+}
+
+/// The rows of a class, whatever a sum that counts some of them tells.
+#[derive(Clone, Copy)]
+pub(crate) struct ClassAlone {
+    pub(crate) class: Class,
 }
 
 /// Whether a range may hold, or may fail, of values from a least to a greatest one.
@@ -77,6 +83,19 @@ impl<'s> Valuation<Leaf> for ClassSum<'s> {
             Hint::MtimeIn(first, last) => may_be_times(first, last, sum.mtime, wanted),
             Hint::UidIn(first, last) => may_be_ids(first, last, sum.uid, wanted),
             Hint::GidIn(first, last) => may_be_ids(first, last, sum.gid, wanted),
+            Hint::Unknown | Hint::Not | Hint::And | Hint::Or => true,
+        }
+    }
+}
+
+impl Valuation<Leaf> for ClassAlone {
+    ghost truth = { λ c leaf. asked_of leaf.wanted (chance_alone c.class leaf.hint) };
+
+    fn is_true(&self, leaf: &Leaf) -> bool {
+        match leaf.hint {
+            Hint::Kind(kind) => may_be_kind(self.class, kind, leaf.wanted),
+            Hint::SizeIn(..) => !matches!(self.class, Class::Files),
+            Hint::MtimeIn(..) | Hint::UidIn(..) | Hint::GidIn(..) => false,
             Hint::Unknown | Hint::Not | Hint::And | Hint::Or => true,
         }
     }

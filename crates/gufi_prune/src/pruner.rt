@@ -1,11 +1,13 @@
 //! What passes over rows by their sum.
-ghost use Rattle.std.specs.Prelude.{◌≡◌, ◌^◌, ℕ, Option, None, IfOk};
+ghost use Rattle.std.specs.Prelude.{◌≡◌, ◌<◌, ◌^◌, ℕ, not, false, Option, None, IfOk};
 ghost use Rattle.gufi_formula.specs.Hints.{AreWhole, chance_or, formula_of};
-ghost use Rattle.gufi_prune.specs.NoMatch.{chance_in, fits, is_below, may_meet, may_meet_at, no_match};
+ghost use Rattle.gufi_sums.specs.declared.summary.Summary.{Summary as Sum};
+ghost use Rattle.gufi_prune.specs.declared.class.Class.TheVariants.{Dirs};
+ghost use Rattle.gufi_prune.specs.NoMatch.{always_may_meet, chance_in, fits, is_below, may_meet, may_meet_at, no_match};
 ghost use Rattle.gufi_prune.specs.Laws.{no_match-sound, no_match-parts, met-within};
 
 use crate::class::Class;
-use crate::leaf::{ClassSum, Leaf};
+use crate::leaf::{ClassAlone, ClassSum, Leaf};
 use crate::sides::formula_of;
 use gufi_base::{Hint, Memory};
 use gufi_formula::Formula;
@@ -99,6 +101,13 @@ impl Pruner {
         class.count(sum) > 0 && self.may_hold(sum, class)
     }
 
+    /// Whether rows of a class may meet them whatever their sum.
+    fn always_may_meet(&self, class: Class) -> bool
+        ensures { result ≡ always_may_meet self.now.hints class }
+    {
+        self.formula.is_true(&ClassAlone { class })
+    }
+
     /// Whether in no class of rows that the sum counts the hints may hold.
     #[tactic(auto, unfolding(crate::specs::NoMatch::no_match))]
     fn rules_out(&self, sum: &Summary) -> bool
@@ -127,6 +136,14 @@ impl Skip for Pruner {
 
     fn none_match(&self, sum: &Summary) -> bool {
         self.rules_out(sum)
+    }
+
+    /// False exactly where directories may meet the hints whatever their sum.
+    fn asks_sums(&self) -> bool
+        ensures exact { result ≡ not (always_may_meet self.now.hints Dirs) }
+        ensures sound { result ≡ false → (sum : Sum) → 0 < sum.dirs → no_match self.now.hints sum ≡ false }
+    {
+        !self.always_may_meet(Class::Dirs)
     }
 
     fn deepest(&self) -> Option<u32> {

@@ -21,7 +21,8 @@ fn users(alloc: Global) -> Result<Users, Fail> {
     Ok(Users::of(alloc, passwd, groups)?)
 }
 
-fn expression(alloc: Global, line: &str) -> Result<FindExpr, Fail> {
+/// An expression at second 200,000, where ana is user 1001 and lab is group 500.
+pub(crate) fn expression(alloc: Global, line: &str) -> Result<FindExpr, Fail> {
     let words = words_of(alloc, line)?;
     let users = users(alloc)?;
     Ok(read_find(alloc, words.as_slice(), &users, Some(200000))?)

@@ -1,4 +1,4 @@
-//! Tests of questions: patterns, expressions of `find`, SELECTs, and the plans of sessions that ask them.
+//! Tests of questions: patterns, expressions of `find`, SELECTs, what they ask of sums, and the plans of sessions that ask them.
 //!
 //! They stand beside the crates that they call, since a crate with tests is proved twice.
 #![tactic(auto)]
@@ -15,5 +15,7 @@ mod glob_tests;
 mod hint_tests;
 #[cfg(test)]
 mod plan_tests;
+#[cfg(test)]
+mod prune_tests;
 #[cfg(test)]
 mod select_tests;

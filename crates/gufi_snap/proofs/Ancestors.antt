@@ -12,6 +12,7 @@ use Rattle.gufi_tree.specs.Places.{dir_id, path_at, parent_id}
 use Rattle.gufi_tree.proofs.Descent.{split_last}
 use Rattle.gufi_tree.proofs.GraftBelow.{one_leads, longer_prefix}
 use Rattle.gufi_tree.proofs.Kids.{at_place}
+use Rattle.gufi_tree.proofs.LastBelow.{leads_on, places_ordered}
 use Rattle.gufi_tree.proofs.Linked.{path_at-get, list_all-get, root_first, some_place}
 use Rattle.gufi_tree.proofs.Ranges.{not_before, own_prefix}
 use Rattle.gufi_tree.proofs.Resolving.{parent_before}
@@ -27,21 +28,9 @@ found_some None id e = absurd (let no : None ≡ Some id = e in cc)
 found_some (Some k) id e = ap Some (ap (λ (v : Option DirId). elim v [ None ↦ k | Some w ↦ w.0 ]) e)
 
 module _ (tree : List Directory) (shape : HasTreeShape tree) where
-  -- paths stand in the order of their places
-  pub places_ordered : (j k : ℕ) → j < k → k < length tree → path_cmp (path_at tree j) (path_at tree k) ≡ Less
-  places_ordered j k before within =
-      let d = (at_place tree k within).0 in
-      ap (λ (p : Components). path_cmp p (path_at tree k)) (path_at-get tree j d (omega arith))
-      ∙ ap (path_cmp (get_or tree j d).path) (path_at-get tree k d within)
-      ∙ in_order tree shape.order j k d before within
-
-  -- one doesn't lead to one before it
-  pub leads_on : (j k : ℕ) → j < k → k < length tree → is_prefix (path_at tree k) (path_at tree j) ≡ false
-  leads_on j k before within = not_before (path_at tree k) (path_at tree j) (places_ordered j k before within)
-
   module _ (k : ℕ) (within : k < length tree) where
     has_names : 0 < k → is_empty (path_at tree k) ≡ false
-    has_names some = by (path_at tree k) (ap (λ (p : Components). path_cmp p (path_at tree k)) (sym (root_first tree shape.order shape.root)) ∙ places_ordered 0 k some within) where
+    has_names some = by (path_at tree k) (ap (λ (p : Components). path_cmp p (path_at tree k)) (sym (root_first tree shape.order shape.root)) ∙ places_ordered tree shape 0 k some within) where
       by : (p : Components) → path_cmp [] p ≡ Less → is_empty p ≡ false
       by [] e = absurd (cc e)
       by (n ∷ p) e = refl
@@ -95,10 +84,10 @@ module _ (tree : List Directory) (shape : HasTreeShape tree) where
 
       between : (j : ℕ) → id.0 < j → j < k → is_prefix (path_at tree j) path ≡ false
       between j above below = false_from_ne_true _ (λ h.
-          let on : is_prefix (path_at tree j) (path_at tree k) ≡ true = one_leads (path_at tree k) (path_at tree j) path leads h (leads_on j k below within) in
+          let on : is_prefix (path_at tree j) (path_at tree k) ≡ true = one_leads (path_at tree k) (path_at tree j) path leads h (leads_on tree shape j k below within) in
           elim (prefix_of_child (path_at tree j) (path_at tree id.0) last.0 (ap (is_prefix (path_at tree j)) (sym last.1) ∙ on)) [
-            | inl same ↦ true≢false (sym (own_prefix (path_at tree k)) ∙ ap (is_prefix (path_at tree k)) (last.1 ∙ sym same) ∙ leads_on j k below within)
-            | inr back ↦ true≢false (sym back ∙ leads_on id.0 j above (omega arith))
+            | inl same ↦ true≢false (sym (own_prefix (path_at tree k)) ∙ ap (is_prefix (path_at tree k)) (last.1 ∙ sym same) ∙ leads_on tree shape j k below within)
+            | inr back ↦ true≢false (sym back ∙ leads_on tree shape id.0 j above (omega arith))
           ])
 
       -- what stands behind the one that it lies in stands behind it too, or doesn't lead there

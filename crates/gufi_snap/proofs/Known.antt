@@ -11,13 +11,14 @@ use Rattle.gufi_tree.proofs.Below.{below_dirs}
 use Rattle.gufi_tree.proofs.GraftBelow.{graft_length, path_before, path_in, path_behind}
 use Rattle.gufi_tree.proofs.GraftShape.{graft_shape}
 use Rattle.gufi_tree.proofs.Kids.{at_place}
+use Rattle.gufi_tree.proofs.LastBelow.{leads_on}
 use Rattle.gufi_tree.proofs.Linked.{path_at-get}
 use Rattle.gufi_tree.proofs.Ranges.{below_within}
 use Rattle.gufi_roll.specs.CanRoll.{can_roll, roll_flags}
 use Rattle.gufi_roll.specs.Below.{AreKnown}
 use Rattle.gufi_roll.proofs.Grafts.{flag_outside, flag_inside}
 use Rattle.gufi_snap.specs.KnownByPlace.{AreKnownBut}
-use Rattle.gufi_snap.proofs.Ancestors.{leads_on, parent_some, passed}
+use Rattle.gufi_snap.proofs.Ancestors.{parent_some, passed}
 use Rattle.gufi_snap.proofs.Spliced.{spliced, spliced_length, spliced_before, spliced_in, spliced_behind, by_region, apart_behind, not_above, not_back, has_root}
 
 some_same : (a b : Bool) → Some a ≡ Some b → a ≡ b

@@ -13,6 +13,7 @@ use Rattle.gufi_tree.proofs.Filters.{Has-filter, filter-Has}
 use Rattle.gufi_tree.proofs.Flat.{has_dir-found}
 use Rattle.gufi_tree.proofs.GraftBelow.{put_row_below, own_rows-below, rows_outside, rows_inside, graft_length, graft_before, graft_in, graft_behind, path_before, path_in, path_behind}
 use Rattle.gufi_tree.proofs.Kids.{at_place, Has-get_or, rows_under}
+use Rattle.gufi_tree.proofs.LastBelow.{leads_on}
 use Rattle.gufi_tree.proofs.Linked.{path_at-get, root_first}
 use Rattle.gufi_tree.proofs.Ranges.{other_dirs, other_range, below_within, own_prefix}
 use Rattle.gufi_tree.proofs.Built.{Has}
@@ -21,7 +22,6 @@ use Rattle.gufi_sums.specs.SumLists.{SumLists}
 use Rattle.gufi_sums.specs.Total.{total, total_of, IsTotal}
 use Rattle.gufi_snap.specs.SumsByPlace.{AreOwn, AreSumsBut}
 use Rattle.gufi_snap.specs.Kept.{IsContents}
-use Rattle.gufi_snap.proofs.Ancestors.{leads_on}
 
 -- ---- a list of which those between two places are replaced by others
 

@@ -143,14 +143,12 @@ impl Contents {
         }
     }
 
-    /// How many directories there are at and below one. The sum of their rows counts them.
+    /// How many directories there are at and below one.
     pub(crate) fn dirs_below(&self, id: DirId) -> u32
         requires { id.0 < length self.now }
         ensures { result ≡ length (filter (λ dir. is_prefix (path_at self.now id.0) dir.path) self.now) }
     {
-        // How many there are in all tells that these are counted by a number of 32 bits.
-        let _count = self.tree.dirs();
-        self.tree_sum(id).dirs as u32
+        self.tree.dirs_below(id)
     }
 
     /// The stores of a directory and of all below it, which stand side by side.

@@ -84,14 +84,11 @@ impl Snapshot {
         Snapshot::build_with::<Brand>(alloc, tree, limit, Blank::new(1))
     }
 
-    /// The snapshot of a tree, without sums where nothing is rolled up: they are summed anew each time that one is asked for, so that
-    /// it suits an answer that asks for few. [`Snapshot::with_sums`] makes them.
+    /// The snapshot of a tree, without sums: each that is asked for is made anew, so that it suits an answer that asks for few.
+    /// [`Snapshot::with_sums`] makes them. Linear in the directories.
     pub fn bare(alloc: Global, tree: Tree, limit: u64) -> Result<Snapshot, Memory>
         ensures { IfOk result (λ snap. snap ≡ record { tree = tree; limit = limit }) }
     {
-        if limit > 0 {
-            return Snapshot::build_uncounted(alloc, tree, limit);
-        }
         Snapshot::under(alloc, Arc::new(alloc, Contents::bare(tree))?, limit)
     }
 
@@ -114,7 +111,7 @@ impl Snapshot {
 
     /// The same tree under another limit. Its tree and sums are shared; only what is rolled up is found anew.
     ///
-    /// Linear in the directories. Where it has no sums, the other has none: a scan of a rolled directory's piece then goes over it twice.
+    /// Linear in the directories. Where it has no sums, the other has none.
     pub fn with_limit(&self, alloc: Global, limit: u64) -> Result<Snapshot, Memory>
         ensures { IfOk result (λ snap. snap ≡ record { tree = self.now.tree; limit = limit }) }
     {

@@ -29,7 +29,7 @@ use gufi_stats::{
     Counts, Depth, Directories, Gid, Report, RowNumber, Uid, gids_text, leaves_text, levels_text,
     uids_text,
 };
-use gufi_sums::{NoDeeper, NoSkip, Summary};
+use gufi_sums::{NoDeeper, NoSkip, Skip, Summary};
 use gufi_users::Users;
 use gufi_walk::{
     Refusal, Walkers, answer, answer_list, answer_paths, answer_rows, answer_total, found_start,
@@ -49,6 +49,40 @@ fn make_room(snap: Snapshot, rows: usize) {
     if rows < MANY {
         forget(snap);
     }
+}
+
+/// The snapshot, with sums where what passes over rows asks for them.
+fn with_sums_for<S: Skip>(alloc: Global, snap: Snapshot, skip: &S) -> Result<Snapshot, Memory>
+    ensures { IfOk result (λ same. same ≡ snap) }
+{
+    if skip.asks_sums() {
+        return snap.with_sums(alloc);
+    }
+    Ok(snap)
+}
+
+/// The snapshot, with sums where they may tell that rows needn't be looked at for an expression.
+pub(crate) fn ready_to_find(
+    alloc: Global,
+    snap: Snapshot,
+    expression: &FindExpr,
+) -> Result<Snapshot, Memory>
+    ensures { IfOk result (λ same. same ≡ snap) }
+{
+    let skip = find_pruner(alloc, expression)?;
+    with_sums_for(alloc, snap, &skip)
+}
+
+/// The same for a SELECT.
+pub(crate) fn ready_to_select(
+    alloc: Global,
+    snap: Snapshot,
+    select: &Select,
+) -> Result<Snapshot, Memory>
+    ensures { IfOk result (λ same. same ≡ snap) }
+{
+    let skip = select_pruner(alloc, select)?;
+    with_sums_for(alloc, snap, &skip)
 }
 
 /// The lines of paths that were found in a snapshot.

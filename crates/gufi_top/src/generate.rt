@@ -100,7 +100,7 @@ fn summary_of(alloc: Global, tree: Tree) -> Result<Output, Halt>
     ensures past_words { IfErr result IsPastWords }
 {
     let report = report_line(alloc, &tree)?;
-    let snap = snapshot_of(alloc, tree, LIMIT)?;
+    let snap = snapshot_of(alloc, tree, LIMIT)?.with_sums(alloc)?;
     let reply = totals_behind(alloc, &snap, report);
     written_over(alloc, snap, reply)
 }

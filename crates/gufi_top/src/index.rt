@@ -216,7 +216,7 @@ fn rest_of_index<F: Shelf>(
 
 /// The snapshot of the index in a file: of an image under the limit that it holds, or of a trace under this one.
 ///
-/// A trace is never whole in memory. An image is, until its snapshot is made.
+/// The file is never whole in memory. The snapshot has no sums.
 #[tactic(auto, using(crate::proofs::IndexLemmas::unread, crate::proofs::StepLemmas::cause_later))]
 pub(crate) fn read_index<F: Shelf>(
     alloc: Global,

@@ -13,7 +13,10 @@ ghost use Rattle.gufi_top.specs.Views.{text_view};
 ghost use Rattle.gufi_top.specs.Verdict.{asked_if, expression_in, find_asking, stats_asking, report_of, select_in, query_asking, agg_in, agg_asking};
 ghost use Rattle.gufi_top.specs.Calls.{Gives, IsOfBytes};
 
-use crate::ask::{find_text, groups_text, listing_text, query_text, record_text, report_text};
+use crate::ask::{
+    find_text, groups_text, listing_text, query_text, ready_to_find, ready_to_select, record_text,
+    report_text,
+};
 use crate::halt::{Halt, Output, refused};
 use crate::note;
 use crate::start::{written, written_over};
@@ -217,7 +220,7 @@ impl<'a> Question<'a> {
         Question::Stats(report_of(word))
     }
 
-    /// What it writes of a snapshot. The query words are judged before the start.
+    /// What it writes of a snapshot. The query words are judged before the start; sums are made where the question asks for them.
     #[tactic(auto, using(crate::proofs::AskLemmas::asking, crate::proofs::SearchLemmas::expressions, crate::proofs::SearchLemmas::selects, crate::proofs::SearchLemmas::aggs))]
     pub(crate) fn answer<R: Threads + Wait + Sync, G: Gate + Sync>(
         &self,
@@ -234,6 +237,7 @@ impl<'a> Question<'a> {
         match self {
             Question::Find(find) => match find.expression(alloc, users) {
                 Ok(expression) => {
+                    let snap = ready_to_find(alloc, snap, &expression)?;
                     let reply = find_text(walkers, alloc, snap, who, start, &expression);
                     written(alloc, reply)
                 }
@@ -241,6 +245,7 @@ impl<'a> Question<'a> {
             },
             Question::Query(query) => match query.select(alloc) {
                 Ok(select) => {
+                    let snap = ready_to_select(alloc, snap, &select)?;
                     let reply = query_text(walkers, alloc, snap, who, start, &select);
                     written(alloc, reply)
                 }
@@ -248,6 +253,7 @@ impl<'a> Question<'a> {
             },
             Question::Agg(aggregate) => match aggregate.agg(alloc) {
                 Ok(agg) => {
+                    let snap = ready_to_select(alloc, snap, agg.select())?;
                     let reply = groups_text(walkers, alloc, &snap, who, start, &agg);
                     written_over(alloc, snap, reply)
                 }

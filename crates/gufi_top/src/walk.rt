@@ -19,11 +19,11 @@ use std::alloc::Global;
 use std::sync::Wait;
 use std::thread::Threads;
 
-/// The snapshot of a tree whose roll-up has this limit.
+/// The snapshot of a tree whose roll-up has this limit. It has no sums: a command makes them where its question asks for them.
 pub(crate) fn snapshot_of(alloc: Global, tree: Tree, limit: u64) -> Result<Snapshot, Memory>
     ensures { IfOk result (λ snap. snap ≡ record { tree = tree; limit = limit }) }
 {
-    Snapshot::build_uncounted(alloc, tree, limit)
+    Snapshot::bare(alloc, tree, limit)
 }
 
 // What `walk` writes of a tree.

@@ -225,7 +225,7 @@ fn add_entry(
     Ok(true)
 }
 
-/// Takes a line with a list, where it is seen to be sound.
+/// Takes a line with this list, where it is seen to be sound.
 #[inline(never)]
 fn add_line(
     alloc: Global,

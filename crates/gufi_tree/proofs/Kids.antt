@@ -70,7 +70,7 @@ pub record IsLater (tree : List Directory) (k : ℕ) (id : DirId) : Type 0 where
   pub later : k < id.0
 
 module _ (tree : List Directory) (shape : HasTreeShape tree) (k : ℕ) (within : k < length tree) where
-  later_place : (j : ℕ) (x : Directory) → j < length tree → x ≡ get_or tree j x → is_child_of (path_at tree k) x.path ≡ true → k < j
+  pub later_place : (j : ℕ) (x : Directory) → j < length tree → x ≡ get_or tree j x → is_child_of (path_at tree k) x.path ≡ true → k < j
   later_place j x h e child =
       let own = path_at-get tree k x within in
       let name = child_name (path_at tree k) x.path child in

@@ -34,9 +34,11 @@ pub mod Steps
 pub mod Kept
 pub mod GoingOn
 pub mod Paired
+pub mod PairedHeads
 pub mod Waiting
 pub mod Bundled
 pub mod TooLong
 pub mod GraftParents
 pub mod Short
 pub mod LastNames
+pub mod LastBelow

@@ -10,7 +10,7 @@ use Rattle.gufi_tree.specs.Rows.{packed_row, packed_rows, placed_meta, shifted_s
 use lib.Lanes.{zip2}
 
 module _ {X Y Z : Type 0} (f : X → Y → Z) where
-  zip2-append : (xs more : List X) (ys rest : List Y) → length xs ≡ length ys → zip2 f (xs ++ more) (ys ++ rest) ≡ zip2 f xs ys ++ zip2 f more rest
+  pub zip2-append : (xs more : List X) (ys rest : List Y) → length xs ≡ length ys → zip2 f (xs ++ more) (ys ++ rest) ≡ zip2 f xs ys ++ zip2 f more rest
   zip2-append [] more [] rest same = refl
   zip2-append [] more (y ∷ ys) rest same = absurd (omega arith)
   zip2-append (x ∷ xs) more [] rest same = absurd (omega arith)

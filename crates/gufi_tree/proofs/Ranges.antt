@@ -19,7 +19,7 @@ abbrev pub other_dirs : List Directory → Components → List Directory
 other_dirs tree path = filter (λ dir. not (is_prefix path dir.path)) tree
 
 -- past what stands behind a path and not below it comes nothing below the path
-never_again : (p b c : Components) → path_cmp p b ≡ Less → is_prefix p b ≡ false → path_cmp b c ≡ Less → is_prefix p c ≡ false
+pub never_again : (p b c : Components) → path_cmp p b ≡ Less → is_prefix p b ≡ false → path_cmp b c ≡ Less → is_prefix p c ≡ false
 never_again p b c behind outside later = false_from_ne_true _ (λ e.
     let w = is_prefix-rest p c e in
     let back : path_cmp c b ≡ Less = ap (λ (q : Components). path_cmp q b) w.1 ∙ stands_after_subtree p b w.0 behind outside in

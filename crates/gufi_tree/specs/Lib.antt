@@ -10,9 +10,11 @@ pub mod Texts
 pub mod Resolve
 pub mod Reached
 pub mod Listed
+pub mod Subtree
 pub mod Bundles
 pub mod GoingOn
 pub mod Packs
 pub mod Rows
+pub mod Heads
 pub mod Bundled
 pub mod Graft

@@ -6,12 +6,16 @@ ghost use Rattle.gufi_base.specs.Names.{is_name};
 ghost use Rattle.gufi_base.specs.Paths.{base_name, parent_path, stem};
 ghost use Rattle.gufi_base.specs.PathTexts.{kept_text, names, IsText};
 ghost use Rattle.gufi_base.specs.Extras.{kept_xattrs, kept_acl, AreKept};
+ghost use Rattle.gufi_access.specs.Access.{rights};
 ghost use Rattle.gufi_tree.specs.declared.tree.Entry.{Entry as SeenEntry};
 ghost use Rattle.gufi_tree.specs.Bundles.{bytes_at, directory_in, entry_in, entries_in, IsHead, IsPacked};
+ghost use Rattle.gufi_tree.specs.Heads.{guard_in, guard_of, packed_head};
 ghost use Rattle.gufi_tree.specs.Rows.{packed_row};
+ghost use Rattle.gufi_tree.specs.Tree.{rights_of};
 
-use crate::bundle::Head;
+use crate::heads::HeadSpot;
 use crate::rows::{PackedRowsRef, Spot};
+use gufi_access::Guard;
 use gufi_base::{Extras, Meta, PathRef, RecRef, acl_at, xattrs_at};
 use std::marker::Model;
 
@@ -188,7 +192,8 @@ impl<'a> EntriesRef<'a> {
 /// A directory whose parts stand elsewhere.
 #[derive(Drop)]
 pub struct DirRef<'a> {
-    head: &'a Head,
+    spot: &'a HeadSpot,
+    meta: &'a Meta,
     rows: PackedRowsRef<'a>,
     text: &'a [u8],
 }
@@ -198,31 +203,43 @@ impl<'a> Model for DirRef<'a> {
 
     ghost Value = { Directory };
 
-    ghost use Rattle.std.specs.Prelude.{All};
+    ghost use Rattle.std.specs.Prelude.{◌≡◌, All};
     ghost use Rattle.gufi_tree.specs.Bundles.{directory_in, IsHead, IsPacked};
+    ghost use Rattle.gufi_tree.specs.Heads.{guard_in, guard_of, packed_head};
 
-    ghost view = { λ d. directory_in d.text.now d.rows d.head.now };
+    ghost view = { λ d. directory_in d.text.now d.rows (packed_head d.spot.now d.meta.now) };
 
-    ghost invariant = { λ d. IsHead d.text.now d.rows d.head.now × All (IsPacked d.text.now) d.rows };
+    ghost invariant = { λ d. IsHead d.text.now d.rows (packed_head d.spot.now d.meta.now) × All (IsPacked d.text.now) d.rows × (guard_in d.spot.now ≡ guard_of d.meta.now) };
 }
 
 impl<'a> DirRef<'a> {
-    /// The directory of a head, among whose rows and in whose text it stands.
+    /// The directory of a head in two parts, among whose rows and in whose text it stands.
     #[inline]
-    pub(crate) fn of(head: &'a Head, rows: PackedRowsRef<'a>, text: &'a [u8]) -> DirRef<'a>
-        requires head { IsHead text.now rows head.now }
+    pub(crate) fn of(
+        spot: &'a HeadSpot,
+        meta: &'a Meta,
+        rows: PackedRowsRef<'a>,
+        text: &'a [u8],
+    ) -> DirRef<'a>
+        requires head { IsHead text.now rows (packed_head spot.now meta.now) }
         requires rows { All (IsPacked text.now) rows }
-        ensures { result ≡ directory_in text.now rows.entry head.now }
+        requires guard { guard_in spot.now ≡ guard_of meta.now }
+        ensures { result ≡ directory_in text.now rows.entry (packed_head spot.now meta.now) }
     {
-        DirRef { head, rows, text }
+        DirRef {
+            spot,
+            meta,
+            rows,
+            text,
+        }
     }
 
     #[inline]
     pub fn path(&self) -> PathRef<'a>
         ensures { result ≡ self.now.path }
     {
-        let head = self.head;
-        PathRef::of_text(bytes_at(self.text, head.at as usize, head.path as usize))
+        let spot = self.spot;
+        PathRef::of_text(bytes_at(self.text, spot.at as usize, spot.path as usize))
     }
 
     /// How many names its path has. Doesn't look at the path.
@@ -230,7 +247,7 @@ impl<'a> DirRef<'a> {
     pub fn depth(&self) -> usize
         ensures { result ≡ length self.now.path }
     {
-        usize::from(self.head.depth)
+        usize::from(self.spot.depth)
     }
 
     /// The stem and the base name of its path. Looks at no byte of it.
@@ -239,18 +256,33 @@ impl<'a> DirRef<'a> {
         ensures stem { result.0.now ≡ stem self.now.path }
         ensures base { result.1.now ≡ base_name self.now.path }
     {
-        let head = self.head;
-        let kept = bytes_at(self.text, head.at as usize, head.path as usize);
-        parted_at(kept, head.last)
+        let spot = self.spot;
+        let kept = bytes_at(self.text, spot.at as usize, spot.path as usize);
+        parted_at(kept, spot.last)
     }
 
     #[inline]
     pub fn rec(&self) -> RecRef<'a>
         ensures { result ≡ self.now.rec }
     {
-        let head = self.head;
-        let at = head.at as usize + head.path as usize;
-        record_at(&head.meta, self.text, at, head.link as usize, head.extras)
+        let spot = self.spot;
+        let at = spot.at as usize + spot.path as usize;
+        record_at(self.meta, self.text, at, spot.link as usize, spot.extras)
+    }
+
+    /// What guards it. Looks at nothing else of its record.
+    #[inline]
+    pub fn guard(&self) -> Guard<'a>
+        ensures { rights result ≡ rights_of self.now.rec }
+    {
+        let spot = self.spot;
+        let behind = spot.at as usize + spot.path as usize + spot.link as usize;
+        Guard {
+            uid: spot.uid,
+            gid: spot.gid,
+            mode: spot.mode,
+            acl: acl_at(self.text, behind, spot.extras),
+        }
     }
 
     /// Its entries, in the order in which they are kept.
@@ -259,9 +291,9 @@ impl<'a> DirRef<'a> {
         ensures { result ≡ self.now.entries }
     {
         let rows = &self.rows;
-        let first = self.head.first as usize;
+        let first = self.spot.first as usize;
         EntriesRef {
-            rows: rows.range(first, self.head.count as usize),
+            rows: rows.range(first, self.spot.count as usize),
             text: self.text,
         }
     }

@@ -1,4 +1,4 @@
-//! Bundles: directories packed side by side, with one pair of arrays of entries and one text for all of them.
+//! Bundles: directories packed side by side, with a pair of arrays of heads, another of entries, and one text for all of them.
 
 ghost use Rattle.std.specs.Prelude.{◌≡◌, ℕ, ◌+◌, ◌<◌, ◌++◌, ◌∷◌, [], List, length, slice_index_or, All, IsTrue, IfOk, OnOk, OnErr};
 ghost use Rattle.gufi_base.specs.Names.{is_name};
@@ -12,6 +12,7 @@ ghost use Rattle.gufi_tree.specs.Packs.{entries_of};
 ghost use Rattle.gufi_tree.specs.Rows.{spot_of};
 
 use crate::borrowed::DirRef;
+use crate::heads::PackedHeads;
 use crate::pending::Pending;
 use crate::rows::{PackedRows, Spot};
 use gufi_base::{Extras, Meta, PathRef, RecRef, put_extras, u16_of, u32_of};
@@ -48,7 +49,7 @@ impl Packed {
 
 /// A directory: its record, where the kept text of its path and behind it its link stand in a text, by their lengths in bytes, how many
 /// names the path has and where in it the last one begins, and which entries are its own. The same two stand behind the link. It has 104
-/// bytes.
+/// bytes; in a bundle its numbers, of 80, and the rest, of 32 with what guards the directory, stand in two arrays.
 #[derive(Clone, Copy)]
 pub(crate) struct Head {
     pub(crate) meta: Meta,
@@ -62,11 +63,11 @@ pub(crate) struct Head {
     pub(crate) extras: Extras,
 }
 
-/// Directories with their entries, in memory that they share: four arrays, of which two hold the parts of the entries, 88 bytes of each.
-/// The text has less than 4 GiB.
+/// Directories with their entries, in memory that they share: five arrays, of which two hold the parts of the directories, 112 bytes of
+/// each, and two those of the entries, 88 bytes of each. The text has less than 4 GiB.
 #[derive(Drop)]
 pub(crate) struct Bundle {
-    heads: Vec<Head>,
+    heads: PackedHeads,
     rows: PackedRows,
     text: Vec<u8>,
     longest: u16,
@@ -80,9 +81,9 @@ impl Model for Bundle {
 
     ghost use Rattle.gufi_tree.specs.Bundles.{directory_in, IsBundle};
 
-    ghost view = { λ b. map (directory_in b.text.items b.rows) b.heads.items };
+    ghost view = { λ b. map (directory_in b.text.items b.rows) b.heads };
 
-    ghost invariant = { λ b. IsBundle b.text.items b.rows b.heads.items b.longest };
+    ghost invariant = { λ b. IsBundle b.text.items b.rows b.heads b.longest };
 }
 
 /// Puts some bytes and behind them all of a record but its numbers behind a text, and tells where they begin and what stands behind the link.
@@ -196,7 +197,7 @@ impl Bundle {
         ensures { result ≡ [] }
     {
         Bundle {
-            heads: Vec::new(alloc),
+            heads: PackedHeads::new(alloc),
             rows: PackedRows::new(alloc),
             text: Vec::new(alloc),
             longest: 0,
@@ -228,11 +229,8 @@ impl Bundle {
         requires { place < length self.now }
         ensures { (d : Directory) → result ≡ slice_index_or self.now place d }
     {
-        DirRef::of(
-            &self.heads[place],
-            self.rows.as_rows_ref(),
-            self.text.as_slice(),
-        )
+        let (spot, meta) = self.heads.at(place);
+        DirRef::of(spot, meta, self.rows.as_rows_ref(), self.text.as_slice())
     }
 
     /// Packs a directory with these entries behind the others, in time in proportion to its bytes.
@@ -249,7 +247,7 @@ impl Bundle {
         ensures unchanged { OnErr result (self.new ≡ self.old) }
     {
         let head = pack_directory(&mut self.text, &mut self.rows, path, rec, entries)?;
-        self.heads.push(head)?;
+        self.heads.push(&head)?;
         self.longest = self.longest.max(head.path);
         Ok(())
     }
@@ -259,23 +257,23 @@ impl Bundle {
         ensures { IfOk result (λ copy. copy ≡ self.now) }
     {
         Ok(Bundle {
-            heads: Vec::from_slice(alloc, self.heads.as_slice())?,
+            heads: self.heads.copy(alloc)?,
             rows: self.rows.copy(alloc)?,
             text: Vec::from_slice(alloc, self.text.as_slice())?,
             longest: self.longest,
         })
     }
 
-    /// Gives up all directories as a bundle that takes no more memory than it must. Entries, which are most of it, aren't copied.
+    /// Gives up all directories as a bundle that takes no more memory than it must. Numbers of entries, which are most of it, aren't copied.
     pub(crate) fn take(&mut self, alloc: Global) -> Result<Bundle, AllocError>
         ensures taken { IfOk result (λ full. full ≡ self.old) }
         ensures emptied { OnOk result (self.new ≡ []) }
         ensures unchanged { OnErr result (self.new ≡ self.old) }
     {
         self.rows.shrink_to_fit();
-        let heads = Vec::from_slice(alloc, self.heads.as_slice())?;
+        let heads = self.heads.copy(alloc)?;
         let text = Vec::from_slice(alloc, self.text.as_slice())?;
-        let rows = mem::replace(&mut self.rows, PackedRows::new(alloc));
+        let rows = self.rows.take(alloc)?;
         let longest = mem::replace(&mut self.longest, 0);
         self.heads.clear();
         self.text.clear();

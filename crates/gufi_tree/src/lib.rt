@@ -11,6 +11,7 @@ mod dirs;
 mod fault;
 mod gather;
 mod graft;
+mod heads;
 mod likely;
 mod lines;
 mod link;
@@ -26,6 +27,7 @@ mod search;
 mod shape;
 mod sort;
 mod stanzas;
+mod subtree;
 mod too_long;
 mod tree;
 

@@ -5,8 +5,7 @@ ghost use Rattle.std.specs.List.{list_all};
 ghost use Rattle.gufi_base.specs.Paths.{Components};
 ghost use Rattle.gufi_base.specs.PathTexts.{names, IsText};
 ghost use Rattle.gufi_base.specs.Basics.{ascends};
-ghost use Rattle.gufi_tree.specs.Tree.{HasTreeShape, rights_of, entry_cmp};
-ghost use Rattle.gufi_access.specs.Access.{rights};
+ghost use Rattle.gufi_tree.specs.Tree.{HasTreeShape, entry_cmp};
 ghost use Rattle.gufi_tree.specs.Places.{path_at};
 ghost use Rattle.gufi_tree.specs.Resolve.{denied_at, missing_in, resolve_from, resolve};
 ghost use Rattle.gufi_tree.specs.Reached.{IsReached};
@@ -14,8 +13,8 @@ ghost use Rattle.gufi_tree.specs.Reached.{IsReached};
 use crate::borrowed::DirRef;
 use crate::dirs::Dirs;
 use crate::search::{find_dir, has_entry};
-use crate::tree::{DirId, Tree, guard_of};
-use gufi_access::{Class, Guard, Principal, class_of, granted, lists};
+use crate::tree::{DirId, Tree};
+use gufi_access::{Class, Principal, class_of, granted, lists};
 use gufi_base::Path;
 
 /// Where a start path leads.
@@ -55,20 +54,13 @@ fn cut(text: &[u8], offset: usize) -> (&[u8], &[u8])
     (&text[..end + 1], &text[offset..end])
 }
 
-/// What guards a directory.
-fn guard_on<'a>(dir: &DirRef<'a>) -> Guard<'a>
-    ensures { rights result ≡ rights_of dir.now.rec }
-{
-    guard_of(&dir.rec())
-}
-
 fn denied(dir: &DirRef<'_>, who: &Principal) -> Resolved
     requires { length dir.now.path < 2 ^ 32 }
     ensures { result ≡ denied_at who.now dir.now }
 {
     Resolved::Denied {
         depth: dir.path().depth() as u32,
-        class: class_of(who, &guard_on(dir)),
+        class: class_of(who, &dir.guard()),
     }
 }
 
@@ -94,7 +86,7 @@ fn arrive(dirs: &Dirs, who: &Principal, place: usize) -> Resolved
     ensures { result ≡ resolve_from dirs.now who.now (path_at dirs.now place) [] }
 {
     let dir = dirs.at(place);
-    if lists(who, &guard_on(&dir)) {
+    if lists(who, &dir.guard()) {
         Resolved::Found(DirId(place as u32))
     } else {
         denied(&dir, who)
@@ -120,7 +112,7 @@ fn step(
         (λ refused. (rest : Components) → refused ≡ resolve_from dirs.now who.now (path_at dirs.now place) (name.now ∷ rest)) }
 {
     let dir = dirs.at(place);
-    if !granted(who, &guard_on(&dir), 1) {
+    if !granted(who, &dir.guard(), 1) {
         return Err(denied(&dir, who));
     }
     match find_dir(dirs, next) {

@@ -1,6 +1,6 @@
 //! Packed entries in two arrays: where the bytes of each stand, and its numbers. A test of names looks at the first alone.
 
-ghost use Rattle.std.specs.Prelude.{◌≡◌, ℕ, ◌+◌, ◌<◌, ◌≤◌, ◌^◌, ◌++◌, [], length, map, take, drop, slice_index_or, All, IfOk, OnOk};
+ghost use Rattle.std.specs.Prelude.{◌≡◌, ℕ, ◌+◌, ◌<◌, ◌≤◌, ◌^◌, ◌++◌, [], length, map, take, drop, slice_index_or, All, IfOk, OnOk, OnErr};
 ghost use Rattle.gufi_tree.specs.declared.bundle.Packed.{Packed as SeenPacked};
 ghost use Rattle.gufi_tree.specs.Packs.{shifted, shifted_row, IsNear};
 ghost use Rattle.gufi_tree.specs.Rows.{packed_row, placed_meta, shifted_spot, spot_of};
@@ -10,6 +10,7 @@ use crate::pending::PlacedRow;
 use gufi_base::{Extras, Meta};
 use std::alloc::{AllocError, Global};
 use std::marker::Model;
+use std::mem;
 
 /// Where an entry's name and behind it its link stand in a text, by their lengths in bytes, and what is kept behind the link. It has 8 bytes.
 #[derive(Clone, Copy)]
@@ -143,7 +144,7 @@ impl PackedRows {
         })
     }
 
-    /// Makes room for so many more.
+    /// Makes room for so many more, where it isn't there.
     pub(crate) fn reserve_exact(&mut self, count: usize) -> Result<(), AllocError>
         ensures { self.new ≡ self.old }
     {
@@ -151,12 +152,23 @@ impl PackedRows {
         self.metas.reserve_exact(count)
     }
 
-    /// Gives back the memory that no row takes, where they stand.
+    /// Gives back the memory that no number takes, where they stand.
     pub(crate) fn shrink_to_fit(&mut self)
         ensures { self.new ≡ self.old }
     {
-        self.spots.shrink_to_fit();
         self.metas.shrink_to_fit();
+    }
+
+    /// Gives up all rows. Numbers, which are most of it, aren't copied; spots are, in as much memory as they take, and theirs is kept.
+    pub(crate) fn take(&mut self, alloc: Global) -> Result<PackedRows, AllocError>
+        ensures taken { IfOk result (λ full. full ≡ self.old) }
+        ensures emptied { OnOk result (self.new ≡ []) }
+        ensures unchanged { OnErr result (self.new ≡ self.old) }
+    {
+        let spots = Vec::from_slice(alloc, self.spots.as_slice())?;
+        let metas = mem::replace(&mut self.metas, Vec::new(alloc));
+        self.spots.clear();
+        Ok(PackedRows { spots, metas })
     }
 }
 

@@ -144,7 +144,7 @@ impl Tree {
         requires { id.0 < length self.now }
         ensures { (d : Directory) → rights result ≡ rights_of (slice_index_or self.now id.0 d).rec }
     {
-        guard_of(&self.rec(id))
+        self.dir(id).guard()
     }
 
     /// The path of a directory, borrowed.
@@ -203,18 +203,5 @@ impl Tree {
             None => None,
             Some(place) => Some(DirId(place as u32)),
         }
-    }
-}
-
-/// What guards the file of a record.
-pub(crate) fn guard_of<'a>(rec: &RecRef<'a>) -> Guard<'a>
-    ensures { rights result ≡ rights_of rec.now }
-{
-    let meta = rec.meta();
-    Guard {
-        uid: meta.uid,
-        gid: meta.gid,
-        mode: meta.mode,
-        acl: rec.acl(),
     }
 }

@@ -11,9 +11,9 @@ denied-requires c =
 pub returns-then-lists : goal.returns-then-lists
 returns-then-lists c =
     arrive_found c.args.dirs.now c.args.who.now c.requires.shape c.args.place c.at-dir.result c.requires.within (c.at-dir.ensures c.at-dir.result)
-    (ap (can_list c.args.who.now) (sym c.guard_on.ensures) ∙ sym c.lists.ensures ∙ c.if-lists.true)
+    (ap (can_list c.args.who.now) (sym c.guard.ensures) ∙ sym c.lists.ensures ∙ c.if-lists.true)
 
 pub returns-else-lists : goal.returns-else-lists
 returns-else-lists c =
     c.denied.ensures ∙ arrive_denied c.args.dirs.now c.args.who.now c.requires.shape c.args.place c.at-dir.result c.requires.within (c.at-dir.ensures c.at-dir.result)
-    (ap (can_list c.args.who.now) (sym c.guard_on.ensures) ∙ sym c.lists.ensures ∙ c.if-lists.false)
+    (ap (can_list c.args.who.now) (sym c.guard.ensures) ∙ sym c.lists.ensures ∙ c.if-lists.false)

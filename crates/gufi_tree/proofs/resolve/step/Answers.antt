@@ -24,7 +24,7 @@ missing-requires-clause-order c = at_place (λ (d : Directory). ascends entry_cm
 pub returns-then-not-granted : goal.returns-then-not-granted
 returns-then-not-granted c = λ rest.
     c.denied.ensures ∙ step_denied c.args.dirs.now c.args.who.now c.requires.shape c.args.place c.at-dir.result c.requires.within (c.at-dir.ensures c.at-dir.result) c.args.name.now rest
-    (ap (λ r. is_granted c.args.who.now r 1) (sym c.guard_on.ensures) ∙ sym c.granted.ensures ∙ c.if-not-granted.true)
+    (ap (λ r. is_granted c.args.who.now r 1) (sym c.guard.ensures) ∙ sym c.granted.ensures ∙ c.if-not-granted.true)
 
 pub returns-in-Some : goal.returns-in-Some
 returns-in-Some c =
@@ -33,7 +33,7 @@ returns-in-Some c =
       place_path c.args.dirs.now _ c.in-Some.at found,
       λ rest.
           step_on c.args.dirs.now c.args.who.now c.requires.shape c.args.place c.at-dir.result c.requires.within (c.at-dir.ensures c.at-dir.result) c.args.name.now rest
-          (ap (λ r. is_granted c.args.who.now r 1) (sym c.guard_on.ensures) ∙ sym c.granted.ensures ∙ c.if-not-granted.false)
+          (ap (λ r. is_granted c.args.who.now r 1) (sym c.guard.ensures) ∙ sym c.granted.ensures ∙ c.if-not-granted.false)
           ∙ ap (λ (p : Components). resolve_from c.args.dirs.now c.args.who.now p rest) (sym c.requires.name),
     )
 
@@ -42,4 +42,4 @@ returns-in-None c = λ rest.
     let none = ap (place_of c.args.dirs.now) (sym c.requires.name) ∙ sym c.in-None.ensures in
     c.missing.ensures ∙ step_missing c.args.dirs.now c.args.who.now c.requires.shape c.args.place c.at-dir.result c.requires.within (c.at-dir.ensures c.at-dir.result) c.args.name.now rest none
     ∙ sym (step_on c.args.dirs.now c.args.who.now c.requires.shape c.args.place c.at-dir.result c.requires.within (c.at-dir.ensures c.at-dir.result) c.args.name.now rest
-    (ap (λ r. is_granted c.args.who.now r 1) (sym c.guard_on.ensures) ∙ sym c.granted.ensures ∙ c.if-not-granted.false))
+    (ap (λ r. is_granted c.args.who.now r 1) (sym c.guard.ensures) ∙ sym c.granted.ensures ∙ c.if-not-granted.false))
