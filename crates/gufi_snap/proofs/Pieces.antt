@@ -23,8 +23,12 @@ pub on_ok : {T E : Type 0} (r : Result T E) (P Q : Type 0) → (P → Q) → OnO
 on_ok (Ok x) P Q f h = f h
 on_ok (Err e) P Q f h = tt
 
+-- all rows in path order are as many
+pub all_rows-as_many : (tree : List Directory) → length (all_rows tree) ≡ length (flat_map own_rows tree)
+all_rows-as_many tree = omega (arith, length_permutation _ _ (IsPermutation-sort_by row_cmp (flat_map own_rows tree)))
+
 pub few_rows : (tree : List Directory) → length (flat_map own_rows tree) < 2 ^ 32 → length (all_rows tree) < 2 ^ 40
-few_rows tree few = let a = length_permutation _ _ (IsPermutation-sort_by row_cmp (flat_map own_rows tree)) in omega arith
+few_rows tree few = omega (arith, all_rows-as_many tree)
 
 -- no piece has more rows than there are
 pub piece-few : (tree : List Directory) (path : Components) (limit : ℕ) → length (piece tree path limit) ≤ length (all_rows tree)

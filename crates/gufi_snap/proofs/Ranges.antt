@@ -13,7 +13,7 @@ use Rattle.gufi_tree.proofs.Flat.{is_prefix-rest}
 use Rattle.gufi_tree.proofs.Kids.{subtree_rows-under}
 use Rattle.gufi_sums.specs.declared.summary.Summary.{Summary}
 use Rattle.gufi_sums.specs.Total.{total, IsTotal}
-use Rattle.gufi_sums.specs.Laws.{total-append, IsTotal-reordered}
+use Rattle.gufi_sums.specs.Laws.{total-append, total-IsPermutation}
 
 -- ---- how many they are
 
@@ -59,10 +59,12 @@ kinded_kept p (d ∷ ds) h = let both = and_parts _ _ h in by (p d) both.0 (kind
   by false e h = h
 
 -- the sum of what is at and below a path says how many directories there are
+pub total_counted : (tree : List Directory) (path : Components) → HasTreeShape tree → (total (subtree_rows tree path)).dirs ≡ length (below_dirs tree path)
+total_counted tree path shape =
+    ap (λ (s : Summary). s.dirs) (total-IsPermutation _ _ (subtree_rows-under tree shape path)) ∙ counted (below_dirs tree path) (kinded_kept (λ dir. is_prefix path dir.path) tree shape.kinds)
+
 pub dirs_counted : (tree : List Directory) (path : Components) (sum : Summary) → HasTreeShape tree → IsTotal sum (subtree_rows tree path) → sum.dirs ≡ length (below_dirs tree path)
-dirs_counted tree path sum shape is =
-    ap (λ (s : Summary). s.dirs) (IsTotal-reordered sum _ _ (subtree_rows-under tree shape path) is).is
-    ∙ counted (below_dirs tree path) (kinded_kept (λ dir. is_prefix path dir.path) tree shape.kinds)
+dirs_counted tree path sum shape is = ap (λ (s : Summary). s.dirs) is.is ∙ total_counted tree path shape
 
 -- what lies below a path is at least as deep
 pub below_deep : (path : Components) (ds : List Directory) → All (λ (dir : Directory). length path ≤ length dir.path) (below_dirs ds path)

@@ -16,7 +16,7 @@ use Rattle.gufi_access.specs.declared.class.Principal.{Principal}
 use Rattle.gufi_core.specs.Steps.{count_of}
 use Rattle.gufi_core.proofs.Counts.{one, one_yes, one_no}
 use Rattle.gufi_tree.specs.declared.tree.DirId.{DirId}
-use Rattle.gufi_tree.specs.Tree.{Directory, all_rows, subtree_rows, home_rows, HasTreeShape}
+use Rattle.gufi_tree.specs.Tree.{Directory, own_rows, all_rows, subtree_rows, home_rows, HasTreeShape}
 use Rattle.gufi_tree.specs.Places.{dir_id, path_at, ids_from, child_ids}
 use Rattle.gufi_tree.proofs.Built.{Has, All-Has, path_eq-Decides, path_eq-refl, path_eq-less}
 use Rattle.gufi_tree.proofs.Filters.{Has-filter, filter-Has}
@@ -27,6 +27,7 @@ use Rattle.gufi_tree.proofs.Linked.{path_at-get}
 use Rattle.gufi_tree.proofs.Searched.{in_order}
 use Rattle.gufi_sums.specs.declared.summary.Summary.{Summary}
 use Rattle.gufi_roll.specs.CanRoll.{can_roll}
+use Rattle.gufi_snap.proofs.Pieces.{all_rows-as_many}
 use Rattle.gufi_snap.specs.Pieces.{front, piece, kids}
 use Rattle.gufi_pool.specs.Jobs.{kids_weigh}
 use Rattle.gufi_pool.specs.Forest.{IsShape, IsBalanced}
@@ -330,18 +331,12 @@ piece_few tree path limit = by (can_roll tree limit path) where
   by true = filtered_fewer _ (all_rows tree)
   by false = filtered_fewer _ (all_rows tree)
 
--- The rows of the directories that a task takes are no more than those of which its sum is, and these are among all rows.
-abbrev rows_at : List Directory → ℕ → Components → Bool → List Row
-rows_at tree limit path whole = cond whole (subtree_rows tree path) (piece tree path limit)
-
-pub task_room : (tree : List Directory) (who : Principal) → HasTreeShape tree → (limit : ℕ) (path : Components) → IsOpenTop tree who path → (whole : Bool)
-    → length (flat_map (λ p. piece tree p limit) (cond whole (front tree who path limit) (path ∷ []))) ≤ length (rows_at tree limit path whole)
-task_room tree who shape limit path top true = omega (arith, length_permutation _ _ (listed_at_top tree who shape limit path top), listed_few tree path who)
-task_room tree who shape limit path top false = omega (arith, ap length (append-nil (piece tree path limit)))
-
-pub task_few : (tree : List Directory) (limit : ℕ) (path : Components) (whole : Bool) → length (rows_at tree limit path whole) ≤ length (all_rows tree)
-task_few tree limit path true = filtered_fewer (λ row. is_prefix path (home row)) (all_rows tree)
-task_few tree limit path false = piece_few tree path limit
+-- The rows of the directories that a task takes are no more than all rows.
+pub task_few : (tree : List Directory) (who : Principal) → HasTreeShape tree → (limit : ℕ) (path : Components) → IsOpenTop tree who path → (whole : Bool)
+    → length (flat_map (λ p. piece tree p limit) (cond whole (front tree who path limit) (path ∷ []))) ≤ length (flat_map own_rows tree)
+task_few tree who shape limit path top true =
+    omega (arith, length_permutation _ _ (listed_at_top tree who shape limit path top), listed_few tree path who, filtered_fewer (λ row. is_prefix path (home row)) (all_rows tree), all_rows-as_many tree)
+task_few tree who shape limit path top false = omega (arith, ap length (append-nil (piece tree path limit)), piece_few tree path limit, all_rows-as_many tree)
 
 module _ (tree : List Directory) (who : Principal) (shape : HasTreeShape tree) (skips : Summary → Bool) (limit grain start : ℕ) (within : start < length tree) (on : lists_at tree who (path_at tree start) ≡ true)
     (tasks : List ℕ) (may : All (Contains (open_places tree who (path_at tree start))) tasks) (balanced : IsBalanced (start ∷ []) (task_kids skips tree who limit grain) tasks) where

@@ -4,20 +4,19 @@ ghost use Rattle.std.specs.Prelude.{◌≡◌, ℕ, ◌+◌, ◌^◌, ◌<◌, �
 ghost use Rattle.std.specs.List.{flat_map};
 ghost use Rattle.gufi_base.specs.declared.record.Row.{Row};
 ghost use Rattle.gufi_tree.specs.Places.{path_at};
-ghost use Rattle.gufi_sums.specs.Total.{rows_in};
 ghost use Rattle.gufi_snap.specs.Pieces.{piece, tree_sum};
 ghost use Rattle.gufi_walk.specs.Walk.{lists_at, kid_ids, meets, is_whole, task_dirs, task_kids, task_rows, open_places};
 ghost use Rattle.gufi_walk.specs.Chunks.{Hold, chunks_in};
 
-use crate::chunk::{Chunk, MOST_ROWS};
-use crate::descent::{add_rows_below, lies_within, may_be_listed, sum_of_piece, visit};
+use crate::chunk::Chunk;
+use crate::descent::{add_rows_below, lies_within, may_be_listed, visit};
 use crate::piece::WalkPiece;
 use gufi_access::Principal;
 use gufi_base::{Memory, Pred, Steps, Yield};
 use gufi_io::Gate;
 use gufi_pool::Job;
 use gufi_snap::Snapshot;
-use gufi_sums::{Skip, Summary};
+use gufi_sums::Skip;
 use gufi_tree::DirId;
 use std::alloc::{AllocError, Global};
 use std::marker::{Brand, PhantomData};
@@ -91,21 +90,15 @@ fn push_places(
     push_listed(kids, snap, who, snap.tree().subdirs(id))
 }
 
-/// How large a task is.
-#[derive(Clone, Copy)]
-struct TaskSize {
-    /// How many rows it has at most.
-    rows: u64,
-    /// How many directories its rows are of, those between them that may not be listed among them, at most.
-    dirs: u64,
-}
-
 impl<P: Pred, Y: Yield, S: Skip> Walk<'_, P, Y, S> {
-    /// Whether one task takes the whole walk, as it does for one walker. No sum tells then how large the task is.
-    fn is_one_task(&self) -> bool
-        ensures { result ≡ true → 2 ^ 40 ≤ self.now.grain }
+    /// How many directories there are at and below one. It looks at no sum.
+    fn dirs_below(&self, id: DirId) -> u32
+        requires { id.0 < length self.now.snap.now.tree }
+        ensures { result ≡ (tree_sum self.now.snap.now.tree (path_at self.now.snap.now.tree id.0)).dirs }
     {
-        self.grain == u64::MAX
+        // The tree's shape tells that the sum at and below the directory counts them.
+        let tree = self.snap.tree();
+        tree.dirs_below(id)
     }
 
     /// Whether the test passes over all that is at and below a directory. Where no sum is to be asked it looks at none.
@@ -123,51 +116,30 @@ impl<P: Pred, Y: Yield, S: Skip> Walk<'_, P, Y, S> {
         requires { id.0 < length self.now.snap.now.tree }
         ensures { result ≡ is_whole (S.skips self.now.skip.now) self.now.snap.now.tree self.now.grain (path_at self.now.snap.now.tree id.0) }
     {
-        // The tree's count tells that it has no more directories than one task takes.
-        let _tree = self.snap.tree();
-        if self.is_one_task() {
-            return true;
-        }
-        self.snap.tree_sum(id).dirs <= self.grain || self.passes_below(id)
+        u64::from(self.dirs_below(id)) <= self.grain || self.passes_below(id)
     }
 
-    /// The sum of the rows at the directories that a task takes.
-    fn sum_of_task(&self, id: DirId) -> Summary
-        requires given { Contains (open_places self.now.snap.now.tree self.now.who.now (path_at self.now.snap.now.tree self.now.start.0)) id.0 }
-        ensures rows { length (flat_map (λ path. piece self.now.snap.now.tree path self.now.snap.now.limit)
-            (task_dirs (S.skips self.now.skip.now) self.now.snap.now.tree self.now.who.now self.now.snap.now.limit self.now.grain (path_at self.now.snap.now.tree id.0))) ≤ rows_in result }
-        ensures few { rows_in result < 2 ^ 40 }
+    /// How many directories stand from a task's first to its last, those that may not be listed among them. It looks at no sum.
+    fn reach(&self, id: DirId) -> u32
+        requires { id.0 < length self.now.snap.now.tree }
     {
-        // The tree's shape tells that the directory of a task may be listed.
-        let _tree = self.snap.tree();
-        if self.is_whole(id) {
-            return self.snap.tree_sum(id);
+        if self.is_whole(id) || self.snap.rolled(id) {
+            self.dirs_below(id)
+        } else {
+            1
         }
-        sum_of_piece(self.snap, id)
     }
 
-    /// How large a task is. Where one task takes the whole walk it is as large as a tree may be.
-    fn size_of_task(&self, id: DirId) -> TaskSize
+    /// How many rows a task adds at most: no more than a tree has, which are fewer than 2^32. It looks at no sum.
+    fn most_rows(&self, id: DirId) -> u64
         requires given { Contains (open_places self.now.snap.now.tree self.now.who.now (path_at self.now.snap.now.tree self.now.start.0)) id.0 }
         ensures rows { length (flat_map (λ path. piece self.now.snap.now.tree path self.now.snap.now.limit)
-            (task_dirs (S.skips self.now.skip.now) self.now.snap.now.tree self.now.who.now self.now.snap.now.limit self.now.grain (path_at self.now.snap.now.tree id.0))) ≤ result.rows }
-        ensures few { result.rows < 2 ^ 40 }
-        ensures dirs { result.dirs ≤ result.rows }
+            (task_dirs (S.skips self.now.skip.now) self.now.snap.now.tree self.now.who.now self.now.snap.now.limit self.now.grain (path_at self.now.snap.now.tree id.0))) ≤ result }
+        ensures few { result < 2 ^ 40 }
     {
-        // The tree's shape tells that the directory of a task may be listed, and its count that all rows are few.
-        let _tree = self.snap.tree();
-        if self.is_one_task() {
-            let all = MOST_ROWS - 1;
-            return TaskSize {
-                rows: all,
-                dirs: all,
-            };
-        }
-        let sum = self.sum_of_task(id);
-        TaskSize {
-            rows: rows_of(&sum),
-            dirs: sum.dirs,
-        }
+        // Its clauses tell that the directory of a task may be listed, and how many rows a tree has.
+        let _count = self.snap.tree().dirs();
+        u64::from(u32::MAX)
     }
 
     /// Adds the rows of a task.
@@ -223,18 +195,17 @@ impl<P: Pred, Y: Yield, S: Skip> Walk<'_, P, Y, S> {
             if may_be_listed(self.snap, self.who, id) {
                 return false;
             }
-            place = place.saturating_add(self.snap.tree_sum(id).dirs.max(1));
+            place = place.saturating_add(u64::from(self.dirs_below(id)).max(1));
         }
         place == u64::from(to)
     }
 
     /// Whether the rows of a task may stand behind those of a chunk: where no task can lie between, and the chunk hasn't half as
-    /// many directories as a task may take. The only task always may.
+    /// many directories as a task may take.
     fn follows(&self, chunk: &Chunk<Y>, task: u32) -> bool
         requires { task < length self.now.snap.now.tree }
     {
-        self.is_one_task()
-            || (chunk.directories() < self.grain / 2 && self.none_listed(chunk.end, task))
+        chunk.directories() < self.grain / 2 && self.none_listed(chunk.end, task)
     }
 
     /// Adds the tasks that a task brings forth.
@@ -247,14 +218,6 @@ impl<P: Pred, Y: Yield, S: Skip> Walk<'_, P, Y, S> {
         }
         Ok(())
     }
-}
-
-/// How many rows a sum counts.
-fn rows_of(sum: &Summary) -> u64
-    requires { rows_in sum.now < 2 ^ 40 }
-    ensures { result ≡ rows_in sum.now }
-{
-    sum.dirs + sum.files + sum.links + sum.others
 }
 
 impl<'a, P: Pred + Sync, Y: Yield + Send + Sync, S: Skip + Sync> Job for Walk<'a, P, Y, S>
@@ -291,9 +254,9 @@ where
         // The tree's shape tells that the directory of a task may be listed.
         let _tree = self.snap.tree();
         let id = DirId(task);
-        let size = self.size_of_task(id);
+        let rows = self.most_rows(id);
         let goes_on = self.follows(&piece.last, task);
-        piece.make_ready(alloc, task, size.rows, goes_on, self.settles)?;
+        piece.make_ready(alloc, task, rows, goes_on, self.settles)?;
         self.add_rows::<G, Brand>(
             alloc,
             gate,
@@ -302,8 +265,8 @@ where
             &mut piece.last.rows,
             Blank::new(1),
         )?;
-        piece.last.end = u64::from(task) + size.dirs;
-        piece.last.most += size.rows;
+        piece.last.end = u64::from(task) + u64::from(self.reach(id));
+        piece.last.most += rows;
         self.push_kids(kids, id)?;
         Ok(())
     }

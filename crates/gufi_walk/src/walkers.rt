@@ -66,7 +66,7 @@ fn grain_for<S: Skip>(snap: &Snapshot, start: DirId, skip: &S, workers: u32) -> 
     if workers <= 1 || is_shallow(skip) {
         return u64::MAX;
     }
-    let share = snap.tree_sum(start).dirs / u64::from(workers);
+    let share = u64::from(snap.tree().dirs_below(start)) / u64::from(workers);
     (share / TASKS).max(LEAST_GRAIN)
 }
 

@@ -24,7 +24,7 @@ follows-goes_on-requires g c =
 pub add_rows-requires-clause-room : goal.add_rows-requires-clause-room
 add_rows-requires-clause-room g c =
     let h = c.in_ok-make_ready.ensures.rows _ c.requires.stood.1.0 in
-    omega (arith, g.met.Y.Yield.counted _ _ h.2, h.3, c.in_ok-make_ready.ensures.room, c.size_of_task-size.ensures.rows)
+    omega (arith, g.met.Y.Yield.counted _ _ h.2, h.3, c.in_ok-make_ready.ensures.room, c.most_rows-rows.ensures.rows)
 
 pub add_rows-requires-clause-rows : goal.add_rows-requires-clause-rows
 add_rows-requires-clause-rows g c = let h = c.in_ok-make_ready.ensures.rows _ c.requires.stood.1.0 in (h.0, h.2)
@@ -38,11 +38,16 @@ returns-clause-piece g c = λ ran are.
     let rows_of : ℕ → List Row = task_rows skips tree w.who.now w.snap.now.limit w.grain met in
     let dirs : List Components = task_dirs skips tree w.who.now w.snap.now.limit w.grain (path_at tree c.args.task) in
     let last = c.make_ready.new.self.last in
-    let n : ℕ = c.size_of_task-size.result.rows in
+    let n : ℕ = c.most_rows-rows.result in
     let next : Chunk _ = record { first = last.first; end = last.end; most = last.most + n; unsettled = last.unsettled; rows = c.add_rows.new.out } in
-    let few : length (rows_of c.args.task) ≤ n = omega (arith, filtered_fewer met (flat_map (shown_piece tree w.who.now w.snap.now.limit) dirs), shown_as_many tree w.who.now w.snap.now.limit dirs, c.size_of_task-size.ensures.rows) in
+    let few : length (rows_of c.args.task) ≤ n = omega (arith, filtered_fewer met (flat_map (shown_piece tree w.who.now w.snap.now.limit) dirs), shown_as_many tree w.who.now w.snap.now.limit dirs, c.most_rows-rows.ensures.rows) in
     let sf = g.Y.Yield.stands_for in (
       subst (Hold sf (next ∷ c.make_ready.new.self.ended.items)) (sym (rows_more rows_of ran c.args.task))
           (hold_more sf last next c.make_ready.new.self.ended.items (flat_map rows_of ran) (rows_of c.args.task) n c.in_ok-add_rows.ensures.rows few refl (c.in_ok-make_ready.ensures.rows (flat_map rows_of ran) are.0)),
       c.in_ok-add_rows.ensures.tester ∙ ap g.P.Tester.Tester.meets c.in_ok-make_ready.ensures.tester ∙ are.1,
     )
+
+pub reach-requires : goal.reach-requires
+reach-requires g c =
+    let w = c.args.self.now in
+    (place_open w.snap.now.tree w.who.now c.tree-tree.ensures.shape (path_at w.snap.now.tree w.start.0) c.args.task c.requires.given).within
