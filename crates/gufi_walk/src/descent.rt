@@ -75,16 +75,16 @@ pub(crate) fn push_kids(
     push_open(todo, snap, who, snap.tree().subdirs(id))
 }
 
-/// The kept sum of a piece. It looks at no row.
+/// The sum of a piece. Where sums are kept it looks at no row.
 pub(crate) fn sum_of_piece(snap: &Snapshot, id: DirId) -> Summary
     requires { id.0 < length snap.now.tree }
     ensures { IsTotal result (piece snap.now.tree (path_at snap.now.tree id.0) snap.now.limit) }
 {
     let is_whole = snap.rolled(id);
     if is_whole {
-        *snap.tree_sum(id)
+        snap.tree_sum(id)
     } else {
-        *snap.dir_sum(id)
+        snap.dir_sum(id)
     }
 }
 
@@ -97,7 +97,10 @@ fn passes_piece<S: Skip>(snap: &Snapshot, id: DirId, skip: &S) -> bool
 {
     // The tree's shape tells that the own row is a directory's.
     let _tree = snap.tree();
-    skip.asks_sums() && skip.none_match(&sum_of_piece(snap, id))
+    if !skip.asks_sums() {
+        return false;
+    }
+    skip.none_match(&sum_of_piece(snap, id))
 }
 
 /// Adds the rows of a piece as they are shown, those that meet the question so, unless its sum shows that there are none. It
@@ -133,16 +136,6 @@ pub(crate) fn visit<T: Tester, Y: Yield, S: Skip, G: Gate, L: Ledger>(
     Ok(false)
 }
 
-/// Whether the test passes over all that is at and below a directory. Where no sum is to be asked it looks at none, as with a piece.
-pub(crate) fn passes_tree<S: Skip>(snap: &Snapshot, id: DirId, skip: &S) -> bool
-    requires { id.0 < length snap.now.tree }
-    ensures { result ≡ S.skips skip.now (tree_sum snap.now.tree (path_at snap.now.tree id.0)) }
-{
-    // The tree's shape tells that the own row is a directory's.
-    let _tree = snap.tree();
-    skip.asks_sums() && skip.none_match(&*snap.tree_sum(id))
-}
-
 /// Whether the test passes over all that is at and below a directory, where it is known whether it passes over its piece.
 ///
 /// It looks at a sum only where the piece is passed over: else not all of it is.
@@ -151,7 +144,7 @@ fn passes_below<S: Skip>(snap: &Snapshot, id: DirId, skip: &S, passed: bool) -> 
     requires passed { passed ≡ S.skips skip.now (total (piece snap.now.tree (path_at snap.now.tree id.0) snap.now.limit)) }
     ensures { result ≡ S.skips skip.now (tree_sum snap.now.tree (path_at snap.now.tree id.0)) }
 {
-    passed && passes_tree(snap, id, skip)
+    passed && skip.none_match(&snap.tree_sum(id))
 }
 
 /// How many components the path of a directory has: no more than there are directories before it.

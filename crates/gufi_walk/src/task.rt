@@ -10,9 +10,7 @@ ghost use Rattle.gufi_walk.specs.Walk.{lists_at, kid_ids, meets, is_whole, task_
 ghost use Rattle.gufi_walk.specs.Chunks.{Hold, chunks_in};
 
 use crate::chunk::{Chunk, MOST_ROWS};
-use crate::descent::{
-    add_rows_below, lies_within, may_be_listed, passes_tree, sum_of_piece, visit,
-};
+use crate::descent::{add_rows_below, lies_within, may_be_listed, sum_of_piece, visit};
 use crate::piece::WalkPiece;
 use gufi_access::Principal;
 use gufi_base::{Memory, Pred, Steps, Yield};
@@ -110,12 +108,14 @@ impl<P: Pred, Y: Yield, S: Skip> Walk<'_, P, Y, S> {
         self.grain == u64::MAX
     }
 
-    /// Whether the test passes over all that is at and below a directory.
+    /// Whether the test passes over all that is at and below a directory. Where no sum is to be asked it looks at none.
     fn passes_below(&self, id: DirId) -> bool
         requires { id.0 < length self.now.snap.now.tree }
         ensures { result ≡ S.skips self.now.skip.now (tree_sum self.now.snap.now.tree (path_at self.now.snap.now.tree id.0)) }
     {
-        passes_tree(self.snap, id, self.skip)
+        // The tree's shape tells that the sum counts the directory.
+        let _tree = self.snap.tree();
+        self.skip.asks_sums() && self.skip.none_match(&self.snap.tree_sum(id))
     }
 
     /// Whether a task takes all directories at and below its own: where they are few, or passed over.
@@ -141,7 +141,7 @@ impl<P: Pred, Y: Yield, S: Skip> Walk<'_, P, Y, S> {
         // The tree's shape tells that the directory of a task may be listed.
         let _tree = self.snap.tree();
         if self.is_whole(id) {
-            return *self.snap.tree_sum(id);
+            return self.snap.tree_sum(id);
         }
         sum_of_piece(self.snap, id)
     }

@@ -19,7 +19,7 @@ use std::alloc::Global;
 
 /// The sum of all rows that the principal lists from a directory on.
 ///
-/// Cost: one look at a kept sum for each directory of the front. It looks at no row.
+/// Cost: one look at a sum for each directory of the front. Where sums are kept it looks at no row.
 pub fn total_from(
     alloc: Global,
     snap: &Snapshot,

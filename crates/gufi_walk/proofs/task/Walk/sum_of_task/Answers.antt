@@ -25,7 +25,7 @@ returns-then-is_whole-clause-rows g c =
     let w = c.args.self.now in
     let tree = w.snap.now.tree in
     let path : Components = path_at tree c.args.id.0 in
-    let sum = c.tree_sum.result.now in
+    let sum = c.tree_sum.result in
     let within = (place_open tree w.who.now c.tree-tree.ensures.shape (path_at tree w.start.0) c.args.id.0 c.requires.given).within in
     let listed = place_listed tree w.who.now c.tree-tree.ensures.shape (path_at tree w.start.0) c.args.id.0 c.requires.given in
     let top = IsOpenTop-at tree w.who.now c.tree-tree.ensures.shape c.args.id.0 within listed in
@@ -38,7 +38,7 @@ returns-then-is_whole-clause-few g c =
     let w = c.args.self.now in
     let tree = w.snap.now.tree in
     let path : Components = path_at tree c.args.id.0 in
-    omega (arith, c.tree-tree.ensures.few, IsTotal-counted c.tree_sum.result.now (subtree_rows tree path) c.tree_sum.ensures.total, task_few tree w.snap.now.limit path true)
+    omega (arith, c.tree-tree.ensures.few, IsTotal-counted c.tree_sum.result (subtree_rows tree path) c.tree_sum.ensures.total, task_few tree w.snap.now.limit path true)
 
 pub sum_of_piece-requires : goal.sum_of_piece-requires
 sum_of_piece-requires g c =
