@@ -4,7 +4,7 @@ use crate::lines::{guard, line_of, meta};
 use gufi_base::{Always, AsItIs, Kind, Line, Memory, Meta, Steps};
 use gufi_snap::Snapshot;
 use gufi_sums::Summary;
-use gufi_tree::{DirId, build};
+use gufi_tree::{DirId, Tree, build};
 use std::alloc::Global;
 use std::marker::Brand;
 use std::sync::ledger::{Blank, Ledger};
@@ -39,7 +39,7 @@ fn scanned<L: Ledger>(
     Ok(sum)
 }
 
-fn snapshot(alloc: Global, limit: u64) -> Result<Snapshot, Fail> {
+fn tree(alloc: Global) -> Result<Tree, Fail> {
     let lines = vec![in alloc;
         line(alloc, 1, b"/", Kind::Dir)?,
         line(alloc, 2, b"/d", Kind::Dir)?,
@@ -47,8 +47,11 @@ fn snapshot(alloc: Global, limit: u64) -> Result<Snapshot, Fail> {
         line(alloc, 4, b"/d/e/l", Kind::Link)?,
         line(alloc, 5, b"/d/f", Kind::File)?,
     ]?;
-    let tree = build(alloc, lines)?;
-    Ok(Snapshot::build_uncounted(alloc, tree, limit)?)
+    Ok(build(alloc, lines)?)
+}
+
+fn snapshot(alloc: Global, limit: u64) -> Result<Snapshot, Fail> {
+    Ok(Snapshot::build_uncounted(alloc, tree(alloc)?, limit)?)
 }
 
 fn counts(sum: &Summary) -> (u64, u64, u64) {
@@ -58,19 +61,23 @@ fn counts(sum: &Summary) -> (u64, u64, u64) {
 #[test]
 fn sums_are_of_own_rows_and_of_those_below(rt: HostRuntime) -> Result<(), Fail> {
     let alloc = rt.alloc();
-    let snap = snapshot(alloc, 0)?;
+    let kept = snapshot(alloc, 0)?;
+    let bare = Snapshot::bare(alloc, tree(alloc)?, 0)?;
+    let summed = Snapshot::bare(alloc, tree(alloc)?, 0)?.with_sums(alloc)?;
     let rows = [
         ((1u64, 0u64, 0u64), (3u64, 1u64, 1u64), (1i64, 5i64)),
         ((1, 1, 0), (2, 1, 1), (2, 5)),
         ((1, 0, 1), (1, 0, 1), (3, 4)),
     ];
-    assert!(rt; snap.tree().dirs() == 3);
-    for place in 0..3u32 {
-        let id = DirId(place);
-        let (own, below, times) = rows[place as usize];
-        assert!(rt; counts(snap.dir_sum(id)) == own);
-        assert!(rt; counts(snap.tree_sum(id)) == below);
-        assert!(rt; snap.tree_sum(id).mtime == Some(times));
+    for snap in [&kept, &bare, &summed] {
+        assert!(rt; snap.tree().dirs() == 3);
+        for place in 0..3u32 {
+            let id = DirId(place);
+            let (own, below, times) = rows[place as usize];
+            assert!(rt; counts(&snap.dir_sum(id)) == own);
+            assert!(rt; counts(&snap.tree_sum(id)) == below);
+            assert!(rt; snap.tree_sum(id).mtime == Some(times));
+        }
     }
     Ok(())
 }
