@@ -11,7 +11,7 @@ use Rattle.gufi_base.specs.Rows.{home}
 use Rattle.gufi_access.specs.declared.class.Principal.{Principal}
 use Rattle.gufi_sums.specs.declared.summary.Summary.{Summary}
 use Rattle.gufi_sums.specs.Total.{total, join, NoneMeets}
-use Rattle.gufi_sums.specs.Laws.{total-append, total-counts, total-IsPermutation}
+use Rattle.gufi_sums.specs.Laws.{total-append, total-IsPermutation}
 use Rattle.gufi_tree.specs.Tree.{Directory, all_rows, subtree_rows, home_rows, is_kinded, HasTreeShape}
 use Rattle.gufi_tree.specs.Places.{path_at}
 use Rattle.gufi_tree.specs.Listed.{is_listed}
@@ -24,7 +24,7 @@ use Rattle.gufi_snap.specs.Pieces.{piece, tree_sum}
 use Rattle.gufi_snap.proofs.Ranges.{own_one}
 use Rattle.gufi_walk.specs.Walk.{meets}
 use Rattle.gufi_walk.proofs.Pieces.{plain_rows, own_piece}
-use Rattle.gufi_walk.proofs.Walked.{none_met, at_place, filtered_fewer}
+use Rattle.gufi_walk.proofs.Walked.{none_met, at_place}
 
 -- ---- pieces among the rows at and below a directory
 
@@ -64,10 +64,6 @@ module _ (tree : List Directory) (path : Components) where
     by false = rows_split (λ row. path_eq below (home row)) (λ row h. subst (λ p. is_prefix path p ≡ true) ((path_eq-Decides below (home row)).0 h) leads)
 
 -- ---- how many directories there are
-
--- as many as rows at most, so fewer than all rows
-pub tree_few : (tree : List Directory) (path : Components) → (tree_sum tree path).dirs ≤ length (all_rows tree)
-tree_few tree path = omega (arith, total-counts (subtree_rows tree path), filtered_fewer (λ row. is_prefix path (home row)) (all_rows tree))
 
 module _ (tree : List Directory) (shape : HasTreeShape tree) (d : Directory) (there : Has tree d) where
   home_counted : 0 < (total (home_rows tree d.path)).dirs
