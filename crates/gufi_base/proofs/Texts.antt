@@ -56,7 +56,7 @@ last_name (name ∷ path) text e h long =
 pub LastName-text : (text : List ℕ) → IsText text → 1 < length text → LastName text (names text)
 LastName-text text is long = last_name (names text) text is.whole is.each long
 
--- where the last name begins: the loop that looks for the slash before it
+-- where the last name begins: behind the last slash before it
 no_slash_at : (name : List ℕ) (i : ℕ) → has_no 47 name ≡ true → i < length name → get_or name i 0 ≡ 47 → ⊥
 no_slash_at [] i h lt e = absurd (omega arith)
 no_slash_at (b ∷ name) zero h lt e = false≢true (sym (not-true _ (and_parts _ _ h).0) ∙ eq-eqb b 47 e)
@@ -85,14 +85,9 @@ last_at text path at last le lt slash =
     (λ (less : at ≤ length front). omega arith)
     (cases_lt (length front) at)
 
-pub last_more : (text : List ℕ) (path : Components) (at : ℕ) → LastName text path → length (kept_text (parent_path path)) ≤ at → (get_or text (at - 1) 0 ≡ 47 → ⊥) → length (kept_text (parent_path path)) ≤ at - 1
-last_more text path at last le other =
-    let front = kept_text (parent_path path) in
-    ⊎_elim (λ (more : length front < at). omega arith)
-    (λ (less : at ≤ length front).
-    let is : at ≡ length front = omega arith in
-    absurd (other (ap (λ k. get_or text (k - 1) 0) is ∙ ap (λ (t : List ℕ). get_or t (length front - 1) 0) last.whole ∙ slash_before (parent_path path) (base_name path ++ 47 ∷ []))))
-    (cases_lt (length front) at)
+pub last_slash : (text : List ℕ) (path : Components) → LastName text path → get_or text (length (kept_text (parent_path path)) - 1) 0 ≡ 47
+last_slash text path last =
+    ap (λ (t : List ℕ). get_or t (length (kept_text (parent_path path)) - 1) 0) last.whole ∙ slash_before (parent_path path) (base_name path ++ 47 ∷ [])
 
 pub take-last : (text : List ℕ) (path : Components) (at : ℕ) → LastName text path → at ≡ length (kept_text (parent_path path)) → take at text ≡ kept_text (parent_path path)
 take-last text path at last is = ap (λ k. take k text) is ∙ ap (take (length (kept_text (parent_path path)))) last.whole ∙ take-append_seam (kept_text (parent_path path)) (base_name path ++ 47 ∷ [])

@@ -4,6 +4,7 @@ ghost use Rattle.std.specs.Prelude.{◌≡◌, ◌≢◌, ◌==◌, ℕ, ◌+◌
 ghost use Rattle.gufi_base.specs.Paths.{parent_path};
 ghost use Rattle.gufi_base.specs.PathTexts.{kept_text, names, IsText};
 
+use memchr::memrchr;
 use std::alloc::{AllocError, Global};
 use std::simd::prelude::*;
 
@@ -105,11 +106,7 @@ pub(crate) fn last_name_at(text: &[u8]) -> usize
     ensures value { result ≡ length (kept_text (parent_path (names text.now))) }
     ensures within { result < length text.now }
 {
-    let mut at = text.len() - 1;
-    while text[at - 1] != b'/' {
-        at -= 1;
-    }
-    at
+    behind_last_slash(text, text.len() - 1)
 }
 
 /// The place behind the last slash among the first so many bytes of a text; 0 where there is none among them.
@@ -119,9 +116,8 @@ pub(crate) fn behind_last_slash(text: &[u8], count: usize) -> usize
     ensures slash { 0 < result → slice_index text.now (result - 1) ≡ 47 }
     ensures last { (k : ℕ) → result ≤ k → k < count → slice_index text.now k ≢ 47 }
 {
-    let mut at = count;
-    while at > 0 && text[at - 1] != b'/' {
-        at -= 1;
+    match memrchr(b'/', &text[..count]) {
+        Some(at) => at + 1,
+        None => 0,
     }
-    at
 }
