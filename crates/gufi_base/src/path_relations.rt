@@ -10,7 +10,7 @@ ghost use Rattle.gufi_base.specs.PathTexts.{names, IsText};
 use crate::name::is_name;
 use crate::order::{common_front, same_bytes};
 use crate::path_parts::behind_last_slash;
-use crate::plain::{are_plain, is_within_limits};
+use crate::plain::{are_plain_or_one, is_within_limits};
 
 /// What is left of a text behind a front.
 fn behind<'a>(text: &'a [u8], front: &[u8]) -> Option<&'a [u8]>
@@ -64,7 +64,7 @@ pub(crate) fn names_beside<'a>(bytes: &'a [u8], root: &[u8], known: &[u8]) -> Op
     let rest = behind(bytes, root)?;
     let same = common_front(rest, &known[1..]);
     let cut = behind_last_slash(rest, same);
-    if is_within_limits(bytes) && are_plain(&rest[cut..]) {
+    if is_within_limits(bytes) && are_plain_or_one(&rest[cut..]) {
         Some(rest)
     } else {
         None

@@ -8,6 +8,7 @@ ghost use Rattle.gufi_base.specs.Names.{is_name};
 ghost use Rattle.gufi_base.specs.Paths.{kept_parts};
 ghost use Rattle.gufi_base.specs.PlainTexts.{after};
 
+use crate::name::is_name;
 use crate::path_parts::count_slashes;
 use crate::path_reading::{MAX_COMPONENTS, MAX_NAME, MAX_PATH, without_first_slash};
 
@@ -65,6 +66,13 @@ pub(crate) fn are_plain(bytes: &[u8]) -> bool
         run = 0;
     }
     run <= MAX_NAME && matches!(reached, Reached::Inside)
+}
+
+/// The same of bytes that mostly are one name, which is looked at by blocks.
+pub(crate) fn are_plain_or_one(bytes: &[u8]) -> bool
+    ensures { OnTrue result (IsTrue (list_all is_name (split 47 bytes.now))) }
+{
+    is_name(bytes) || are_plain(bytes)
 }
 
 /// So many bytes or fewer have no more than 256 names, as each takes a byte and a slash.
