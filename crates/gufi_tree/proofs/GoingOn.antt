@@ -1,8 +1,8 @@
 -- What is packed goes on to mean the same when more is packed behind it.
-use Rattle.std.proofs.Common.{◌≡◌, ◌∙◌, ℕ, ◌+◌, ◌<◌, ◌≤◌, List, [], ◌∷◌, ◌++◌, length, map, suc, take, drop, refl, sym, ap, subst, append_assoc, arith}
+use Rattle.std.proofs.Common.{◌≡◌, ◌∙◌, ℕ, ◌+◌, ◌<◌, ◌≤◌, List, [], ◌∷◌, ◌++◌, length, map, suc, take, drop, refl, sym, ap, subst, arith}
 use Rattle.std.specs.Prelude.{All, IsTrue, true}
 use Rattle.std.specs.List.{list_all}
-use Rattle.std.proofs.lemmas.List.{append-nil, drop-append-le, drop_at, drop-map, length-append, length-drop, length-map, take-append-le, take-map, take_all}
+use Rattle.std.proofs.lemmas.List.{drop-append-le, drop_at, drop-map, length-append, length-drop, length-map, take-append-le, take-map, take_all}
 use Rattle.std.proofs.lemmas.List.Elements.{All-drop, All-push, All-take, All-weaker}
 use Rattle.gufi_base.specs.Names.{is_name}
 use Rattle.gufi_base.specs.Paths.{parent_path}
@@ -54,17 +54,6 @@ entries_in-goes_on text next rows more all = ap (λ t. entries_in t rows) more.1
 pub IsPacked-goes_on : (text next : List ℕ) (rows : List Packed) → (more : List ℕ) × (next ≡ text ++ more) → All (IsPacked text) rows → All (IsPacked next) rows
 IsPacked-goes_on text next rows more all = subst (λ t. All (IsPacked t) rows) (sym more.1) (All-weaker (IsPacked text) (IsPacked (text ++ more.0)) (IsPacked-more text more.0) rows all)
 
--- some bytes more, and no entry
-pub GoesOn-bytes : (text mid next : List ℕ) (rows after : List Packed) → GoesOn text mid rows after → (more : List ℕ) × (next ≡ mid ++ more) → GoesOn text next rows after
-GoesOn-bytes text mid next rows after goes more = record {
-  bytes = (goes.bytes.0 ++ more.0, more.1 ∙ ap (λ t. t ++ more.0) goes.bytes.1 ∙ append_assoc text goes.bytes.0 more.0);
-  entries = goes.entries;
-  packed = IsPacked-goes_on mid next after more goes.packed;
-}
-
-pub GoesOn-start : (text : List ℕ) (rows : List Packed) → All (IsPacked text) rows → GoesOn text text rows rows
-GoesOn-start text rows all = record { bytes = ([], sym (append-nil text)); entries = ([], sym (append-nil rows)); packed = all }
-
 -- directories, when a text and its entries go on
 module _ (text next : List ℕ) (rows after : List Packed) (goes : GoesOn text next rows after) (all : All (IsPacked text) rows) where
   IsHead-more : (h : Head) → IsHead text rows h → IsHead next after h
@@ -114,9 +103,26 @@ module _ (text next : List ℕ) (rows after : List Packed) (entries : List Entry
       sym (ap (take count) (drop-map (entry_in next) first after) ∙ take-map (entry_in next) count (drop first after)) ∙ ap (λ es. take count (drop first es)) is
       ∙ ap (take count) (drop_at (entries_in text rows) entries first (omega (arith, f, length-map rows (entry_in text)))) ∙ take_all count entries (omega (arith, c))
 
--- a directory whose path, link and what is kept behind it were put behind the text of its entries
-module _ (text mid next : List ℕ) (rows after : List Packed) (h : Head) (dir : Directory) (kept link : List ℕ) (is : entries_in mid after ≡ entries_in text rows ++ dir.entries)
-    (more : (bytes : List ℕ) × (next ≡ mid ++ bytes)) (within : AreKept next (h.at + length kept + length link) h.extras) (first : h.first ≡ length rows) (count : h.count ≡ length dir.entries)
+-- a path, a link and what is kept behind them, when their text goes on
+module _ (mid next : List ℕ) (at path link : ℕ) (extras : Extras) (more : (bytes : List ℕ) × (next ≡ mid ++ bytes)) (within : AreKept mid (at + path + link) extras) where
+  pub within-goes_on : AreKept next (at + path + link) extras
+  within-goes_on = subst (λ t. AreKept t (at + path + link) extras) (sym more.1) (AreKept-more mid more.0 (at + path + link) extras within)
+
+  pub path-goes_on : bytes_at next at path ≡ bytes_at mid at path
+  path-goes_on = ap (λ t. bytes_at t at path) more.1 ∙ part-more mid more.0 at path (omega (arith, within))
+
+  pub link-goes_on : bytes_at next (at + path) link ≡ bytes_at mid (at + path) link
+  link-goes_on = ap (λ t. bytes_at t (at + path) link) more.1 ∙ part-more mid more.0 (at + path) link (omega (arith, within))
+
+  pub xattrs-goes_on : kept_xattrs next (at + path + link) extras ≡ kept_xattrs mid (at + path + link) extras
+  xattrs-goes_on = ap (λ t. kept_xattrs t (at + path + link) extras) more.1 ∙ kept_xattrs-more mid more.0 (at + path + link) extras within
+
+  pub acl-goes_on : kept_acl next (at + path + link) extras ≡ kept_acl mid (at + path + link) extras
+  acl-goes_on = ap (λ t. kept_acl t (at + path + link) extras) more.1 ∙ kept_acl-more mid more.0 (at + path + link) extras within
+
+-- a directory whose path, link and what is kept behind it stand in the text of its entries
+module _ (mid next : List ℕ) (rows after : List Packed) (h : Head) (dir : Directory) (kept link : List ℕ) (is : entries_in next after ≡ entries_in mid rows ++ dir.entries)
+    (within : AreKept next (h.at + length kept + length link) h.extras) (first : h.first ≡ length rows) (count : h.count ≡ length dir.entries)
     (path : h.path ≡ length kept) (target : h.link ≡ length link) (of : kept ≡ kept_text dir.path) (put : bytes_at next h.at (length kept) ≡ kept) (named : list_all is_name dir.path ≡ true) where
   kept_there : path_in next h ≡ kept_text dir.path
   kept_there = ap (bytes_at next h.at) path ∙ put ∙ of
@@ -133,18 +139,15 @@ module _ (text mid next : List ℕ) (rows after : List Packed) (h : Head) (dir :
     path = subst IsText (sym kept_there) (IsText-kept_text dir.path named);
     depth = depth ∙ ap length (sym names_there);
     last = λ some. last (omega (arith, some, path, ap length of)) ∙ ap (λ names'. length (kept_text (parent_path names'))) (sym names_there);
-    entries = omega (arith, first, count, length-last text mid rows after dir.entries is);
+    entries = omega (arith, first, count, length-last mid next rows after dir.entries is);
   }
 
   pub directory_in-put : h.meta ≡ dir.rec.meta → link ≡ dir.rec.link → bytes_at next (h.at + length kept) (length link) ≡ link
       → kept_xattrs next (h.at + length kept + length link) h.extras ≡ dir.rec.xattrs → kept_acl next (h.at + length kept + length link) h.extras ≡ dir.rec.acl
-      → All (IsPacked mid) after → directory_in next after h ≡ dir
-  directory_in-put meta l there own_xattrs own_acl packed =
-      let own : List Packed = take h.count (drop h.first after) in
+      → directory_in next after h ≡ dir
+  directory_in-put meta l there own_xattrs own_acl =
       let link_there : bytes_at next (h.at + h.path) h.link ≡ dir.rec.link = ap (λ n. bytes_at next (h.at + n) h.link) path ∙ ap (bytes_at next (h.at + length kept)) target ∙ there ∙ l in
       let xattrs_there : kept_xattrs next (h.at + h.path + h.link) h.extras ≡ dir.rec.xattrs = ap (λ n. kept_xattrs next n h.extras) (sym behind_link) ∙ own_xattrs in
       let acl_there : kept_acl next (h.at + h.path + h.link) h.extras ≡ dir.rec.acl = ap (λ n. kept_acl next n h.extras) (sym behind_link) ∙ own_acl in
-      let entries : entries_in next own ≡ dir.entries =
-      entries_in-goes_on mid next own more (All-take (IsPacked mid) h.count (drop h.first after) (All-drop (IsPacked mid) h.first after packed))
-      ∙ entries_in-last text mid rows after dir.entries is h.first h.count first count in
+      let entries : entries_in next (take h.count (drop h.first after)) ≡ dir.entries = entries_in-last mid next rows after dir.entries is h.first h.count first count in
       λ i. record { path = names_there i; rec = record { link = link_there i; xattrs = xattrs_there i; acl = acl_there i; meta = meta i }; entries = entries i }

@@ -1,9 +1,9 @@
 //! Directories and their entries, borrowed from where they are packed.
 
-ghost use Rattle.std.specs.Prelude.{◌≡◌, ◌+◌, ◌<◌, ◌≤◌, nat_lt, length, slice_index_or, All, IsTrue};
+ghost use Rattle.std.specs.Prelude.{◌≡◌, ◌≢◌, ◌+◌, ◌<◌, ◌≤◌, nat_lt, [], length, slice_index_or, All, IsTrue, MatchOption};
 ghost use Rattle.std.specs.List.{list_any};
 ghost use Rattle.gufi_base.specs.Names.{is_name};
-ghost use Rattle.gufi_base.specs.Paths.{base_name, parent_path, stem};
+ghost use Rattle.gufi_base.specs.Paths.{base_name, is_child_of, parent_path, stem};
 ghost use Rattle.gufi_base.specs.PathTexts.{kept_text, names, IsText};
 ghost use Rattle.gufi_base.specs.Extras.{kept_xattrs, kept_acl, AreKept};
 ghost use Rattle.gufi_access.specs.Access.{rights};
@@ -16,7 +16,7 @@ ghost use Rattle.gufi_tree.specs.Tree.{rights_of};
 use crate::heads::HeadSpot;
 use crate::rows::{PackedRowsRef, Spot};
 use gufi_access::Guard;
-use gufi_base::{Extras, Meta, PathRef, RecRef, acl_at, xattrs_at};
+use gufi_base::{Extras, Meta, PathRef, RecRef, acl_at, same_bytes, xattrs_at};
 use std::marker::Model;
 
 /// So many bytes of a text from a place on.
@@ -79,6 +79,20 @@ fn parted_at(kept: &[u8], last: u16) -> (&[u8], &[u8])
     }
     let at = last_name_at(kept, last);
     (&kept[..at], &kept[at..kept.len() - 1])
+}
+
+/// The text above the last name of a path which begins there; the root has none.
+#[inline]
+#[tactic(auto, using(crate::proofs::LastNames::front_there, crate::proofs::LastNames::some_name, crate::proofs::LastNames::no_name))]
+fn above_at(kept: &[u8], last: u16) -> Option<&[u8]>
+    requires text { IsText kept.now }
+    requires last { 1 < length kept.now → last ≡ length (kept_text (parent_path (names kept.now))) }
+    ensures { MatchOption result (names kept.now ≡ []) (λ above. (names kept.now ≢ []) × (above.now ≡ kept_text (parent_path (names kept.now)))) }
+{
+    if kept.len() <= 1 {
+        return None;
+    }
+    Some(&kept[..last_name_at(kept, last)])
 }
 
 /// An entry whose parts stand elsewhere.
@@ -259,6 +273,28 @@ impl<'a> DirRef<'a> {
         let spot = self.spot;
         let kept = bytes_at(self.text, spot.at as usize, spot.path as usize);
         parted_at(kept, spot.last)
+    }
+
+    /// The kept text of the directory that it lies in; the root lies in none. Looks at no byte of its path.
+    #[inline]
+    fn parent_text(&self) -> Option<&'a [u8]>
+        ensures { MatchOption result (self.now.path ≡ []) (λ parent. (self.now.path ≢ []) × (parent.now ≡ kept_text (parent_path self.now.path))) }
+    {
+        let spot = self.spot;
+        let kept = bytes_at(self.text, spot.at as usize, spot.path as usize);
+        above_at(kept, spot.last)
+    }
+
+    /// Whether it lies in another directory, right below it.
+    pub(crate) fn is_child_of(&self, parent: &DirRef<'_>) -> bool
+        ensures { result ≡ is_child_of parent.now.path self.now.path }
+    {
+        // A path's own text tells that its names are names.
+        let _path = self.path().text();
+        match self.parent_text() {
+            None => false,
+            Some(above) => same_bytes(above, parent.path().text()),
+        }
     }
 
     #[inline]

@@ -155,7 +155,8 @@ fn last_at(path: &PathRef<'_>) -> usize
     }
 }
 
-/// Packs a directory's entries behind others, and puts its path and its record's bytes behind the text.
+/// Puts a directory's path and its record's bytes behind the text, and packs its entries behind others: so its last name stands beside
+/// theirs, and a look at all of them is one at memory that lies together.
 fn pack_directory(
     text: &mut Vec<u8>,
     rows: &mut PackedRows,
@@ -170,13 +171,13 @@ fn pack_directory(
 {
     let first = u32_of(rows.len())?;
     let count = u32_of(entries.len())?;
-    push_entries(text, rows, entries)?;
     let kept = path.text();
     let length = u16_of(kept.len())?;
     let link = u16_of(rec.link().len())?;
     let depth = u16_of(path.depth())?;
     let last = u16_of(last_at(path))?;
     let (at, extras) = put_bytes(text, kept, rec)?;
+    push_entries(text, rows, entries)?;
     let meta = *rec.meta();
     Ok(Head {
         meta,

@@ -20,12 +20,13 @@ fn parent_below(dirs: &Dirs, parents: &[u32], place: usize) -> Option<usize>
     requires distinct { IsTrue (are_distinct dirs.now) }
     ensures { IfSome result (IsSoundBelow dirs.now place) }
 {
-    let path = dirs.at(place).path();
-    if !order_of(&dirs.at(place - 1).path(), &path).is_lt() {
+    let dir = dirs.at(place);
+    if !order_of(&dirs.at(place - 1).path(), &dir.path()).is_lt() {
         return None;
     }
-    let parent = near_parent(dirs, parents, &path)?;
-    if has_entry(&dirs.at(parent), path.base_name()) {
+    let parent = near_parent(dirs, parents, &dir)?;
+    let (_, name) = dir.stem_and_base();
+    if has_entry(&dirs.at(parent), name) {
         return None;
     }
     Some(parent)
