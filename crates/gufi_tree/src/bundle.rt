@@ -101,7 +101,9 @@ fn put_bytes(
 {
     let at = u32_of(text.len())?;
     text.extend_from_slice(bytes)?;
-    text.extend_from_slice(rec.link())?;
+    if !rec.link().is_empty() {
+        text.extend_from_slice(rec.link())?;
+    }
     let extras = put_extras(text, rec.xattrs(), rec.acl())?;
     Ok((at, extras))
 }

@@ -76,13 +76,25 @@ fn front_of(name: &[u8]) -> u64 {
     }
 }
 
-/// The order of two names.
+/// The order of two names, by their fronts where these differ.
+#[inline]
+fn names_cmp(a: &[u8], a_front: u64, b: &[u8], b_front: u64) -> Ordering {
+    if a_front != b_front {
+        return a_front.cmp(&b_front);
+    }
+    a.cmp(b)
+}
+
 #[inline]
 fn named_cmp(a: &Named<'_>, b: &Named<'_>) -> Ordering {
-    if a.front != b.front {
-        return a.front.cmp(&b.front);
-    }
-    a.name.cmp(b.name)
+    names_cmp(a.name, a.front, b.name, b.front)
+}
+
+/// The order of two entries by their names.
+#[inline]
+fn likely_cmp(text: &[u8], a: &PlacedRow, b: &PlacedRow) -> Ordering {
+    let (left, right) = (name_of(text, a), name_of(text, b));
+    names_cmp(left, front_of(left), right, front_of(right))
 }
 
 /// The names of entries in order.
@@ -117,11 +129,12 @@ fn places_of(alloc: Global, text: &[u8], rows: &[PlacedRow]) -> Result<Vec<u32>,
     Ok(places)
 }
 
-/// Moves many entries to where they are likely to go: names are sorted, and each entry is moved once.
+/// Moves entries to where they are likely to go. Of many the names are sorted, and each entry is moved once.
 fn move_likely(alloc: Global, text: &[u8], rows: &mut Vec<PlacedRow>)
     ensures { IsPermutation rows.old.items rows.new.items }
 {
     if rows.len() <= FEW {
+        rows.sort_unstable_by(|a, b| likely_cmp(text, a, b));
         return;
     }
     match places_of(alloc, text, rows.as_slice()) {

@@ -68,10 +68,8 @@ fn tree_parents(alloc: Global, dirs: &Dirs) -> Result<Option<Vec<u32>>, AllocErr
     Ok(Some(parents))
 }
 
-/// Puts directories in path order, and gives the places of their parents where they are a tree.
-///
-/// Directories that come as a walk gives them are moved to where they are likely to stand, and sorted only where that is wrong.
-pub(crate) fn order_tree(alloc: Global, dirs: &mut Dirs) -> Result<Option<Vec<u32>>, AllocError>
+/// Moves directories to where they are likely to stand in path order, and sorts them only where that is wrong.
+fn move_to_order(alloc: Global, dirs: &mut Dirs) -> Result<Option<Vec<u32>>, AllocError>
     requires few { length dirs.old < 2 ^ 32 }
     requires kinds { IsTrue (list_all is_kinded dirs.old) }
     requires distinct { IsTrue (are_distinct dirs.old) }
@@ -85,4 +83,21 @@ pub(crate) fn order_tree(alloc: Global, dirs: &mut Dirs) -> Result<Option<Vec<u3
     }
     dirs.sort();
     tree_parents(alloc, dirs)
+}
+
+/// Puts directories in path order, and gives the places of their parents where they are a tree.
+///
+/// Directories that stand so are left where they are; others are seen to be none at the first that stands too low.
+pub(crate) fn order_tree(alloc: Global, dirs: &mut Dirs) -> Result<Option<Vec<u32>>, AllocError>
+    requires few { length dirs.old < 2 ^ 32 }
+    requires kinds { IsTrue (list_all is_kinded dirs.old) }
+    requires distinct { IsTrue (are_distinct dirs.old) }
+    ensures permutation { IsPermutation dirs.old dirs.new }
+    ensures tree { IfOk result (λ found. IfSome found (λ parents. IsTreeWith dirs.new parents.items)) }
+{
+    let found = tree_parents(alloc, dirs)?;
+    if found.is_some() {
+        return Ok(found);
+    }
+    move_to_order(alloc, dirs)
 }

@@ -3,7 +3,7 @@ use Rattle.std.proofs.lemmas.List.Sorted.{IsPermutation-trans, length_permutatio
 use Rattle.gufi_base.specs.Basics.{ascends}
 use Rattle.gufi_tree.specs.Tree.{Directory, entry_cmp, is_kinded}
 use Rattle.gufi_tree.proofs.Placed.{list_all-IsPermutation}
-use Rattle.gufi_tree.proofs.shape.order_tree.Goals as goal
+use Rattle.gufi_tree.proofs.shape.move_to_order.Goals as goal
 
 pub tree_parents-requires-clause-few : goal.tree_parents-requires-clause-few
 tree_parents-requires-clause-few c = let n = length_permutation _ _ c.order_likely.ensures in let few = c.requires.few in omega arith
