@@ -119,7 +119,8 @@ impl<P: Pred, Y: Yield, S: Skip> Walk<'_, P, Y, S> {
         u64::from(self.dirs_below(id)) <= self.grain || self.passes_below(id)
     }
 
-    /// How many directories stand from a task's first to its last, those that may not be listed among them. It looks at no sum.
+    /// How many directories stand from a task's first to its last, those that may not be listed among them. It looks at a sum only
+    /// where the question asks for sums.
     fn reach(&self, id: DirId) -> u32
         requires { id.0 < length self.now.snap.now.tree }
     {
