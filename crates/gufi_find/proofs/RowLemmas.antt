@@ -1,5 +1,5 @@
 -- The truth of expressions at rows, in borrowed parts too.
-use Rattle.std.proofs.Common.{◌≡◌, ◌∙◌, ℕ, ◌≤◌, ◌++◌, Bool, true, false, refl, sym, ap, subst, arith}
+use Rattle.std.proofs.Common.{◌≡◌, ◌∙◌, ℕ, ◌≤◌, List, ◌++◌, Bool, true, false, refl, sym, ap, subst, arith}
 use Rattle.std.specs.Prelude.{Option, Some, None, ◌==◌, ◌&&◌, nat_le, is_none}
 use Rattle.std.proofs.lemmas.Bool.{false≢true, and_parts, eqb-true, leb-true, le-leb}
 use Rattle.gufi_base.specs.declared.record.Row.{Row}
@@ -9,9 +9,11 @@ use Rattle.gufi_base.specs.Paths.{base_name}
 use Rattle.gufi_base.proofs.CutParts.{path_text-parts}
 use Rattle.gufi_formula.specs.Formulas.{Formula, holds, only_test, test}
 use Rattle.gufi_find.specs.declared.test.Test.{Test}
-use Rattle.gufi_find.specs.declared.test.Test.TheVariants.{Always}
+use Rattle.gufi_find.specs.declared.test.Test.TheVariants.{Always, NameMatches}
+use Rattle.gufi_glob.specs.Parts.{Part}
+use Rattle.gufi_glob.specs.Patterns.{matches}
 use Rattle.gufi_find.specs.Tests.{is_always, is_true, test_holds}
-use Rattle.gufi_find.specs.Expressions.{Find, find_holds, is_at_most, is_wordless, has_no_words}
+use Rattle.gufi_find.specs.Expressions.{Find, find_holds, is_at_most, is_wordless, has_no_words, last_byte}
 
 pub truth_of_parts : (f : Formula Test) (ref : RowRef) (row : Row) → Stands ref row
     → holds (λ t. is_true t (ref.stem.now ++ ref.base.now) ref.base.now ref.meta.now) f ≡ holds (λ t. test_holds t row) f
@@ -27,6 +29,14 @@ pub truth_of_one : (f : Formula Test) (t : Test) (ref : RowRef) (row : Row) → 
     → is_true t (ref.stem.now ++ ref.base.now) ref.base.now ref.meta.now ≡ holds (λ t. test_holds t row) f
 truth_of_one f t ref row e stands =
     truth_alone f t (λ t. is_true t (ref.stem.now ++ ref.base.now) ref.base.now ref.meta.now) e ∙ truth_of_parts f ref row stands
+
+-- ---- the last byte of a name
+
+pub ends_with_name : (f : Find) (parts : List Part) (b : ℕ)
+    → ((truth : Test → Bool) → truth (NameMatches parts) ≡ false → holds truth f.expr ≡ false)
+    → ((text : List ℕ) → (last_byte text ≡ b → ⊥) → matches parts text ≡ false)
+    → (row : Row) (depth : ℕ) → (last_byte (base_name row.path) ≡ b → ⊥) → find_holds f row depth ≡ false
+ends_with_name f parts b hangs ends row depth apart = rw (hangs (λ t. test_holds t row) (ends (base_name row.path) apart)) refl
 
 -- ---- no words
 

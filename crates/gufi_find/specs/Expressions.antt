@@ -1,5 +1,6 @@
 -- find expressions (XCU find) and their truth at a row.
-use Rattle.std.specs.Prelude.{ℕ, Bool, true, false, ◌==◌, ◌&&◌, nat_le, Option, Some, None, is_none}
+use Rattle.std.specs.Prelude.{◌≡◌, ◌≢◌, ℕ, ◌-◌, List, length, slice_index, Bool, true, false, ◌==◌, ◌&&◌, nat_le, Option, Some, None, is_none, IfSome}
+use Rattle.gufi_base.specs.Paths.{base_name}
 use Rattle.gufi_base.specs.declared.record.Row.{Row}
 use Rattle.gufi_formula.specs.Formulas.{Formula, holds, only_test}
 use Rattle.gufi_find.specs.declared.test.Test.{Test}
@@ -18,6 +19,14 @@ is_at_most (Some most) depth = nat_le depth most
 -- the expression is true and the depth within its bounds
 abbrev pub find_holds : Find → Row → ℕ → Bool
 find_holds f row depth = holds (λ t. test_holds t row) f.expr && nat_le f.least_depth depth && is_at_most f.most_depth depth
+
+-- the last byte of a name, and 0 where it has none
+abbrev pub last_byte : List ℕ → ℕ
+last_byte name = slice_index name (length name - 1)
+
+-- no row meets an expression whose last name ends with another byte than this one, where there is one
+abbrev pub EndsWith : Find → Option ℕ → Type 0
+EndsWith f last = IfSome last (λ b. (row : Row) (depth : ℕ) → last_byte (base_name row.path) ≢ b → find_holds f row depth ≡ false)
 
 -- an expression of no words
 abbrev pub is_wordless : Option Test → Bool

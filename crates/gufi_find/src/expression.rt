@@ -4,7 +4,7 @@ ghost use Rattle.gufi_base.specs.declared.record.Row.{Row};
 ghost use Rattle.gufi_base.specs.Rows.{Stands, StandsForSome};
 ghost use Rattle.gufi_formula.specs.Formulas.{holds};
 ghost use Rattle.gufi_find.specs.Tests.{test_holds};
-ghost use Rattle.gufi_find.specs.Expressions.{find_holds, has_no_words, is_at_most};
+ghost use Rattle.gufi_find.specs.Expressions.{find_holds, has_no_words, is_at_most, last_byte, EndsWith};
 
 use crate::test::Test;
 use gufi_base::{Memory, Pred, RowRef, Tester};
@@ -113,6 +113,8 @@ impl FindExpr {
 #[derive(Drop)]
 pub struct FindQuestion<'e> {
     expression: &'e FindExpr,
+    /// The byte with which the last name ends of each row that meets it, where one is told.
+    last: Option<u8>,
 }
 
 impl<'e> Model for FindQuestion<'e> {
@@ -124,23 +126,59 @@ impl<'e> Model for FindQuestion<'e> {
 
     ghost coded = { Prim.hlevel (codes, formula_coded) };
 
+    ghost use Rattle.gufi_find.specs.Expressions.{EndsWith};
+
     ghost view = { λ q. q.expression.now };
+
+    ghost invariant = { λ q. EndsWith q.expression.now q.last };
 }
 
 impl FindExpr {
+    /// The byte with which the last name ends of each row that meets it, where its first test tells one.
+    #[tactic(auto, using(crate::proofs::RowLemmas::ends_with_name))]
+    fn last_byte(&self) -> Option<u8>
+        ensures { EndsWith self.now result }
+    {
+        match self.formula.hanging_test() {
+            Some(Test::NameMatches(pattern)) => pattern.last_byte(),
+            _ => None,
+        }
+    }
+
     /// The question that it is to rows.
     pub fn question(&self) -> FindQuestion<'_>
         ensures { result ≡ self.now }
     {
-        FindQuestion { expression: self }
+        let last = self.last_byte();
+        FindQuestion {
+            expression: self,
+            last,
+        }
+    }
+}
+
+/// The last byte, or 0 where there is none.
+#[inline(always)]
+fn last_byte_of(bytes: &[u8]) -> u8
+    ensures { result ≡ last_byte bytes.now }
+{
+    match bytes {
+        [.., last] => *last,
+        [] => 0,
     }
 }
 
 impl<'e> Tester for FindQuestion<'e> {
     ghost meets = { λ q row depth. find_holds q row depth };
 
+    /// Most rows of a search by names are refused by the last byte of theirs, before anything else is looked at.
     #[inline(always)]
     fn test(&mut self, _alloc: Global, row: RowRef<'_>, depth: u32) -> Result<bool, Memory> {
+        if let Some(last) = self.last {
+            if last_byte_of(row.base) != last {
+                return Ok(false);
+            }
+        }
         Ok(self.expression.sat(row, depth))
     }
 }
@@ -153,6 +191,7 @@ impl<'e> Pred for FindQuestion<'e> {
     fn tester(&self, _alloc: Global) -> Result<FindQuestion<'e>, Memory> {
         Ok(FindQuestion {
             expression: self.expression,
+            last: self.last,
         })
     }
 }

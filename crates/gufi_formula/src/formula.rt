@@ -118,8 +118,8 @@ impl<T: Drop> Formula<T> {
 }
 
 impl<T> Formula<T> {
-    ghost use Rattle.std.specs.Prelude.{◌≡◌, true, false, Some, None, MatchOption};
-    ghost use Rattle.gufi_formula.specs.Formulas.{holds, is_positive, only_test};
+    ghost use Rattle.std.specs.Prelude.{◌≡◌, Bool, true, false, Some, None, MatchOption};
+    ghost use Rattle.gufi_formula.specs.Formulas.{hangs_on_first, holds, is_positive, only_test};
 
     /// Its test, where it is no more than one.
     #[tactic(auto, using(crate::proofs::Running::kept_alone, crate::proofs::Running::kept_more))]
@@ -139,6 +139,14 @@ impl<T> Formula<T> {
         ensures { result ≡ is_positive self.now }
     {
         has_no_inversion(self.steps.as_slice())
+    }
+
+    /// Its first test, where it is false wherever that is: as for one test alone, or the first of an "and".
+    #[tactic(auto, using(crate::proofs::Running::hung))]
+    pub fn hanging_test(&self) -> Option<&T>
+        ensures { MatchOption result (hangs_on_first self.now ≡ false) (λ test. (truth : T → Bool) → truth test.now ≡ false → holds truth self.now ≡ false) }
+    {
+        if self.hangs { Some(&self.first) } else { None }
     }
 
     /// Whether its first test tells that it is false, which that of an "and" may. Looks at no other.

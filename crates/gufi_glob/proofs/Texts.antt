@@ -2,7 +2,7 @@
 use Rattle.std.proofs.Common.{◌≡◌, ℕ, zero, suc, ◌+◌, ◌-◌, ◌<◌, ◌≤◌, Bool, true, false, List, [], ◌∷◌, ◌++◌, length, take, drop, refl, sym, ap, ◌∙◌, inl, inr, arith, eqb, leb, get_or, get_or-drop, get_or-append-add, length-append, length-drop}
 use Rattle.std.specs.Prelude.{◌||◌, ◌&&◌, Ok, map, bytes_eq, not}
 use Rattle.std.specs.List.{list_all}
-use Rattle.std.proofs.lemmas.Bool.{cases_Bool, cases_lt, false≢true}
+use Rattle.std.proofs.lemmas.Bool.{cases_Bool, cases_lt, false≢true, ne_eqb}
 use Rattle.std.proofs.lemmas.Bool.Decides.{nat_tests}
 use Rattle.std.proofs.lemmas.Slice.Eq.{bytes_eq-Decides}
 use Rattle.gufi_glob.specs.Parts.{only, any_text}
@@ -147,6 +147,18 @@ end_of_same bytes text apart =
           absurd (false≢true (sym apart ∙ ap (bytes_eq bytes) (drop_none (length text) (length bytes) text (omega arith)) ∙ same))
       | inr other ↦ other
     ]
+
+-- a text with another last byte doesn't end so
+ends_apart : (text tail : List ℕ) → 1 ≤ length tail → (get_or text (length text - 1) 0 ≡ get_or tail (length tail - 1) 0 → ⊥) → ends_with text tail ≡ false
+ends_apart [] tail some apart = ap (bytes_eq tail) (drop_of_none (0 - length tail)) ∙ unlike tail [] (λ e. omega arith)
+ends_apart (x ∷ rest) tail some apart =
+    other_end [] (x ∷ rest) tail some (omega arith) (ne_eqb _ _ (λ e. apart (sym e)))
+
+pub plain_ends : (bytes text : List ℕ) → 1 ≤ length bytes → (get_or text (length text - 1) 0 ≡ get_or bytes (length bytes - 1) 0 → ⊥) → matches (map only bytes) text ≡ false
+plain_ends bytes text some apart = matches_plain bytes text ∙ end_of_same bytes text (ends_apart text bytes some apart)
+
+pub tail_ends : (tail text : List ℕ) → 1 ≤ length tail → (get_or text (length text - 1) 0 ≡ get_or tail (length tail - 1) 0 → ⊥) → matches (any_text ∷ map only tail) text ≡ false
+tail_ends tail text some apart = matches_tail tail text ∙ ends_apart text tail some apart
 
 -- ---- reading
 

@@ -1,5 +1,6 @@
 //! Patterns.
-ghost use Rattle.std.specs.Prelude.{◌≡◌, ◌++◌, ◌&&◌, ℕ, List, false, bytes_eq};
+ghost use Rattle.std.specs.Prelude.{◌≡◌, ◌≢◌, ◌-◌, ◌++◌, ◌∷◌, ◌&&◌, ℕ, List, length, map, slice_index, false, bytes_eq, IfSome};
+ghost use Rattle.gufi_glob.specs.Parts.{any_text, only};
 ghost use Rattle.gufi_base.specs.Basics.{GivesUnless};
 ghost use Rattle.gufi_glob.specs.Patterns.{matches, read_pattern};
 ghost use Rattle.gufi_glob.specs.Plain.{ends_with};
@@ -44,6 +45,18 @@ fn are_same(left: &[u8], front: &[u8], right: &[u8], back: &[u8]) -> bool
     ensures { result ≡ bytes_eq right.now back.now && bytes_eq left.now front.now }
 {
     right == back && left == front
+}
+
+/// The last of some bytes, and nothing of none.
+#[tactic(auto, using(crate::proofs::Texts::plain_ends, crate::proofs::Texts::tail_ends))]
+fn last_of(bytes: &[u8]) -> Option<u8>
+    ensures plain { IfSome result (λ last. (text : List ℕ) → slice_index text (length text - 1) ≢ last → matches (map only bytes.now) text ≡ false) }
+    ensures tail { IfSome result (λ last. (text : List ℕ) → slice_index text (length text - 1) ≢ last → matches (any_text ∷ map only bytes.now) text ≡ false) }
+{
+    match bytes {
+        [.., last] => Some(*last),
+        [] => None,
+    }
 }
 
 /// Whether texts that end with `back` can end with these bytes, as far as the last byte tells.
@@ -108,6 +121,17 @@ impl Glob {
                 let form = Form::Parts(read_parts(alloc, bytes)?);
                 Ok(Glob { form })
             }
+        }
+    }
+
+    /// The byte with which each text ends that it matches, where one is told; a text of no bytes ends as with a 0.
+    pub fn last_byte(&self) -> Option<u8>
+        ensures { IfSome result (λ last. (text : List ℕ) → slice_index text (length text - 1) ≢ last → matches self.now text ≡ false) }
+    {
+        match &self.form {
+            Form::Plain(bytes) => last_of(bytes.as_slice()),
+            Form::Tail(tail) => last_of(tail.as_slice()),
+            Form::Parts(_) => None,
         }
     }
 
