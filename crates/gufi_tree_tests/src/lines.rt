@@ -1,6 +1,7 @@
-//! Records and lines that the tests of trees share.
-use gufi_access::Guard;
+//! Records, lines, trees and principals that the tests of trees share.
+use gufi_access::{GroupList, Guard, Principal};
 use gufi_base::{Bytes, Kind, Line, Meta, Path, Rec, Row};
+use gufi_tree::{Tree, build};
 use std::alloc::Global;
 use std::test::Fail;
 
@@ -62,4 +63,27 @@ pub(crate) fn line(
     mode: u16,
 ) -> Result<Line, Fail> {
     line_of(alloc, number, path, meta(kind, guard(101, 100, mode)))
+}
+
+/// The tree of a few lines.
+pub(crate) fn grown(alloc: Global, lines: Vec<Line>) -> Result<Tree, Fail> {
+    if lines.len() > 9 {
+        return Err(Fail::new("there are more than nine lines"));
+    }
+    Ok(build(alloc, lines)?)
+}
+
+/// The tree of a few rows, each a path, its kind and its mode.
+pub(crate) fn tree_of(alloc: Global, rows: &[(&[u8], Kind, u16)]) -> Result<Tree, Fail> {
+    let mut lines = Vec::new(alloc);
+    for (path, kind, mode) in rows {
+        lines.push(line(alloc, 1, path, *kind, *mode)?)?;
+    }
+    grown(alloc, lines)
+}
+
+/// A principal without groups.
+pub(crate) fn principal(alloc: Global, uid: u32) -> Principal {
+    let groups = GroupList::of(Vec::new(alloc));
+    Principal { uid, groups }
 }

@@ -52,41 +52,49 @@ fn printed(alloc: Global, mut cursor: Cursor<'_>, count: u32) -> Result<Vec<u8>,
     Ok(text)
 }
 
+/// The longest name that there can be, and the longest target, names of extended attributes and access control list.
+const NAME: [u8; 255] = [b'n'; 255];
+
+const TARGET: [u8; 4096] = [b't'; 4096];
+
+const NAMES: [u8; 4096] = [b'x'; 4096];
+
+const LIST: [u8; 216] = [b'r'; 216];
+
+fn longest_rows(alloc: Global) -> Result<Vec<Row>, Fail> {
+    let mut rows = Vec::new(alloc);
+    rows.push(link_row(alloc, &NAME, b"", b"user.a,user.b", b"")?)?;
+    rows.push(link_row(alloc, b"/o", b"", b"", b"rights")?)?;
+    rows.push(link_row(alloc, b"/p", &TARGET, &NAMES, &LIST)?)?;
+    Ok(rows)
+}
+
+/// These rows as they are printed.
+fn longest_lines(alloc: Global) -> Result<Vec<u8>, Fail> {
+    let mut text = Vec::new(alloc);
+    for part in [
+        b"/ ".as_slice(),
+        &NAME,
+        b"  user.a,user.b \n/ o   rights\n/ p ",
+        &TARGET,
+        b" ",
+        &NAMES,
+        b" ",
+        &LIST,
+        b"\n",
+    ] {
+        text.extend_from_slice(part)?;
+    }
+    Ok(text)
+}
+
 #[test]
 fn the_longest_names_and_link_come_back(rt: HostRuntime) -> Result<(), Fail> {
     let alloc = rt.alloc();
-    let name = [b'n'; 255];
-    let target = [b't'; 4096];
-    let names = [b'x'; 4096];
-    let list = [b'r'; 216];
-    let rows = vec![in alloc;
-        link_row(alloc, name.as_slice(), b"", b"user.a,user.b", b"")?,
-        link_row(alloc, b"/o", b"", b"", b"rights")?,
-        link_row(
-            alloc,
-            b"/p",
-            target.as_slice(),
-            names.as_slice(),
-            list.as_slice()
-        )?,
-    ]?;
+    let rows = longest_rows(alloc)?;
     let page = pack(alloc, rows.as_slice())?;
-    let mut expected = Vec::new(alloc);
-    for part in [
-        b"/ ".as_slice(),
-        name.as_slice(),
-        b"  user.a,user.b \n/ o   rights\n/ p ",
-        target.as_slice(),
-        b" ",
-        names.as_slice(),
-        b" ",
-        list.as_slice(),
-        b"\n",
-    ] {
-        expected.extend_from_slice(part)?;
-    }
     let text = printed(alloc, page.rows(), page.len())?;
-    assert_eq!(rt; text.as_slice(), expected.as_slice());
+    assert_eq!(rt; text.as_slice(), longest_lines(alloc)?.as_slice());
     let mut cursor = page.rows();
     for _ in &rows {
         assert_eq!(rt; cursor.next().map(|row| *row.meta), Some(link_meta()));

@@ -1,10 +1,10 @@
 ghost use Rattle.std.specs.Prelude.{◌≡◌, ◌<◌};
 
-use crate::lines::{guard, line_of, meta};
+use crate::lines::{grown, guard, line_of, meta};
 use gufi_base::{Always, AsItIs, Kind, Line, Memory, Meta, Steps};
 use gufi_snap::Snapshot;
 use gufi_sums::Summary;
-use gufi_tree::{DirId, Tree, build};
+use gufi_tree::{DirId, Tree};
 use std::alloc::Global;
 use std::marker::Brand;
 use std::sync::ledger::{Blank, Ledger};
@@ -40,14 +40,18 @@ fn scanned<L: Ledger>(
 }
 
 fn tree(alloc: Global) -> Result<Tree, Fail> {
-    let lines = vec![in alloc;
-        line(alloc, 1, b"/", Kind::Dir)?,
-        line(alloc, 2, b"/d", Kind::Dir)?,
-        line(alloc, 3, b"/d/e", Kind::Dir)?,
-        line(alloc, 4, b"/d/e/l", Kind::Link)?,
-        line(alloc, 5, b"/d/f", Kind::File)?,
-    ]?;
-    Ok(build(alloc, lines)?)
+    let rows = [
+        (1u32, b"/".as_slice(), Kind::Dir),
+        (2, b"/d", Kind::Dir),
+        (3, b"/d/e", Kind::Dir),
+        (4, b"/d/e/l", Kind::Link),
+        (5, b"/d/f", Kind::File),
+    ];
+    let mut lines = Vec::new(alloc);
+    for (number, path, kind) in rows {
+        lines.push(line(alloc, number, path, kind)?)?;
+    }
+    grown(alloc, lines)
 }
 
 fn snapshot(alloc: Global, limit: u64) -> Result<Snapshot, Fail> {

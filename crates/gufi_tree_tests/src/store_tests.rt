@@ -2,11 +2,11 @@
 ghost use Rattle.std.specs.Prelude.{◌≡◌, ◌<◌, ◌^◌, length, IfOk};
 ghost use Rattle.gufi_tree.specs.Tree.{own_rows};
 
-use crate::lines::line;
+use crate::lines::tree_of;
 use gufi_base::{Always, AsItIs, Kind, Memory, Row, Steps, Yield};
 use gufi_rows::{PathList, RowList};
 use gufi_store::DirStore;
-use gufi_tree::{DirId, DirRef, Tree, build};
+use gufi_tree::{DirId, DirRef, Tree};
 use std::alloc::Global;
 use std::marker::Brand;
 use std::sync::ledger::{Blank, Ledger};
@@ -44,13 +44,15 @@ fn scan_alone<Y: Yield>(alloc: Global, dir: DirRef<'_>) -> Result<Y, Memory>
 fn two_directories(alloc: Global) -> Result<Tree, Fail>
     ensures { IfOk result (λ tree. length tree ≡ 2) }
 {
-    let lines = vec![in alloc;
-        line(alloc, 1, b"/", Kind::Dir, 0o755)?,
-        line(alloc, 2, b"/d", Kind::Dir, 0o755)?,
-        line(alloc, 3, b"/d/b", Kind::File, 0o755)?,
-        line(alloc, 4, b"/d/a", Kind::Link, 0o755)?,
-    ]?;
-    let tree = build(alloc, lines)?;
+    let tree = tree_of(
+        alloc,
+        &[
+            (b"/".as_slice(), Kind::Dir, 0o755),
+            (b"/d", Kind::Dir, 0o755),
+            (b"/d/b", Kind::File, 0o755),
+            (b"/d/a", Kind::Link, 0o755),
+        ],
+    )?;
     if tree.dirs() != 2 {
         return Err(Fail::new("there are not two directories"));
     }

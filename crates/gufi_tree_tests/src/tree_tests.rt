@@ -1,36 +1,52 @@
-use crate::lines::line;
-use gufi_access::{Class, GroupList, Principal};
+use crate::lines::{line, principal, tree_of};
+use gufi_access::Class;
 use gufi_base::{Kind, Path};
-use gufi_tree::{DirId, Resolved, TreeFault, build};
+use gufi_tree::{DirId, Resolved, Tree, TreeFault, build};
 use std::alloc::Global;
 use std::test::Fail;
+
+fn four_rows(alloc: Global) -> Result<Tree, Fail> {
+    tree_of(
+        alloc,
+        &[
+            (b"/".as_slice(), Kind::Dir, 0o755),
+            (b"/p", Kind::Dir, 0o711),
+            (b"/p/q", Kind::Dir, 0o755),
+            (b"/p/q/y", Kind::File, 0o644),
+        ],
+    )
+}
+
+/// Where a path leads the user 102.
+fn led(alloc: Global, tree: &Tree, path: &[u8]) -> Result<Resolved, Fail> {
+    let who = principal(alloc, 102);
+    let path = Path::read(alloc, path)?;
+    Ok(tree.resolve(&who, &path))
+}
 
 #[test]
 fn paths_lead_where_search_is_granted(rt: HostRuntime) -> Result<(), Fail> {
     let alloc = rt.alloc();
-    let lines = vec![in alloc;
-        line(alloc, 1, b"/", Kind::Dir, 0o755)?,
-        line(alloc, 2, b"/p", Kind::Dir, 0o711)?,
-        line(alloc, 3, b"/p/q", Kind::Dir, 0o755)?,
-        line(alloc, 4, b"/p/q/y", Kind::File, 0o644)?,
-    ]?;
-    let tree = build(alloc, lines)?;
-    let who = Principal {
-        uid: 102,
-        groups: GroupList::of(Vec::new(alloc)),
-    };
+    let tree = four_rows(alloc)?;
     let class = Class::Other;
     let rows = [
         (b"/".as_slice(), Resolved::Found(DirId(0))),
-        (b"/p/q".as_slice(), Resolved::Found(DirId(2))),
-        (b"/p".as_slice(), Resolved::Denied { depth: 1, class }),
-        (b"/p/zz".as_slice(), Resolved::NoSuch { depth: 2 }),
-        (b"/p/q/y".as_slice(), Resolved::NotDir { depth: 3 }),
-        (b"/p/q/y/z".as_slice(), Resolved::NotDir { depth: 3 }),
+        (b"/p/q", Resolved::Found(DirId(2))),
+        (b"/p", Resolved::Denied { depth: 1, class }),
+        (b"/p/zz", Resolved::NoSuch { depth: 2 }),
+        (b"/p/q/y", Resolved::NotDir { depth: 3 }),
+        (b"/p/q/y/z", Resolved::NotDir { depth: 3 }),
     ];
     for (path, resolved) in rows {
-        assert_eq!(rt; tree.resolve(&who, &Path::read(alloc, path)?), resolved);
+        assert_eq!(rt; led(alloc, &tree, path)?, resolved);
     }
+    Ok(())
+}
+
+#[test]
+fn directories_have_their_paths_and_entries(rt: HostRuntime) -> Result<(), Fail> {
+    let alloc = rt.alloc();
+    let tree = four_rows(alloc)?;
     assert_eq!(rt; tree.dirs(), 3);
     assert_eq!(rt;
         tree.path_of(alloc, DirId(2))?.printed(),
@@ -42,6 +58,17 @@ fn paths_lead_where_search_is_granted(rt: HostRuntime) -> Result<(), Fail> {
         assert_eq!(rt; entries.at(place).name(), b"y".as_slice());
     }
     Ok(())
+}
+
+/// The fault of three directories on the lines 1 to 3.
+fn fault_of(alloc: Global, paths: [&[u8]; 3]) -> Result<Option<TreeFault>, Fail> {
+    let [first, second, third] = paths;
+    let lines = vec![in alloc;
+        line(alloc, 1, first, Kind::Dir, 0o755)?,
+        line(alloc, 2, second, Kind::Dir, 0o755)?,
+        line(alloc, 3, third, Kind::Dir, 0o755)?,
+    ]?;
+    Ok(build(alloc, lines).err())
 }
 
 #[test]
@@ -59,12 +86,7 @@ fn the_least_faulty_line_is_named(rt: HostRuntime) -> Result<(), Fail> {
         ([b"/c".as_slice(), b"/a", b"/b"], TreeFault::NoRoot),
     ];
     for (paths, fault) in rows {
-        let lines = vec![in alloc;
-            line(alloc, 1, paths[0], Kind::Dir, 0o755)?,
-            line(alloc, 2, paths[1], Kind::Dir, 0o755)?,
-            line(alloc, 3, paths[2], Kind::Dir, 0o755)?,
-        ]?;
-        assert_eq!(rt; build(alloc, lines).err(), Some(fault));
+        assert_eq!(rt; fault_of(alloc, paths)?, Some(fault));
     }
     Ok(())
 }

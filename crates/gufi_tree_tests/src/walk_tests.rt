@@ -1,30 +1,69 @@
-use crate::lines::line;
-use gufi_access::{Class, GroupList, Principal};
+use crate::lines::{principal, tree_of};
+use gufi_access::Class;
 use gufi_base::{Always, Kind, Path};
 use gufi_io::NoGate;
 use gufi_snap::Snapshot;
 use gufi_sums::NoSkip;
-use gufi_tree::build;
 use gufi_walk::{
     Refusal, Walkers, answer_lines, answer_rows, answer_sum, answer_total, put_refusal,
 };
 use std::alloc::Global;
+use std::sync::Wait;
 use std::test::Fail;
+use std::thread::Threads;
+
+/// What a walk answers: directories and files, lines and rows, and the text of the lines.
+#[derive(Drop)]
+struct Found {
+    sums: (u64, u64),
+    rows: (usize, usize),
+    text: Vec<u8>,
+}
+
+fn walked<R: Threads + Wait + Sync>(
+    alloc: Global,
+    walkers: &Walkers<'_, R, NoGate>,
+    snap: &Snapshot,
+    uid: u32,
+    start: &Path,
+) -> Result<Found, Fail> {
+    let who = principal(alloc, uid);
+    let sum = answer_sum(walkers, alloc, snap, &who, start, &Always, &NoSkip)?;
+    let lines = answer_lines(walkers, alloc, snap, &who, start, &Always, &NoSkip)?;
+    let rows = answer_rows(walkers, alloc, snap, &who, start, &Always, &NoSkip)?;
+    Ok(Found {
+        sums: (sum.dirs, sum.files),
+        rows: (lines.count, rows.len()),
+        text: lines.text,
+    })
+}
+
+/// The directories and files of a total.
+fn totalled(alloc: Global, snap: &Snapshot, uid: u32, start: &Path) -> Result<(u64, u64), Fail> {
+    let sum = answer_total(alloc, snap, &principal(alloc, uid), start)?;
+    Ok((sum.dirs, sum.files))
+}
+
+fn seven_rows(alloc: Global) -> Result<Snapshot, Fail> {
+    let tree = tree_of(
+        alloc,
+        &[
+            (b"/".as_slice(), Kind::Dir, 0o755),
+            (b"/a", Kind::Dir, 0o700),
+            (b"/a/x", Kind::File, 0o644),
+            (b"/p", Kind::Dir, 0o711),
+            (b"/p/q", Kind::Dir, 0o755),
+            (b"/p/q/y", Kind::File, 0o644),
+            (b"/z", Kind::File, 0o600),
+        ],
+    )?;
+    Ok(Snapshot::build_uncounted(alloc, tree, 0)?)
+}
 
 #[test]
 fn rows_come_from_listed_directories(rt: HostRuntime) -> Result<(), Fail> {
     let alloc = rt.alloc();
-    let lines = vec![in alloc;
-        line(alloc, 1, b"/", Kind::Dir, 0o755)?,
-        line(alloc, 2, b"/a", Kind::Dir, 0o700)?,
-        line(alloc, 3, b"/a/x", Kind::File, 0o644)?,
-        line(alloc, 4, b"/p", Kind::Dir, 0o711)?,
-        line(alloc, 5, b"/p/q", Kind::Dir, 0o755)?,
-        line(alloc, 6, b"/p/q/y", Kind::File, 0o644)?,
-        line(alloc, 7, b"/z", Kind::File, 0o600)?,
-    ]?;
-    let tree = build(alloc, lines)?;
-    let snap = Snapshot::build_uncounted(alloc, tree, 0)?;
+    let snap = seven_rows(alloc)?;
     let rolled = snap.with_limit(alloc, 2)?;
     let all = b"/\n/a\n/a/x\n/p\n/p/q\n/p/q/y\n/z\n".as_slice();
     let rows = [
@@ -35,38 +74,54 @@ fn rows_come_from_listed_directories(rt: HostRuntime) -> Result<(), Fail> {
     ];
     let walkers = Walkers::of(&rt, &NoGate, 1);
     for (uid, start, dirs, files, count, text) in rows {
-        let groups = GroupList::of(Vec::new(alloc));
-        let who = Principal { uid, groups };
         let start = Path::read(alloc, start)?;
-        let sum = answer_sum(&walkers, alloc, &snap, &who, &start, &Always, &NoSkip)?;
-        assert_eq!(rt; sum.dirs, dirs);
-        assert_eq!(rt; sum.files, files);
+        let reply = walked(alloc, &walkers, &snap, uid, &start)?;
+        assert_eq!(rt; reply.sums, (dirs, files));
+        assert_eq!(rt; reply.rows, (count, count));
+        assert_eq!(rt; reply.text.as_slice(), text);
         for snap in [&snap, &rolled] {
-            let total = answer_total(alloc, snap, &who, &start)?;
-            assert_eq!(rt; total.dirs, dirs);
-            assert_eq!(rt; total.files, files);
+            assert_eq!(rt; totalled(alloc, snap, uid, &start)?, (dirs, files));
         }
-        let lines = answer_lines(&walkers, alloc, &snap, &who, &start, &Always, &NoSkip)?;
-        assert_eq!(rt; lines.text.as_slice(), text);
-        assert_eq!(rt; lines.count, count);
-        let rows = answer_rows(&walkers, alloc, &snap, &who, &start, &Always, &NoSkip)?;
-        assert_eq!(rt; rows.len(), count);
     }
     Ok(())
+}
+
+fn three_rows(alloc: Global) -> Result<Snapshot, Fail> {
+    let tree = tree_of(
+        alloc,
+        &[
+            (b"/".as_slice(), Kind::Dir, 0o755),
+            (b"/p", Kind::Dir, 0o711),
+            (b"/p/y", Kind::File, 0o644),
+        ],
+    )?;
+    Ok(Snapshot::build_uncounted(alloc, tree, 0)?)
+}
+
+/// The refusals of a walk and of a total.
+fn refused<R: Threads + Wait + Sync>(
+    alloc: Global,
+    walkers: &Walkers<'_, R, NoGate>,
+    snap: &Snapshot,
+    start: &[u8],
+) -> Result<(Option<Refusal>, Option<Refusal>), Fail> {
+    let who = principal(alloc, 102);
+    let start = Path::read(alloc, start)?;
+    let sum = answer_sum(walkers, alloc, snap, &who, &start, &Always, &NoSkip);
+    let total = answer_total(alloc, snap, &who, &start);
+    Ok((sum.err(), total.err()))
+}
+
+fn words_of(alloc: Global, refusal: Refusal) -> Result<Vec<u8>, Fail> {
+    let mut text = Vec::new(alloc);
+    put_refusal(&mut text, refusal)?;
+    Ok(text)
 }
 
 #[test]
 fn a_start_is_refused_as_it_resolves(rt: HostRuntime) -> Result<(), Fail> {
     let alloc = rt.alloc();
-    let lines = vec![in alloc;
-        line(alloc, 1, b"/", Kind::Dir, 0o755)?,
-        line(alloc, 2, b"/p", Kind::Dir, 0o711)?,
-        line(alloc, 3, b"/p/y", Kind::File, 0o644)?,
-    ]?;
-    let tree = build(alloc, lines)?;
-    let snap = Snapshot::build_uncounted(alloc, tree, 0)?;
-    let groups = GroupList::of(Vec::new(alloc));
-    let who = Principal { uid: 102, groups };
+    let snap = three_rows(alloc)?;
     let class = Class::Other;
     let rows = [
         (
@@ -87,14 +142,9 @@ fn a_start_is_refused_as_it_resolves(rt: HostRuntime) -> Result<(), Fail> {
     ];
     let walkers = Walkers::of(&rt, &NoGate, 4);
     for (start, refusal, words) in rows {
-        let start = Path::read(alloc, start)?;
-        let reply = answer_sum(&walkers, alloc, &snap, &who, &start, &Always, &NoSkip);
-        assert_eq!(rt; reply.err(), Some(refusal));
-        let total = answer_total(alloc, &snap, &who, &start);
-        assert_eq!(rt; total.err(), Some(refusal));
-        let mut text = Vec::new(alloc);
-        put_refusal(&mut text, refusal)?;
-        assert_eq!(rt; text.as_slice(), words);
+        let found = refused(alloc, &walkers, &snap, start)?;
+        assert_eq!(rt; found, (Some(refusal), Some(refusal)));
+        assert_eq!(rt; words_of(alloc, refusal)?.as_slice(), words);
     }
     Ok(())
 }

@@ -1,9 +1,9 @@
 //! Many walkers: what a gate is told, and that their rows are those of one thread.
 
-ghost use Rattle.std.specs.Prelude.{◌≡◌, ◌<◌, nat_le};
+ghost use Rattle.std.specs.Prelude.{◌≡◌, ◌<◌, ◌≤◌, nat_le};
 
-use crate::lines::line;
-use gufi_access::{GroupList, Principal};
+use crate::lines::{line, principal, tree_of};
+use gufi_access::Principal;
 use gufi_base::{Always, Kind, Line, Memory, Path, Pred, RowRef, Steps, Tester};
 use gufi_io::{Gate, GateKind, NoGate};
 use gufi_rows::PathList;
@@ -13,15 +13,26 @@ use gufi_tree::build;
 use gufi_walk::{Walkers, answer, answer_alone, answer_lines};
 use std::alloc::Global;
 use std::marker::Brand;
+use std::sync::Wait;
 use std::sync::atomic::{AtomicU64, Ordering};
 use std::sync::ledger::{Blank, Ledger};
 use std::test::Fail;
+use std::thread::Threads;
 
 /// Counts tasks and stores.
 #[derive(Drop)]
 struct Counting {
     tasks: AtomicU64,
     stores: AtomicU64,
+}
+
+impl Counting {
+    fn none() -> Counting {
+        Counting {
+            tasks: AtomicU64::new(0),
+            stores: AtomicU64::new(0),
+        }
+    }
 }
 
 impl Gate for Counting {
@@ -38,33 +49,43 @@ impl Gate for Counting {
     }
 }
 
+/// The directories that so many walkers find from the root, and the tasks and stores of which they tell.
+fn told<R: Threads + Wait + Sync>(
+    rt: &R,
+    alloc: Global,
+    snap: &Snapshot,
+    workers: u32,
+) -> Result<(u64, u64, u64), Fail>
+    requires { (0 < workers) × (workers ≤ 32) }
+{
+    let who = principal(alloc, 102);
+    let start = Path::root(alloc)?;
+    let gate = Counting::none();
+    let sum: Summary = answer(
+        rt, alloc, snap, &who, &start, &Always, &NoSkip, workers, &gate,
+    )?;
+    let tasks = gate.tasks.load(Ordering::SeqCst);
+    let stores = gate.stores.load(Ordering::SeqCst);
+    Ok((sum.dirs, tasks, stores))
+}
+
 #[test]
 fn a_gate_is_told_of_each_directory_of_the_front(rt: HostRuntime) -> Result<(), Fail> {
     let alloc = rt.alloc();
-    let lines = vec![in alloc;
-        line(alloc, 1, b"/", Kind::Dir, 0o755)?,
-        line(alloc, 2, b"/a", Kind::Dir, 0o755)?,
-        line(alloc, 3, b"/a/b", Kind::Dir, 0o755)?,
-    ]?;
-    let tree = build(alloc, lines)?;
+    let tree = tree_of(
+        alloc,
+        &[
+            (b"/".as_slice(), Kind::Dir, 0o755),
+            (b"/a", Kind::Dir, 0o755),
+            (b"/a/b", Kind::Dir, 0o755),
+        ],
+    )?;
     let plain = Snapshot::build_uncounted(alloc, tree, 0)?;
-    let groups = GroupList::of(Vec::new(alloc));
-    let who = Principal { uid: 102, groups };
-    let start = Path::root(alloc)?;
-    for (limit, told) in [(100u64, 1u64), (2, 2), (0, 3)] {
+    for (limit, front) in [(100u64, 1u64), (2, 2), (0, 3)] {
         let snap = plain.with_limit(alloc, limit)?;
         for workers in [1u32, 4, 32] {
-            let gate = Counting {
-                tasks: AtomicU64::new(0),
-                stores: AtomicU64::new(0),
-            };
             assert!(rt; 0 < workers && workers <= 32);
-            let sum: Summary = answer(
-                &rt, alloc, &snap, &who, &start, &Always, &NoSkip, workers, &gate,
-            )?;
-            assert_eq!(rt; sum.dirs, 3);
-            assert_eq!(rt; gate.tasks.load(Ordering::SeqCst), told);
-            assert_eq!(rt; gate.stores.load(Ordering::SeqCst), told);
+            assert_eq!(rt; told(&rt, alloc, &snap, workers)?, (3, front, front));
         }
     }
     Ok(())
@@ -94,22 +115,47 @@ impl Pred for DownTo {
     }
 }
 
+fn seven_rows(alloc: Global) -> Result<Snapshot, Fail> {
+    let tree = tree_of(
+        alloc,
+        &[
+            (b"/".as_slice(), Kind::Dir, 0o755),
+            (b"/a", Kind::Dir, 0o755),
+            (b"/a/b", Kind::Dir, 0o755),
+            (b"/a/b/c", Kind::Dir, 0o755),
+            (b"/a/f", Kind::File, 0o644),
+            (b"/d", Kind::Dir, 0o755),
+            (b"/d/g", Kind::File, 0o644),
+        ],
+    )?;
+    Ok(Snapshot::build_uncounted(alloc, tree, 0)?)
+}
+
+/// The directories and files that so many walkers find down to a depth, and the stores of which they tell.
+fn visited<R: Threads + Wait + Sync>(
+    rt: &R,
+    alloc: Global,
+    snap: &Snapshot,
+    start: &Path,
+    depth: u32,
+    workers: u32,
+) -> Result<(u64, u64, u64), Fail>
+    requires { (0 < workers) × (workers ≤ 32) }
+{
+    let who = principal(alloc, 102);
+    let gate = Counting::none();
+    let question = DownTo { depth };
+    let skip = NoDeeper { than: Some(depth) };
+    let sum: Summary = answer(
+        rt, alloc, snap, &who, start, &question, &skip, workers, &gate,
+    )?;
+    Ok((sum.dirs, sum.files, gate.stores.load(Ordering::SeqCst)))
+}
+
 #[test]
 fn a_walk_visits_no_directory_that_lies_too_deep(rt: HostRuntime) -> Result<(), Fail> {
     let alloc = rt.alloc();
-    let lines = vec![in alloc;
-        line(alloc, 1, b"/", Kind::Dir, 0o755)?,
-        line(alloc, 2, b"/a", Kind::Dir, 0o755)?,
-        line(alloc, 3, b"/a/b", Kind::Dir, 0o755)?,
-        line(alloc, 4, b"/a/b/c", Kind::Dir, 0o755)?,
-        line(alloc, 5, b"/a/f", Kind::File, 0o644)?,
-        line(alloc, 6, b"/d", Kind::Dir, 0o755)?,
-        line(alloc, 7, b"/d/g", Kind::File, 0o644)?,
-    ]?;
-    let tree = build(alloc, lines)?;
-    let snap = Snapshot::build_uncounted(alloc, tree, 0)?;
-    let groups = GroupList::of(Vec::new(alloc));
-    let who = Principal { uid: 102, groups };
+    let snap = seven_rows(alloc)?;
     let rows = [
         (b"/".as_slice(), 0u32, 1u64, 0u64),
         (b"/", 1, 3, 0),
@@ -120,20 +166,9 @@ fn a_walk_visits_no_directory_that_lies_too_deep(rt: HostRuntime) -> Result<(), 
     for (start, depth, dirs, files) in rows {
         let start = Path::read(alloc, start)?;
         for workers in [1u32, 4] {
-            let gate = Counting {
-                tasks: AtomicU64::new(0),
-                stores: AtomicU64::new(0),
-            };
             assert!(rt; 0 < workers && workers <= 32);
-            let than = Some(depth);
-            let skip = NoDeeper { than };
-            let question = DownTo { depth };
-            let sum: Summary = answer(
-                &rt, alloc, &snap, &who, &start, &question, &skip, workers, &gate,
-            )?;
-            assert_eq!(rt; sum.dirs, dirs);
-            assert_eq!(rt; sum.files, files);
-            assert_eq!(rt; gate.stores.load(Ordering::SeqCst), dirs);
+            let found = visited(&rt, alloc, &snap, &start, depth, workers)?;
+            assert_eq!(rt; found, (dirs, files, dirs));
         }
     }
     Ok(())
@@ -203,8 +238,7 @@ fn many_walkers_give_the_rows_of_one_thread(rt: HostRuntime) -> Result<(), Fail>
     assert!(rt; count == 1876);
     let tree = build(alloc, lines)?;
     let snap = Snapshot::build_uncounted(alloc, tree, 0)?;
-    let groups = GroupList::of(Vec::new(alloc));
-    let who = Principal { uid: 102, groups };
+    let who = principal(alloc, 102);
     let start = Path::root(alloc)?;
     let alone = lines_alone::<Brand>(alloc, &snap, &who, &start, Blank::new(1))?;
     assert_eq!(rt; alone.as_slice(), text.as_slice());
