@@ -1,6 +1,7 @@
-//! Records, lines, trees and principals that the tests of trees share.
+//! Records, lines, trees, snapshots and principals that the tests of trees share.
 use gufi_access::{GroupList, Guard, Principal};
 use gufi_base::{Bytes, Kind, Line, Meta, Path, Rec, Row};
+use gufi_snap::Snapshot;
 use gufi_tree::{Tree, build};
 use std::alloc::Global;
 use std::test::Fail;
@@ -80,6 +81,12 @@ pub(crate) fn tree_of(alloc: Global, rows: &[(&[u8], Kind, u16)]) -> Result<Tree
         lines.push(line(alloc, 1, path, *kind, *mode)?)?;
     }
     grown(alloc, lines)
+}
+
+/// A snapshot of these rows in which nothing is rolled up.
+pub(crate) fn snapshot_of(alloc: Global, rows: &[(&[u8], Kind, u16)]) -> Result<Snapshot, Fail> {
+    let tree = tree_of(alloc, rows)?;
+    Ok(Snapshot::build_uncounted(alloc, tree, 0)?)
 }
 
 /// A principal without groups.

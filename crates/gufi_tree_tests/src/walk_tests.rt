@@ -1,4 +1,4 @@
-use crate::lines::{principal, tree_of};
+use crate::lines::{principal, snapshot_of};
 use gufi_access::Class;
 use gufi_base::{Always, Kind, Path};
 use gufi_io::NoGate;
@@ -45,7 +45,7 @@ fn totalled(alloc: Global, snap: &Snapshot, uid: u32, start: &Path) -> Result<(u
 }
 
 fn seven_rows(alloc: Global) -> Result<Snapshot, Fail> {
-    let tree = tree_of(
+    snapshot_of(
         alloc,
         &[
             (b"/".as_slice(), Kind::Dir, 0o755),
@@ -56,8 +56,7 @@ fn seven_rows(alloc: Global) -> Result<Snapshot, Fail> {
             (b"/p/q/y", Kind::File, 0o644),
             (b"/z", Kind::File, 0o600),
         ],
-    )?;
-    Ok(Snapshot::build_uncounted(alloc, tree, 0)?)
+    )
 }
 
 #[test]
@@ -87,15 +86,14 @@ fn rows_come_from_listed_directories(rt: HostRuntime) -> Result<(), Fail> {
 }
 
 fn three_rows(alloc: Global) -> Result<Snapshot, Fail> {
-    let tree = tree_of(
+    snapshot_of(
         alloc,
         &[
             (b"/".as_slice(), Kind::Dir, 0o755),
             (b"/p", Kind::Dir, 0o711),
             (b"/p/y", Kind::File, 0o644),
         ],
-    )?;
-    Ok(Snapshot::build_uncounted(alloc, tree, 0)?)
+    )
 }
 
 /// The refusals of a walk and of a total.

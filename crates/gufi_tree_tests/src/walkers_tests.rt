@@ -2,7 +2,7 @@
 
 ghost use Rattle.std.specs.Prelude.{◌≡◌, ◌<◌, ◌≤◌, nat_le};
 
-use crate::lines::{line, principal, tree_of};
+use crate::lines::{line, principal, snapshot_of};
 use gufi_access::Principal;
 use gufi_base::{Always, Kind, Line, Memory, Path, Pred, RowRef, Steps, Tester};
 use gufi_io::{Gate, GateKind, NoGate};
@@ -72,7 +72,7 @@ fn told<R: Threads + Wait + Sync>(
 #[test]
 fn a_gate_is_told_of_each_directory_of_the_front(rt: HostRuntime) -> Result<(), Fail> {
     let alloc = rt.alloc();
-    let tree = tree_of(
+    let plain = snapshot_of(
         alloc,
         &[
             (b"/".as_slice(), Kind::Dir, 0o755),
@@ -80,7 +80,6 @@ fn a_gate_is_told_of_each_directory_of_the_front(rt: HostRuntime) -> Result<(), 
             (b"/a/b", Kind::Dir, 0o755),
         ],
     )?;
-    let plain = Snapshot::build_uncounted(alloc, tree, 0)?;
     for (limit, front) in [(100u64, 1u64), (2, 2), (0, 3)] {
         let snap = plain.with_limit(alloc, limit)?;
         for workers in [1u32, 4, 32] {
@@ -116,7 +115,7 @@ impl Pred for DownTo {
 }
 
 fn seven_rows(alloc: Global) -> Result<Snapshot, Fail> {
-    let tree = tree_of(
+    snapshot_of(
         alloc,
         &[
             (b"/".as_slice(), Kind::Dir, 0o755),
@@ -127,8 +126,7 @@ fn seven_rows(alloc: Global) -> Result<Snapshot, Fail> {
             (b"/d", Kind::Dir, 0o755),
             (b"/d/g", Kind::File, 0o644),
         ],
-    )?;
-    Ok(Snapshot::build_uncounted(alloc, tree, 0)?)
+    )
 }
 
 /// The directories and files that so many walkers find down to a depth, and the stores of which they tell.
