@@ -1,12 +1,13 @@
 -- What rows and lines are interleaved to, an act at a time, and its numbers fit.
-use Rattle.std.proofs.Common.{◌≡◌, ℕ, suc, ◌+◌, ◌<◌, List, [], ◌∷◌, ◌++◌, length, take, drop, get_or, refl, sym, ap, ◌∙◌, subst, arith, append_assoc}
+use Rattle.std.proofs.Common.{Bor, ◌≡◌, ℕ, suc, ◌+◌, ◌<◌, List, [], ◌∷◌, ◌++◌, length, take, drop, get_or, refl, sym, ap, ◌∙◌, subst, arith, append_assoc}
 use Rattle.std.specs.Prelude.{Option, Some, None, slice_index_or}
+use Rattle.std.proofs.lemmas.Grind.{flat_map-append}
 use Rattle.std.proofs.lemmas.List.{append-nil, take_more, length-take-le}
 use Rattle.gufi_phases.specs.declared.act.Act.{Act}
 use Rattle.gufi_phases.specs.declared.act.Act.TheVariants.{Publish, Ask}
 use Rattle.gufi_phases.specs.declared.answer.Answer.{Answer}
 use Rattle.gufi_phases.specs.Phases.{lanes, NoneBelow, NumbersFit}
-use Rattle.gufi_phases.specs.Lanes.{IsRowWithin, IsInterleavedAct, IsInterleaved}
+use Rattle.gufi_phases.specs.Lanes.{IsRowWithin, IsInterleavedAct, IsInterleaved, joined}
 use Rattle.gufi_phases.proofs.Rows.{row_rest, row_first}
 
 later_place : (row : List (Option Answer)) (n : ℕ) → slice_index_or row (suc n) None ≡ slice_index_or (drop 1 row) n None
@@ -93,3 +94,7 @@ module _ {C Q : Type 0} where
       subst (λ x. IsInterleaved rows lines (take (at + 1) acts) x (hits + hit) then) (sym n)
       (subst (λ x. IsInterleaved rows lines (take (at + 1) acts) (numbers ++ more) (hits + hit) x) (sym t)
       (subst (λ x. IsInterleaved rows lines x (numbers ++ more) (hits + hit) (text ++ added)) (sym longer) (interleaved_more rows lines (take at acts) act numbers hits text more hit added before here)))
+
+-- one text more
+pub joined_more : (parts then : List (Bor (List ℕ))) (part : Bor (List ℕ)) (text : List ℕ) → then ≡ parts ++ part ∷ [] → part.now ≡ text → joined then ≡ joined parts ++ text
+joined_more parts then part text is reads = ap joined is ∙ (flat_map-append (λ (p : Bor (List ℕ)). p.now) parts (part ∷ []) ∙ (ap (λ l. joined parts ++ l) (append-nil part.now) ∙ ap (λ l. joined parts ++ l) reads))

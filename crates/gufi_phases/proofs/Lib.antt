@@ -9,3 +9,4 @@ pub mod Ascending
 pub mod Keepings
 pub mod Sessions
 pub mod Loads
+pub mod Joined

@@ -1,5 +1,5 @@
 -- How far a run has come over the files that a shelf tells, and what is meant by numbers where it tells none.
-use Rattle.std.proofs.Common.{◌≡◌, ℕ, ◌+◌, ◌<◌, ◌≤◌, true, false, List, [], ◌∷◌, ◌++◌, length, take, drop, get_or, length-append, append_assoc, append-nil, le_refl, take_all, refl, sym, ap, ◌∙◌, subst, arith, drop_of_length-le}
+use Rattle.std.proofs.Common.{◌≡◌, ℕ, ◌+◌, ◌<◌, ◌≤◌, true, false, List, [], ◌∷◌, ◌++◌, length, map, take, drop, get_or, length-append, append_assoc, append-nil, le_refl, take_all, refl, sym, ap, ◌∙◌, subst, arith, drop_of_length-le}
 use Rattle.std.specs.Prelude.{Option, Some, None, Result, Ok, Err, IfOk, OnOk, option_map}
 use Rattle.std.specs.Arc.{arc_value}
 use Rattle.std.proofs.Math.Logic.{∥∥₁_map}
@@ -19,7 +19,7 @@ use Rattle.gufi_phases.specs.Phases.{EachMeans, item_at, made, last_of_acts, com
 use Rattle.gufi_phases.specs.Sessions.{all_made, IsSession, Answered, acts_of, questions_of, hits_over}
 use Rattle.gufi_phases.specs.Replies.{AreAlike}
 use Rattle.gufi_phases.specs.Keeping.{Keeping, keeping_none, keeping_behind, hits_in}
-use Rattle.gufi_phases.specs.Lanes.{AreReady, HasMeant, KeepAs}
+use Rattle.gufi_phases.specs.Lanes.{AreReady, HasMeant, IsTold, KeepAs}
 use Rattle.gufi_phases.specs.Loads.{phases_over, stop_over, total_size, with_loaded, stop_behind, LoadsAs, EndsWith, TakesText, end_of}
 use Rattle.gufi_phases.proofs.Keepings.{keeping_so_far, AreKept, kept_more, long_more, ready_next}
 use Rattle.gufi_phases.proofs.Sessions.{IsReached, none_done, answered, phase_more, this_phase, this_whole, this_list, each_of_all}
@@ -253,35 +253,43 @@ module _
             kept = λ has. kept_more key body capacity (all_made outcome None all) is.done acts numbers own hits more kept_by new is.long (is.kept has) (keeps has).0 (keeps has).1;
           }
 
-      -- the same by what carrying out the phase came to
+      -- the same by what carrying out the phase came to: what its rows and lines tell
       pub over_ran : ((question : Q) (number : ℕ) → (key question number).number ≡ number) → AreAlike key body (questions_of (acts_of (phases_over loaded files plan))) → {E : Type 0} (r : Result (Phase T) E) (phase : Phase T) (high : ℕ) → r ≡ Ok phase
-          → OnOk r (high ≡ count + length (made outcome last acts)) → IfOk r (λ p. option_map arc_value p.last ≡ last_of_acts outcome last acts) → IfOk r (λ p. NumbersFit count high (lanes acts) p.numbers.items)
-          → ((before : ℕ → Keeping) → KeepAs before kept_by → IfOk r (λ p. (every : List T) → ((n : ℕ) → n ≤ high → HasMeant means every n) → (asked : List Q) → AreReady key body every asked before acts
-          → p.text.items ≡ acts_text reply every i p.numbers.items (command_lines outcome line k count last acts) acts))
-          → ((before : ℕ → Keeping) → KeepAs before kept_by → IfOk r (λ p. (every : List T) → ((n : ℕ) → n ≤ high → HasMeant means every n)
-          → (p.hits ≡ hits_in key body every before p.numbers.items acts) × KeepAs (keeping_behind key body every before p.numbers.items acts) p.lanes.items))
-          → (k' i' : ℕ) (numbers' : List ℕ) → k' ≡ k + command_count acts → i' ≡ i + ask_count acts → numbers' ≡ numbers ++ phase.numbers.items
-          → IsOver outcome line reply key body capacity means loaded files plan (at + 1) high (option_map arc_value phase.last) k' i' numbers' (text ++ phase.text.items) (hits + phase.hits) phase.lanes.items
-      over_ran key_numbers alike r phase high ok highs lasts fit told keeps k' i' numbers' ks ies ns =
+          → OnOk r (high ≡ count + length (made outcome last acts)) → IfOk r (λ p. option_map arc_value p.last ≡ last_of_acts outcome last acts)
+          → IfOk r (λ p. (numbers : List ℕ) (hits : ℕ) (text : List ℕ) → IsTold p.rows.items p.lines.items acts numbers hits text → NumbersFit count high (lanes acts) numbers)
+          → ((before : ℕ → Keeping) → KeepAs before kept_by → IfOk r (λ p. (numbers : List ℕ) (hits : ℕ) (text : List ℕ) → IsTold p.rows.items p.lines.items acts numbers hits text
+          → (every : List T) → ((n : ℕ) → n ≤ high → HasMeant means every n) → (asked : List Q) → AreReady key body every asked before acts
+          → text ≡ acts_text reply every i numbers (command_lines outcome line k count last acts) acts))
+          → ((before : ℕ → Keeping) → KeepAs before kept_by → IfOk r (λ p. (numbers : List ℕ) (hits : ℕ) (text : List ℕ) → IsTold p.rows.items p.lines.items acts numbers hits text
+          → (every : List T) → ((n : ℕ) → n ≤ high → HasMeant means every n)
+          → (hits ≡ hits_in key body every before numbers acts) × KeepAs (keeping_behind key body every before numbers acts) (map (λ row. row.lane) p.rows.items ++ p.idle.items)))
+          → (own : List ℕ) (more : ℕ) (begin : List ℕ) → IsTold phase.rows.items phase.lines.items acts own more begin
+          → (k' i' : ℕ) (numbers' : List ℕ) (new : List Lane) → k' ≡ k + command_count acts → i' ≡ i + ask_count acts → numbers' ≡ numbers ++ own → new ≡ map (λ row. row.lane) phase.rows.items ++ phase.idle.items
+          → IsOver outcome line reply key body capacity means loaded files plan (at + 1) high (option_map arc_value phase.last) k' i' numbers' (text ++ begin) (hits + more) new
+      over_ran key_numbers alike r phase high ok highs lasts fit told keeps own added begin mixed k' i' numbers' new ks ies ns ls =
           let all = phases_over loaded files plan in let rest = phases_over loaded files (drop (at + 1) plan) in let now = is.pubs ++ made outcome last acts in
           let counted : high ≡ count + length (made outcome last acts) = subst (λ r. OnOk r (high ≡ count + length (made outcome last acts))) ok highs in
           let long : high ≡ length now = (let same = is.counted in let e = length-append is.pubs (made outcome last acts) in omega arith) in
           let text_at = λ (has : (n : ℕ) → HasMeant means (all_made outcome None all) n).
-          subst (λ r. IfOk r (λ p. (every : List T) → ((n : ℕ) → n ≤ high → HasMeant means every n) → (asked : List Q) → AreReady key body every asked keeping_here acts
-          → p.text.items ≡ acts_text reply every i p.numbers.items (command_lines outcome line k count last acts) acts)) ok (told keeping_here (is.kept has).lanes_keep) in
+          subst (λ r. IfOk r (λ p. (numbers : List ℕ) (hits : ℕ) (text : List ℕ) → IsTold p.rows.items p.lines.items acts numbers hits text
+          → (every : List T) → ((n : ℕ) → n ≤ high → HasMeant means every n) → (asked : List Q) → AreReady key body every asked keeping_here acts
+          → text ≡ acts_text reply every i numbers (command_lines outcome line k count last acts) acts)) ok (told keeping_here (is.kept has).lanes_keep) own added begin mixed in
           let kept_at = λ (has : (n : ℕ) → HasMeant means (all_made outcome None all) n).
-          subst (λ r. IfOk r (λ p. (every : List T) → ((n : ℕ) → n ≤ high → HasMeant means every n)
-          → (p.hits ≡ hits_in key body every keeping_here p.numbers.items acts) × KeepAs (keeping_behind key body every keeping_here p.numbers.items acts) p.lanes.items)) ok (keeps keeping_here (is.kept has).lanes_keep) in
-          let more = over_more high phase.numbers.items phase.text.items phase.hits phase.lanes.items counted
-          (subst (λ r. IfOk r (λ p. NumbersFit count high (lanes acts) p.numbers.items)) ok fit)
+          subst (λ r. IfOk r (λ p. (numbers : List ℕ) (hits : ℕ) (text : List ℕ) → IsTold p.rows.items p.lines.items acts numbers hits text
+          → (every : List T) → ((n : ℕ) → n ≤ high → HasMeant means every n)
+          → (hits ≡ hits_in key body every keeping_here numbers acts) × KeepAs (keeping_behind key body every keeping_here numbers acts) (map (λ row. row.lane) p.rows.items ++ p.idle.items))) ok (keeps keeping_here (is.kept has).lanes_keep) own added begin mixed in
+          let lanes_of = map (λ row. row.lane) phase.rows.items ++ phase.idle.items in
+          let more = over_more high own begin added lanes_of counted
+          (subst (λ r. IfOk r (λ p. (numbers : List ℕ) (hits : ℕ) (text : List ℕ) → IsTold p.rows.items p.lines.items acts numbers hits text → NumbersFit count high (lanes acts) numbers)) ok fit own added begin mixed)
           (λ has. text_at has now (λ n below. this_list outcome line reply means all is.done acts rest is.pubs last k i numbers text reached_here has n (subst (λ m. n ≤ m) long below)) (questions_of (acts_of all)) (ready_here key_numbers alike))
           (λ has. kept_at has (all_made outcome None all) (λ n below. has n)) in
           let next : option_map arc_value phase.last ≡ last_of_acts outcome last acts = subst (λ r. IfOk r (λ p. option_map arc_value p.last ≡ last_of_acts outcome last acts)) ok lasts in
-          let Over = λ (l : Option T) (k i : ℕ) (numbers : List ℕ). IsOver outcome line reply key body capacity means loaded files plan (at + 1) high l k i numbers (text ++ phase.text.items) (hits + phase.hits) phase.lanes.items in
-          subst (λ x. Over x k' i' numbers') (sym next)
-          (subst (λ x. Over (last_of_acts outcome last acts) x i' numbers') (sym ks)
-          (subst (λ x. Over (last_of_acts outcome last acts) (k + command_count acts) x numbers') (sym ies)
-          (subst (λ x. Over (last_of_acts outcome last acts) (k + command_count acts) (i + ask_count acts) x) (sym ns) more)))
+          let Over = λ (l : Option T) (k i : ℕ) (numbers : List ℕ) (by : List Lane). IsOver outcome line reply key body capacity means loaded files plan (at + 1) high l k i numbers (text ++ begin) (hits + added) by in
+          subst (λ x. Over x k' i' numbers' new) (sym next)
+          (subst (λ x. Over (last_of_acts outcome last acts) x i' numbers' new) (sym ks)
+          (subst (λ x. Over (last_of_acts outcome last acts) (k + command_count acts) x numbers' new) (sym ies)
+          (subst (λ x. Over (last_of_acts outcome last acts) (k + command_count acts) (i + ask_count acts) x new) (sym ns)
+          (subst (λ x. Over (last_of_acts outcome last acts) (k + command_count acts) (i + ask_count acts) (numbers ++ own) x) (sym ls) more))))
 
 -- each publication of the next phase is meant by its number, whether the shelf tells its files or not
 pub next_means : {P T C Q : Type 0} (outcome : C → Option T → Result T (List ℕ)) (line : C → ℕ → Result ℕ (List ℕ) → List ℕ) (reply : Q → ℕ → ℕ → Option T → List ℕ) (key : Q → ℕ → CacheKey) (body : Q → T → List ℕ) (capacity : ℕ)

@@ -1,5 +1,7 @@
 -- What a lane's places hold: the numbers of its pins, and the replies by what the lane keeps.
-use Rattle.std.specs.Prelude.{◌≡◌, ℕ, suc, ◌+◌, ◌-◌, ◌≤◌, List, [], ◌∷◌, ◌++◌, drop, map, All, Contains, ⊤, Option, Some, None, is_some, if◌then◌else◌, slice_index_or}
+use denote.Ref.{Bor}
+use Rattle.std.specs.Prelude.{◌≡◌, ℕ, suc, ◌+◌, ◌-◌, ◌≤◌, List, [], ◌∷◌, ◌++◌, drop, map, flat_map, All, Contains, ⊤, Option, Some, None, Vec, is_some, if◌then◌else◌, slice_index_or}
+use Rattle.std.specs.declared.alloc.Global.{Global}
 use Rattle.gufi_cache.specs.declared.key.CacheKey.{CacheKey}
 use Rattle.gufi_phases.specs.declared.act.Act.{Act}
 use Rattle.gufi_phases.specs.declared.act.Act.TheVariants.{Publish, Ask}
@@ -116,3 +118,11 @@ module _ {C Q : Type 0} where
   IsInterleaved rows lines (act ∷ acts) numbers hits text =
       (front : List ℕ) × (later : List ℕ) × (own : ℕ) × (others : ℕ) × (begin : List ℕ) × (rest : List ℕ) × (numbers ≡ front ++ later) × (hits ≡ own + others) × (text ≡ begin ++ rest)
       × IsInterleavedAct 0 rows (slice_index_or lines 0 []) act front own begin × IsInterleaved (λ lane. drop 1 (rows lane)) (drop 1 lines) acts later others rest
+
+-- The numbers, the hits and the text of acts, by the rows of the lanes from 1 on and a line for each act.
+abbrev pub IsTold : {C Q : Type 0} → List Row → List (Vec ℕ Global) → List (Act C Q) → List ℕ → ℕ → List ℕ → Type 0
+IsTold rows lines acts numbers hits text = IsInterleaved (row_of (places_of rows)) (map (λ line. line.items) lines) acts numbers hits text
+
+-- texts, one behind the other
+abbrev pub joined : List (Bor (List ℕ)) → List ℕ
+joined parts = flat_map (λ part. part.now) parts

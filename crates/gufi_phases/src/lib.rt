@@ -19,6 +19,7 @@ mod publish;
 mod replies;
 mod session;
 mod visitors;
+mod written;
 
 pub use act::{Act, Command, Made, Wanted};
 pub use load::{Load, LoadFault, Stop};

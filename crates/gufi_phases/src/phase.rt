@@ -4,7 +4,7 @@ ghost use Rattle.std.specs.Arc.{arc_value};
 ghost use Rattle.gufi_hub.specs.Hub.{IsReady, published};
 ghost use Rattle.gufi_phases.specs.Phases.{EachMeans, NumbersFit, acts_text, command_lines, lanes as lanes_asked, last_of_acts, made};
 ghost use Rattle.gufi_phases.specs.Keeping.{Keeping, hits_in, keeping_behind};
-ghost use Rattle.gufi_phases.specs.Lanes.{AreReady, HasMeant, IsServed, KeepAs};
+ghost use Rattle.gufi_phases.specs.Lanes.{AreReady, HasMeant, IsServed, IsTold, KeepAs};
 ghost use Rattle.gufi_phases.specs.Replies.{BodiesBy};
 
 use crate::act::{Act, Command, Wanted};
@@ -12,7 +12,7 @@ use crate::answer::{Row, Served};
 use crate::keeping::Lane;
 use crate::lane::serve;
 use crate::publish::{Done, publish_all};
-use crate::replies::{gather, in_order, interleave};
+use crate::replies::{gather, in_order};
 use crate::visitors::{Jobs, jobs_for, visitors_for};
 use gufi_base::Memory;
 use gufi_hub::{Meaning, Publisher, Visitor};
@@ -21,15 +21,14 @@ use std::alloc::{AllocError, Global};
 use std::sync::{Arc, Wait};
 use std::thread::{Threads, join, map_vec};
 
-/// What a phase came to: the number that each ask's reply bears, how many asks are hits, the text, the last publication, and the
-/// lanes.
+/// What a phase came to: what each lane answered, in the order of the lanes, a line for each act, the last publication, and the lanes
+/// that were idle.
 #[derive(Drop)]
 pub(crate) struct Phase<T: Drop> {
-    pub(crate) numbers: Vec<u64>,
-    pub(crate) hits: u64,
-    pub(crate) text: Vec<u8>,
+    pub(crate) rows: Vec<Row>,
+    pub(crate) lines: Vec<Vec<u8>>,
     pub(crate) last: Option<Arc<T>>,
-    pub(crate) lanes: Vec<Lane>,
+    pub(crate) idle: Vec<Lane>,
 }
 
 /// The greatest lane, of which there are 16.
@@ -96,7 +95,11 @@ fn serve_all<
 }
 
 /// The lanes of rows, and behind them those that were idle.
-fn lanes_behind(alloc: Global, rows: Vec<Row>, idle: Vec<Lane>) -> Result<Vec<Lane>, Memory>
+pub(crate) fn lanes_behind(
+    alloc: Global,
+    rows: Vec<Row>,
+    idle: Vec<Lane>,
+) -> Result<Vec<Lane>, Memory>
     ensures { IfOk result (λ lanes. lanes.items ≡ map (λ row. row.lane) rows.items ++ idle.items) }
 {
     let mut idle = idle;
@@ -108,7 +111,7 @@ fn lanes_behind(alloc: Global, rows: Vec<Row>, idle: Vec<Lane>) -> Result<Vec<La
     Ok(lanes)
 }
 
-/// What is written after the joins, where no visitor saw more than the publisher's number.
+/// What is to be written after the joins, where no visitor saw more than the publisher's number.
 fn finish<T: Drop, M: Meaning<T>, C: Drop, Q: Wanted<T> + Drop>(
     alloc: Global,
     acts: &[Act<C, Q>],
@@ -120,26 +123,23 @@ fn finish<T: Drop, M: Meaning<T>, C: Drop, Q: Wanted<T> + Drop>(
 ) -> Result<Phase<T>, Memory>
     requires idle { All (λ lane. count ≤ lane.number - 1) idle.items }
     ensures numbers { (before : ℕ → Keeping) (i low : ℕ) → low ≤ number → All (λ r. IfOk r (IsServed M.means Q.reply Q.head Q.key Q.body before i low acts.now)) all.items
-        → IfOk result (λ p. NumbersFit low number (lanes_asked acts.now) p.numbers.items) }
+        → IfOk result (λ p. (numbers : List ℕ) (hits : ℕ) (text : List ℕ) → IsTold p.rows.items p.lines.items acts.now numbers hits text → NumbersFit low number (lanes_asked acts.now) numbers) }
     ensures text { (before : ℕ → Keeping) (i low : ℕ) → low ≤ number → All (λ r. IfOk r (IsServed M.means Q.reply Q.head Q.key Q.body before i low acts.now)) all.items
-        → IfOk result (λ p. (every : List T) → ((n : ℕ) → n ≤ number → HasMeant M.means every n) → (asked : List Q) → AreReady Q.key Q.body every asked before acts.now
-        → p.text.items ≡ acts_text Q.reply every i p.numbers.items (map (λ l. l.items) done.lines.items) acts.now) }
+        → IfOk result (λ p. (numbers : List ℕ) (hits : ℕ) (text : List ℕ) → IsTold p.rows.items p.lines.items acts.now numbers hits text
+        → (every : List T) → ((n : ℕ) → n ≤ number → HasMeant M.means every n) → (asked : List Q) → AreReady Q.key Q.body every asked before acts.now
+        → text ≡ acts_text Q.reply every i numbers (map (λ l. l.items) done.lines.items) acts.now) }
     ensures kept { (before : ℕ → Keeping) (i low : ℕ) → low ≤ number → All (λ r. IfOk r (IsServed M.means Q.reply Q.head Q.key Q.body before i low acts.now)) all.items → KeepAs before idle.items
-        → IfOk result (λ p. (every : List T) → ((n : ℕ) → n ≤ number → HasMeant M.means every n)
-        → (p.hits ≡ hits_in Q.key Q.body every before p.numbers.items acts.now) × KeepAs (keeping_behind Q.key Q.body every before p.numbers.items acts.now) p.lanes.items) }
-    ensures few { IfOk result (λ p. p.hits ≤ length acts.now) }
+        → IfOk result (λ p. (numbers : List ℕ) (hits : ℕ) (text : List ℕ) → IsTold p.rows.items p.lines.items acts.now numbers hits text → (every : List T) → ((n : ℕ) → n ≤ number → HasMeant M.means every n)
+        → (hits ≡ hits_in Q.key Q.body every before numbers acts.now) × KeepAs (keeping_behind Q.key Q.body every before numbers acts.now) (map (λ row. row.lane) p.rows.items ++ p.idle.items)) }
     ensures last { IfOk result (λ p. p.last ≡ done.last) }
 {
     let rows = gather::<T, M, C, Q>(alloc, all, number)?;
     let rows = in_order::<T, M, C, Q>(alloc, rows, count)?;
-    let (numbers, hits, text) = interleave(alloc, &rows, &done.lines, acts)?;
-    let lanes = lanes_behind(alloc, rows, idle)?;
     Ok(Phase {
-        numbers,
-        hits,
-        text,
+        rows,
+        lines: done.lines,
         last: done.last,
-        lanes,
+        idle,
     })
 }
 
@@ -200,7 +200,7 @@ fn side_by_side<
 }
 
 /// Carries out the commands beside the lanes, joins them, and answers each ask from what its one pin gave, or by what its lane kept
-/// of that.
+/// of that. The texts stay where they were made until they are written.
 ///
 /// `reply` puts the body of the reply to a question, from the item that was pinned, behind the reply's head. `command` and `ask` are
 /// the numbers of the first of them. A visitor that saw more than the publisher's number is answered as want of memory, and so are
@@ -233,14 +233,15 @@ pub(crate) fn run_phase<
     ensures ready { IsReady result.0 }
     ensures count { OnOk result.1 (published result.0 ≡ published publisher + length (made C.outcome (option_map arc_value last) acts.now)) }
     ensures last { IfOk result.1 (λ p. option_map arc_value p.last ≡ last_of_acts C.outcome (option_map arc_value last) acts.now) }
-    ensures numbers { IfOk result.1 (λ p. NumbersFit (published publisher) (published result.0) (lanes_asked acts.now) p.numbers.items) }
+    ensures numbers { IfOk result.1 (λ p. (numbers : List ℕ) (hits : ℕ) (text : List ℕ) → IsTold p.rows.items p.lines.items acts.now numbers hits text
+        → NumbersFit (published publisher) (published result.0) (lanes_asked acts.now) numbers) }
     ensures text { (before : ℕ → Keeping) → KeepAs before lanes.items
-        → IfOk result.1 (λ p. (every : List T) → ((n : ℕ) → n ≤ published result.0 → HasMeant M.means every n) → (asked : List Q) → AreReady Q.key Q.body every asked before acts.now
-        → p.text.items ≡ acts_text Q.reply every ask p.numbers.items (command_lines C.outcome C.line command (published publisher) (option_map arc_value last) acts.now) acts.now) }
+        → IfOk result.1 (λ p. (numbers : List ℕ) (hits : ℕ) (text : List ℕ) → IsTold p.rows.items p.lines.items acts.now numbers hits text
+        → (every : List T) → ((n : ℕ) → n ≤ published result.0 → HasMeant M.means every n) → (asked : List Q) → AreReady Q.key Q.body every asked before acts.now
+        → text ≡ acts_text Q.reply every ask numbers (command_lines C.outcome C.line command (published publisher) (option_map arc_value last) acts.now) acts.now) }
     ensures kept { (before : ℕ → Keeping) → KeepAs before lanes.items
-        → IfOk result.1 (λ p. (every : List T) → ((n : ℕ) → n ≤ published result.0 → HasMeant M.means every n)
-        → (p.hits ≡ hits_in Q.key Q.body every before p.numbers.items acts.now) × KeepAs (keeping_behind Q.key Q.body every before p.numbers.items acts.now) p.lanes.items) }
-    ensures few { IfOk result.1 (λ p. p.hits ≤ length acts.now) }
+        → IfOk result.1 (λ p. (numbers : List ℕ) (hits : ℕ) (text : List ℕ) → IsTold p.rows.items p.lines.items acts.now numbers hits text → (every : List T) → ((n : ℕ) → n ≤ published result.0 → HasMeant M.means every n)
+        → (hits ≡ hits_in Q.key Q.body every before numbers acts.now) × KeepAs (keeping_behind Q.key Q.body every before numbers acts.now) (map (λ row. row.lane) p.rows.items ++ p.idle.items)) }
 {
     let mut publisher = publisher;
     if !are_ascending(&lanes) {

@@ -2,7 +2,7 @@
 ghost use Rattle.std.specs.Prelude.{◌≡◌, ℕ, ◌+◌, ◌<◌, ◌≤◌, List, [], ◌++◌, map, length, All, Some, None, IfOk, OnOk, IfSome, slice_index_or};
 ghost use Rattle.std.specs.List.{HoldsAt};
 ghost use Rattle.gufi_phases.specs.Keeping.{Keeping};
-ghost use Rattle.gufi_phases.specs.Lanes.{AreNumbered, IsInterleaved, IsInterleavedAct, IsLaneRow, IsRowWithin, IsServed, places_of, row_of};
+ghost use Rattle.gufi_phases.specs.Lanes.{AreNumbered, IsInterleavedAct, IsLaneRow, IsRowWithin, IsServed, IsTold, joined, places_of, row_of};
 
 use crate::act::{Act, Wanted};
 use crate::answer::{Answer, Row, Served};
@@ -80,22 +80,22 @@ fn line_at(lines: &[Vec<u8>], at: usize) -> Option<&[u8]>
 }
 
 /// Adds what is written of one act, and whether it is a hit.
-fn interleave_act<C: Drop, Q: Drop>(
-    rows: &[Row],
-    lines: &[Vec<u8>],
+fn interleave_act<'a, C: Drop, Q: Drop>(
+    rows: &'a [Row],
+    lines: &'a [Vec<u8>],
     act: &Act<C, Q>,
     at: usize,
     numbers: &mut Vec<u64>,
-    text: &mut Vec<u8>,
+    parts: &mut Vec<&'a [u8]>,
 ) -> Result<u64, Memory>
-    ensures added { IfOk result (λ hits. (more : List ℕ) × (added : List ℕ) × (numbers.new.items ≡ numbers.old.items ++ more) × (text.new.items ≡ text.old.items ++ added)
+    ensures added { IfOk result (λ hits. (more : List ℕ) × (added : List ℕ) × (numbers.new.items ≡ numbers.old.items ++ more) × (joined parts.new.items ≡ joined parts.old.items ++ added)
         × IsInterleavedAct at (row_of (places_of rows.now)) (slice_index_or (map (λ l. l.items) lines.now) at []) act.now more hits added) }
     ensures few { IfOk result (λ hits. hits ≤ 1) }
 {
     match act {
         Act::Publish { .. } => match line_at(lines, at) {
             Some(line) => {
-                text.extend_from_slice(line)?;
+                parts.push(line)?;
                 Ok(0)
             }
             None => Err(Memory),
@@ -103,7 +103,7 @@ fn interleave_act<C: Drop, Q: Drop>(
         Act::Ask { lane, .. } => match answer_at(rows, *lane, at) {
             Some(answer) => {
                 numbers.push(answer.number)?;
-                text.extend_from_slice(&answer.text)?;
+                parts.push(answer.text.as_slice())?;
                 Ok(u64::from(answer.hit))
             }
             None => Err(Memory),
@@ -111,22 +111,22 @@ fn interleave_act<C: Drop, Q: Drop>(
     }
 }
 
-/// The numbers of the asks, how many are hits, and the text of the acts, in their order.
-pub(crate) fn interleave<C: Drop, Q: Drop>(
+/// The numbers of the asks, how many are hits, and the texts of the acts, in their order. No text is copied.
+pub(crate) fn interleave<'a, C: Drop, Q: Drop>(
     alloc: Global,
-    rows: &[Row],
-    lines: &[Vec<u8>],
+    rows: &'a [Row],
+    lines: &'a [Vec<u8>],
     acts: &[Act<C, Q>],
-) -> Result<(Vec<u64>, u64, Vec<u8>), Memory>
-    ensures acts { IfOk result (λ r. IsInterleaved (row_of (places_of rows.now)) (map (λ l. l.items) lines.now) acts.now r.0.items r.1 r.2.items) }
+) -> Result<(Vec<u64>, u64, Vec<&'a [u8]>), Memory>
+    ensures acts { IfOk result (λ r. IsTold rows.now lines.now acts.now r.0.items r.1 (joined r.2.items)) }
     ensures few { IfOk result (λ r. r.1 ≤ length acts.now) }
 {
     let mut numbers = Vec::new(alloc);
-    let mut text = Vec::new(alloc);
+    let mut parts = Vec::new(alloc);
     let mut hits = 0u64;
     for at in 0..acts.len() {
-        let hit = interleave_act(rows, lines, &acts[at], at, &mut numbers, &mut text)?;
+        let hit = interleave_act(rows, lines, &acts[at], at, &mut numbers, &mut parts)?;
         hits = hits + hit;
     }
-    Ok((numbers, hits, text))
+    Ok((numbers, hits, parts))
 }
