@@ -1,4 +1,6 @@
 //! Reading word by word.
+//!
+//! A state is let go by a call: what is let go at an early exit is proved there anew.
 ghost use Rattle.std.specs.Prelude.{◌≡◌, IfOk};
 ghost use Rattle.gufi_find.specs.Reading.{with_item, begun, opened, inverted, close_level, wants_primary, wants_operator, read_word, at_end};
 ghost use Rattle.gufi_formula.specs.Levels.{with_or};
@@ -71,6 +73,7 @@ impl State {
         ensures { Gives state_kept result (opened (state_kept self)) }
     {
         if self.levels.is_full() {
+            drop(self);
             return Err(WordFault::Kind(FindKind::TooDeep));
         }
         let levels = self.levels.nested()?;
@@ -87,6 +90,7 @@ impl State {
         ensures { Gives state_kept result (inverted (state_kept self)) }
     {
         if self.levels.is_full() {
+            drop(self);
             return Err(WordFault::Kind(FindKind::TooDeep));
         }
         Ok(State {
@@ -126,12 +130,24 @@ impl State {
         ensures { Gives state_kept result (wants_primary users.now now (state_kept self) word.now) }
     {
         match word {
-            _ if is_word(word, b")") => Err(WordFault::Kind(FindKind::Parenthesis)),
+            _ if is_word(word, b")") => {
+                drop(self);
+                Err(WordFault::Kind(FindKind::Parenthesis))
+            }
             _ if is_word(word, b"(") => self.opened(),
             _ if is_word(word, b"!") => self.inverted(),
             _ => match PrimaryName::of(word) {
-                Some(name) => self.begun(alloc, primary_of(alloc, users, now, name)?),
-                None => Err(WordFault::Kind(FindKind::UnknownPrimary)),
+                Some(name) => match primary_of(alloc, users, now, name) {
+                    Ok(primary) => self.begun(alloc, primary),
+                    Err(error) => {
+                        drop(self);
+                        Err(WordFault::from(error))
+                    }
+                },
+                None => {
+                    drop(self);
+                    Err(WordFault::Kind(FindKind::UnknownPrimary))
+                }
             },
         }
     }
@@ -143,7 +159,10 @@ impl State {
         match primary {
             Primary::Alone(test) => Ok(self.with_test(alloc, test)?),
             Primary::Taking(operand) => Ok(self.wanting(Place::Argument(operand))),
-            Primary::WithoutNow => Err(WordFault::Kind(FindKind::NoNow)),
+            Primary::WithoutNow => {
+                drop(self);
+                Err(WordFault::Kind(FindKind::NoNow))
+            }
         }
     }
 
@@ -205,8 +224,13 @@ impl State {
             Place::Primary => self.with_primary(alloc, users, now, word),
             Place::Operator => self.with_operator(alloc, users, now, word),
             Place::Argument(operand) => {
-                let item = read_operand(alloc, users, operand, word)?;
-                Ok(self.with_item(alloc, item)?)
+                match read_operand(alloc, users, operand, word) {
+                    Ok(item) => Ok(self.with_item(alloc, item)?),
+                    Err(fault) => {
+                        drop(self);
+                        Err(fault)
+                    }
+                }
             }
         }
     }
@@ -217,11 +241,13 @@ impl State {
     {
         match self.place {
             Place::Primary | Place::Argument(_) => {
+                drop(self);
                 return Err(WordFault::Kind(FindKind::MissingArgument));
             }
             Place::Operator => {}
         }
         if !self.levels.is_outermost() {
+            drop(self);
             return Err(WordFault::Kind(FindKind::Parenthesis));
         }
         let formula = match self.levels.formula()? {
