@@ -1,5 +1,7 @@
 //! Both tables together: who a USER word names, and names by number.
 ghost use Rattle.std.specs.Prelude.{◌≡◌, Some, None, map, option_map, slice_get, IfOk, MatchOption};
+ghost use Rattle.gufi_users.specs.Places.{AreFirst};
+ghost use Rattle.gufi_users.specs.Entries.{PasswdEntry, GroupEntry};
 ghost use Rattle.gufi_users.specs.Users.{groups_of, name_of_gid, name_of_uid, gid_of, uid_of, principal_of};
 
 use crate::group::Groups;
@@ -33,17 +35,31 @@ impl Model for Users {
     ghost invariant = { λ u. AreIndexed u.passwd u.groups u.uids u.gids };
 }
 
+/// The place at which each uid first stands.
+fn uid_places(alloc: Global, passwd: &Passwd) -> Result<HashMap<u32, usize>, AllocError>
+    ensures { IfOk result (AreFirst (map (λ (user : PasswdEntry). user.uid) passwd.now)) }
+{
+    let numbers = passwd.uids(alloc)?;
+    first_places(alloc, &numbers)
+}
+
+/// The place at which each gid first stands.
+fn gid_places(alloc: Global, groups: &Groups) -> Result<HashMap<u32, usize>, AllocError>
+    ensures { IfOk result (AreFirst (map (λ (entry : GroupEntry). entry.gid) groups.now)) }
+{
+    let numbers = groups.gids(alloc)?;
+    first_places(alloc, &numbers)
+}
+
 impl Users {
-    ghost use Rattle.gufi_users.specs.Entries.{UserTables, PasswdEntry, GroupEntry};
+    ghost use Rattle.gufi_users.specs.Entries.{UserTables};
 
     /// Both files, with tables by number that give the first row in file order.
     pub fn of(alloc: Global, passwd: Passwd, groups: Groups) -> Result<Users, Memory>
         ensures { IfOk result (λ users. users ≡ record { users = passwd; groups = groups }) }
     {
-        let numbers = passwd.uids(alloc)?;
-        let uids = first_places(alloc, &numbers)?;
-        let numbers = groups.gids(alloc)?;
-        let gids = first_places(alloc, &numbers)?;
+        let uids = uid_places(alloc, &passwd)?;
+        let gids = gid_places(alloc, &groups)?;
         Ok(Users {
             passwd,
             groups,
