@@ -1,4 +1,6 @@
 //! Reading the condition, token by token.
+//!
+//! A state is let go by a call: what is let go at an early exit is proved there anew.
 ghost use Rattle.std.specs.Prelude.{◌≡◌, Ok, IfOk};
 ghost use Rattle.gufi_select.specs.Reading.{with_condition, read_term, read_regexp, read_operator, read_literal, read_digits, read_pattern, read_connective};
 ghost use Rattle.gufi_select.specs.States.{state_kept};
@@ -111,8 +113,14 @@ impl State {
         ensures { Gives state_kept result (read_literal offset column operator (state_kept self) token) }
     {
         match token {
-            Token::Text(_) if !column.is_text() => Err(TokenFault::Kind(SelectKind::WrongType)),
-            Token::Digits(_) if column.is_text() => Err(TokenFault::Kind(SelectKind::WrongType)),
+            Token::Text(_) if !column.is_text() => {
+                drop(self);
+                Err(TokenFault::Kind(SelectKind::WrongType))
+            }
+            Token::Digits(_) if column.is_text() => {
+                drop(self);
+                Err(TokenFault::Kind(SelectKind::WrongType))
+            }
             Token::Text(text) => {
                 let condition = Condition::Compares(column, operator, Value::Text(text));
                 Ok(self.with_condition(alloc, condition)?)
@@ -122,9 +130,15 @@ impl State {
                 let condition = Condition::Compares(column, operator, value);
                 Ok(self.with_condition(alloc, condition)?)
             }
-            Token::Digits(None) => Err(TokenFault::Kind(SelectKind::LiteralTooBig)),
+            Token::Digits(None) => {
+                drop(self);
+                Err(TokenFault::Kind(SelectKind::LiteralTooBig))
+            }
             Token::Sign(Sign::Minus) => Ok(self.wanting(Place::Negative(offset, column, operator))),
-            _ => Err(TokenFault::Kind(SelectKind::Unexpected)),
+            _ => {
+                drop(self);
+                Err(TokenFault::Kind(SelectKind::Unexpected))
+            }
         }
     }
 
