@@ -1,4 +1,6 @@
 //! Files whose lines add rows, each under a name.
+//!
+//! A table is let go by a call: what is let go at an early exit is proved there anew.
 ghost use Rattle.std.specs.Prelude.{◌≡◌, ◌≢◌, ◌≤◌, ℕ, [], List, Vec, Result, Ok, Err, OnOk, IfOk, IfErr, MatchResult, map};
 ghost use Rattle.std.specs.declared.alloc.Global.{Global};
 ghost use Rattle.gufi_base.specs.Basics.{result_map_err, text_lines};
@@ -47,7 +49,10 @@ pub(crate) fn read_table<R: FromLine>(
     let mut number = 0;
     'lines: for text in lines_of(bytes) {
         number += 1;
-        add_line(&mut rows, alloc, number, text)?;
+        if let Err(error) = add_line(&mut rows, alloc, number, text) {
+            drop(rows);
+            return Err(error);
+        }
     }
     Ok(rows)
 }

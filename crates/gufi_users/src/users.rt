@@ -1,6 +1,8 @@
 //! Both tables together: who a USER word names, and names by number.
+//!
+//! A table is let go by a call: what is let go at an early exit is proved there anew.
 ghost use Rattle.std.specs.Prelude.{◌≡◌, Some, None, map, option_map, slice_get, IfOk, MatchOption};
-ghost use Rattle.gufi_users.specs.Places.{AreFirst};
+ghost use Rattle.gufi_users.specs.Places.{AreFirst, AreIndexed};
 ghost use Rattle.gufi_users.specs.Entries.{PasswdEntry, GroupEntry};
 ghost use Rattle.gufi_users.specs.Users.{groups_of, name_of_gid, name_of_uid, gid_of, uid_of, principal_of};
 
@@ -35,6 +37,13 @@ impl Model for Users {
     ghost invariant = { λ u. AreIndexed u.passwd u.groups u.uids u.gids };
 }
 
+/// Where each uid and each gid first stands.
+#[derive(Drop)]
+struct Places {
+    uids: HashMap<u32, usize>,
+    gids: HashMap<u32, usize>,
+}
+
 /// The place at which each uid first stands.
 fn uid_places(alloc: Global, passwd: &Passwd) -> Result<HashMap<u32, usize>, AllocError>
     ensures { IfOk result (AreFirst (map (λ (user : PasswdEntry). user.uid) passwd.now)) }
@@ -51,6 +60,14 @@ fn gid_places(alloc: Global, groups: &Groups) -> Result<HashMap<u32, usize>, All
     first_places(alloc, &numbers)
 }
 
+fn places_of(alloc: Global, passwd: &Passwd, groups: &Groups) -> Result<Places, AllocError>
+    ensures { IfOk result (λ places. AreIndexed passwd.now groups.now places.uids places.gids) }
+{
+    let uids = uid_places(alloc, passwd)?;
+    let gids = gid_places(alloc, groups)?;
+    Ok(Places { uids, gids })
+}
+
 impl Users {
     ghost use Rattle.gufi_users.specs.Entries.{UserTables};
 
@@ -58,8 +75,11 @@ impl Users {
     pub fn of(alloc: Global, passwd: Passwd, groups: Groups) -> Result<Users, Memory>
         ensures { IfOk result (λ users. users ≡ record { users = passwd; groups = groups }) }
     {
-        let uids = uid_places(alloc, &passwd)?;
-        let gids = gid_places(alloc, &groups)?;
+        let Ok(Places { uids, gids }) = places_of(alloc, &passwd, &groups) else {
+            drop(passwd);
+            drop(groups);
+            return Err(Memory);
+        };
         Ok(Users {
             passwd,
             groups,
