@@ -1,15 +1,10 @@
 //! `gufi`: a file index with permission-exact queries.
 //!
-//! The program is one call of `run` over the system's files and standard streams: a page where the words ask for one,
-//! and else all that `gufi_top::gufi_run` does. The pages are made of one table.
+//! The program is one call of `gufi_help::run` over the system's files and standard streams: a page where the words ask for
+//! one, and else all that `gufi_top::gufi_run` does.
 #![tactic(auto)]
 
-mod commands;
-mod pages;
-mod run;
-
-use crate::pages::PAGES;
-use crate::run::{run, without_words};
+use gufi_help::{PAGES, run, without_words};
 use gufi_io::{FileShelf, NoGate, StdSink};
 use std::io::ErrorKind;
 use std::process::ExitCode;
@@ -46,6 +41,3 @@ fn main(rt: HostRuntime) -> ExitCode {
     );
     ExitCode::from(outcome.status)
 }
-
-#[cfg(test)]
-mod tests;

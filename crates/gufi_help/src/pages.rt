@@ -2,23 +2,23 @@
 ghost use Rattle.std.specs.Prelude.{◌≡◌};
 ghost use Rattle.std.specs.Option.{option_copied};
 ghost use Rattle.gufi_words.specs.WordTexts.{texts};
-ghost use Rattle.gufi.specs.Pages.{asks_help, lone_page, page_among, page_of};
+ghost use Rattle.gufi_help.specs.Pages.{asks_help, lone_page, page_among, page_of};
 
 use crate::commands::table;
 
 /// The name of a command and its page.
-pub(crate) struct CommandPage {
-    name: &'static str,
-    page: &'static str,
+pub struct CommandPage {
+    pub name: &'static str,
+    pub page: &'static str,
 }
 
 /// The pages that the program answers itself.
-pub(crate) struct Pages {
-    usage: &'static str,
-    version: &'static str,
-    manual: &'static str,
-    completions: &'static str,
-    commands: &'static [CommandPage],
+pub struct Pages {
+    pub usage: &'static str,
+    pub version: &'static str,
+    pub manual: &'static str,
+    pub completions: &'static str,
+    pub commands: &'static [CommandPage],
 }
 
 macro_rules! usage {
@@ -105,7 +105,7 @@ macro_rules! completions {
 }
 
 /// The program's own pages, of one table.
-pub(crate) const PAGES: Pages = Pages {
+pub const PAGES: Pages = Pages {
     usage: table!(usage),
     version: "gufi 0.1.0\n",
     manual: table!(manual),
@@ -143,7 +143,7 @@ fn command_page(commands: &'static [CommandPage], name: &str) -> Option<&'static
 
 /// The page that the words ask for, where they ask for one.
 #[tactic(auto, unfolding(crate::specs::Pages::page_of))]
-pub(crate) fn page(pages: &Pages, words: &[String]) -> Option<&'static str>
+pub fn page(pages: &Pages, words: &[String]) -> Option<&'static str>
     ensures { option_copied result ≡ page_of pages.now (texts words.now) }
 {
     match words {

@@ -5,8 +5,8 @@ ghost use Rattle.gufi_io.specs.Causes.{Rose};
 ghost use Rattle.gufi_words.specs.WordTexts.{texts};
 ghost use Rattle.gufi_top.specs.Verdict.{are_one_shot, may_refuse_words};
 ghost use Rattle.gufi_top.specs.Ends.{IsVerdictStatus, Ended, WriteFaulted, BrokenOff, TakesNote, read_fault_note, memory_note};
-ghost use Rattle.gufi.specs.Pages.{page_of};
-ghost use Rattle.gufi.specs.Shown.{IsShown, CutShort};
+ghost use Rattle.gufi_help.specs.Pages.{page_of};
+ghost use Rattle.gufi_help.specs.Shown.{IsShown, CutShort};
 
 use crate::pages::{Pages, page};
 use gufi_io::{Gate, Shelf, Sink, write_whole};
@@ -30,7 +30,7 @@ fn show<K: Sink>(text: &str, out: &mut K, notes: &mut K) -> u8
 }
 
 /// Says that there is no memory to collect the words in, and gives the status of that.
-pub(crate) fn without_words<K: Sink>(notes: &mut K) -> u8
+pub fn without_words<K: Sink>(notes: &mut K) -> u8
     ensures status { result ≡ 7 }
     ensures noted { TakesNote K.Sink notes.old notes.new memory_note }
 {
@@ -40,7 +40,7 @@ pub(crate) fn without_words<K: Sink>(notes: &mut K) -> u8
 }
 
 /// Shows the page that the words ask for. All other words are `gufi_run`'s, in full.
-pub(crate) fn run<R: Threads + Wait + Sync, F: Shelf, K: Sink, G: Gate + Sync>(
+pub fn run<R: Threads + Wait + Sync, F: Shelf, K: Sink, G: Gate + Sync>(
     rt: &R,
     alloc: Global,
     pages: &Pages,

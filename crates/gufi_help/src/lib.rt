@@ -1,0 +1,12 @@
+//! The pages of help, version, manual and completions, and one run of the program.
+//!
+//! Contracts see the pages as their texts, and a run as a page shown, or as what `gufi_top` promises of the words.
+//! It stands on `gufi_top`; the program hands it the system's files and streams.
+#![tactic(auto)]
+
+mod commands;
+mod pages;
+mod program;
+
+pub use pages::{CommandPage, PAGES, Pages, page};
+pub use program::{run, without_words};
