@@ -1,25 +1,13 @@
-//! Worked runs of the top call over files in memory, and nothing else.
+//! Runs of the top call that a gate watches or holds, or whose text the schedule chooses, and nothing else.
 //!
-//! They stand beside `gufi_top` so that a run more doesn't prove the top call anew.
+//! What each other run gives is told as data, in `gufi_cases`.
 #![tactic(auto)]
 
 #[cfg(test)]
-mod acl_tests;
-#[cfg(test)]
-mod agg_tests;
-#[cfg(test)]
-mod attribute_tests;
+mod beside_tests;
 #[cfg(test)]
 mod find_tests;
 #[cfg(test)]
-mod image_tests;
-#[cfg(test)]
 mod lane_tests;
 #[cfg(test)]
-mod query_tests;
-#[cfg(test)]
-mod report_tests;
-#[cfg(test)]
-mod session_tests;
-#[cfg(test)]
-mod tests;
+mod runs;
