@@ -1,8 +1,8 @@
 ghost use Rattle.gufi_base.specs.Rows.{StandsForSome};
 
-use crate::asking::{asked, opened};
+use crate::asking::{asked, assert_answers, opened, word_of};
 use gufi_base::{Bytes, Kind, Meta, RowRef};
-use gufi_find::{FindError, FindExpr, FindKind, read_find};
+use gufi_find::{FindError, FindExpr, read_find};
 use gufi_users::{Users, read_group, read_passwd};
 use std::alloc::{AllocError, Global};
 use std::test::Fail;
@@ -21,11 +21,20 @@ fn users(alloc: Global) -> Result<Users, Fail> {
     Ok(Users::of(alloc, passwd, groups)?)
 }
 
-/// An expression at second 200,000, where ana is user 1001 and lab is group 500.
+/// What words are read to, where ana is user 1001 and lab is group 500.
+fn read_words(
+    alloc: Global,
+    words: &[Bytes],
+    now: Option<i64>,
+) -> Result<Result<FindExpr, FindError>, Fail> {
+    let users = users(alloc)?;
+    Ok(read_find(alloc, words, &users, now))
+}
+
+/// An expression at second 200,000.
 pub(crate) fn expression(alloc: Global, line: &str) -> Result<FindExpr, Fail> {
     let words = words_of(alloc, line)?;
-    let users = users(alloc)?;
-    Ok(read_find(alloc, words.as_slice(), &users, Some(200000))?)
+    Ok(read_words(alloc, words.as_slice(), Some(200000))??)
 }
 
 fn meta(size: u64) -> Meta {
@@ -59,131 +68,123 @@ fn run_file(meta: &Meta) -> RowRef<'_>
     }
 }
 
-/// The size of a file in bytes, its depth, whether the expression is true of it, and the expression.
+fn is_true(expression: &FindExpr, size: u64, depth: u32) -> bool {
+    let meta = meta(size);
+    expression.sat(run_file(&meta), depth)
+}
+
+/// Whether an expression is true: behind the size of a file in bytes and its depth, each with a comma.
+fn truth_of(alloc: Global, asked: &str) -> Result<String, Fail> {
+    let (size, rest) = asked.split_once(',').ok_or("size")?;
+    let (depth, words) = rest.split_once(',').ok_or("depth")?;
+    let (size, depth) = (size.parse()?, depth.parse()?);
+    let expression = expression(alloc, words)?;
+    word_of(alloc, is_true(&expression, size, depth))
+}
+
+/// Whether the expression is true of a file, its size in bytes, its depth, and the expression.
 fn truths() -> &'static str {
     "\
-0,1,true,
-0,1,false,-size 1
-1,1,true,-size 1
-512,1,true,-size 1
-513,1,false,-size 1
-0,1,true,-size -1
-1,1,false,-size -1
-2000000,1,true,-name *.h5 -size +2048
-1048576,1,false,-name *.h5 -size +2048
-1048576,1,true,-size +2047
-1048576,1,true,-size 1M
-513,1,true,-size 513c
-0,1,true,-path /a/*.h5
-0,1,false,-path *.h
-0,1,true,-type d -type f -o -type f
-0,1,true,-type f -o -type f -type d
-0,1,false,( -type f -o -type f ) -type d
-0,1,true,! -type d -a ! ! -links +1
-0,1,false,! ( -type d -o -size 0 )
-0,1,true,-perm 640
-0,1,true,-perm -600
-0,1,false,-perm 600
-0,1,false,-perm -601
-0,1,true,-atime 0
-0,1,true,-mtime 1
-0,1,false,-ctime +1
-0,1,true,-user ana
-0,1,false,-user 1002
-0,1,false,-group lab
-0,1,true,-group 501
-0,1,false,-nouser
-0,1,true,-nogroup
-0,1,false,-mindepth 2
-0,2,true,-mindepth 2
-0,1,true,-maxdepth 1
-0,2,false,-maxdepth 1
-0,2,false,-maxdepth 9 -maxdepth 1
-0,2,true,-maxdepth 1 -maxdepth 9
+true;0,1,
+false;0,1,-size 1
+true;1,1,-size 1
+true;512,1,-size 1
+false;513,1,-size 1
+true;0,1,-size -1
+false;1,1,-size -1
+true;2000000,1,-name *.h5 -size +2048
+false;1048576,1,-name *.h5 -size +2048
+true;1048576,1,-size +2047
+true;1048576,1,-size 1M
+true;513,1,-size 513c
+true;0,1,-path /a/*.h5
+false;0,1,-path *.h
+true;0,1,-type d -type f -o -type f
+true;0,1,-type f -o -type f -type d
+false;0,1,( -type f -o -type f ) -type d
+true;0,1,! -type d -a ! ! -links +1
+false;0,1,! ( -type d -o -size 0 )
+true;0,1,-perm 640
+true;0,1,-perm -600
+false;0,1,-perm 600
+false;0,1,-perm -601
+true;0,1,-atime 0
+true;0,1,-mtime 1
+false;0,1,-ctime +1
+true;0,1,-user ana
+false;0,1,-user 1002
+false;0,1,-group lab
+true;0,1,-group 501
+false;0,1,-nouser
+true;0,1,-nogroup
+false;0,1,-mindepth 2
+true;0,2,-mindepth 2
+true;0,1,-maxdepth 1
+false;0,2,-maxdepth 1
+false;0,2,-maxdepth 9 -maxdepth 1
+true;0,2,-maxdepth 1 -maxdepth 9
 "
 }
 
 #[test]
 fn expressions_are_true_as_posix_says(rt: HostRuntime) -> Result<(), Fail> {
-    for line in truths().lines() {
-        let (size, rest) = line.split_once(',').ok_or("size")?;
-        let (depth, rest) = rest.split_once(',').ok_or("depth")?;
-        let (is_true, words) = rest.split_once(',').ok_or("truth")?;
-        let expression = expression(rt.alloc(), words)?;
-        let meta = meta(size.parse()?);
-        let found = expression.sat(run_file(&meta), depth.parse()?);
-        assert_eq!(rt; found, is_true == "true", "{line}");
+    assert_answers(&rt, truths(), truth_of)
+}
+
+fn fault_of(alloc: Global, line: &str) -> Result<String, Fail> {
+    let words = words_of(alloc, line)?;
+    match read_words(alloc, words.as_slice(), None)?.err() {
+        Some(FindError::Fault { word, kind }) => Ok(format!(in alloc; "{word} {kind}")?),
+        _ => Err(Fail::from("no fault")),
     }
-    Ok(())
 }
 
 /// The number of the faulty word and its fault, and the words.
 fn faults() -> &'static str {
     "\
-2 MissingArgument,-name
-4 MissingArgument,-type f -o
-2 BadNumber,-size 1x
-2 BadNumber,-perm u+x -foo
-2 BadPattern,-name [b-a]
-2 BadType,-type x
-2 UnknownUser,-user eve
-2 UnknownGroup,-group eve
-1 NoNow,-atime
-1 UnknownPrimary,-foo -size x
-1 Parenthesis,)
-4 Parenthesis,! -type f )
-4 Parenthesis,( -type f
+2 MissingArgument;-name
+4 MissingArgument;-type f -o
+2 BadNumber;-size 1x
+2 BadNumber;-perm u+x -foo
+2 BadPattern;-name [b-a]
+2 BadType;-type x
+2 UnknownUser;-user eve
+2 UnknownGroup;-group eve
+1 NoNow;-atime
+1 UnknownPrimary;-foo -size x
+1 Parenthesis;)
+4 Parenthesis;! -type f )
+4 Parenthesis;( -type f
 "
 }
 
 #[test]
 fn the_first_faulty_word_is_named(rt: HostRuntime) -> Result<(), Fail> {
-    let alloc = rt.alloc();
-    let users = users(alloc)?;
-    for line in faults().lines() {
-        let (fault, words) = line.split_once(',').ok_or("fault")?;
-        let words = words_of(alloc, words)?;
-        let error = read_find(alloc, words.as_slice(), &users, None).err();
-        let Some(FindError::Fault { word, kind }) = error else {
-            return Err(Fail::from("no fault"));
-        };
-        let found = format!(in alloc; "{word} {kind}")?;
-        assert_eq!(rt; found.as_str(), fault, "{line}");
-    }
-    Ok(())
+    assert_answers(&rt, faults(), fault_of)
+}
+
+/// The fault of words that open 64 constructs, and then go on.
+fn fault_behind_64(alloc: Global, rest: &str) -> Result<String, Fail> {
+    fault_of(alloc, &opened(alloc, "", "! ( ", rest)?)
 }
 
 #[test]
 fn at_most_64_constructs_are_open(rt: HostRuntime) -> Result<(), Fail> {
-    let alloc = rt.alloc();
-    let users = users(alloc)?;
-    let mut words = words_of(alloc, &opened(alloc, "", "! ( ")?)?;
-    let open = read_find(alloc, words.as_slice(), &users, None).err();
-    assert_eq!(rt;
-        open,
-        Some(FindError::Fault {
-            word: 65,
-            kind: FindKind::MissingArgument
-        })
-    );
-    words.push(Bytes::from_slice(alloc, b"!")?)?;
-    let deep = read_find(alloc, words.as_slice(), &users, None).err();
-    assert_eq!(rt;
-        deep,
-        Some(FindError::Fault {
-            word: 65,
-            kind: FindKind::TooDeep
-        })
-    );
-    let printed = format!(in alloc; "{}", FindKind::TooDeep)?;
-    assert_eq!(rt; printed.as_str(), "TooDeep");
-    Ok(())
+    assert_answers(&rt, "65 MissingArgument;\n65 TooDeep;!\n", fault_behind_64)
+}
+
+fn is_met(alloc: Global, expression: &FindExpr) -> Result<bool, Fail> {
+    let meta = meta(0);
+    asked(alloc, &expression.question(), run_file(&meta), 1)
+}
+
+fn words_are_met(alloc: Global, words: &str) -> Result<bool, Fail> {
+    let expression = expression(alloc, words)?;
+    is_met(alloc, &expression)
 }
 
 #[test]
 fn an_expression_is_a_question(rt: HostRuntime) -> Result<(), Fail> {
-    let expression = expression(rt.alloc(), "-size 0")?;
-    let meta = meta(0);
-    assert!(rt; asked(rt.alloc(), &expression.question(), run_file(&meta), 1)?);
+    assert!(rt; words_are_met(rt.alloc(), "-size 0")?);
     Ok(())
 }

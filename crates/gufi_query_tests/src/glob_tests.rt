@@ -1,30 +1,38 @@
-use gufi_glob::{Glob, GlobFault};
+use crate::asking::{assert_answers, word_of};
+use gufi_glob::Glob;
+use std::alloc::Global;
 use std::test::Fail;
+
+/// Whether a pattern matches a text, behind a semicolon.
+fn match_of(alloc: Global, asked: &str) -> Result<String, Fail> {
+    let (pattern, text) = asked.split_once(';').ok_or("text")?;
+    let glob = Glob::read(alloc, pattern.as_bytes())?;
+    word_of(alloc, glob.matches(&[], text.as_bytes()))
+}
+
+/// Whether a pattern matches, the pattern, and the text.
+fn matches() -> &'static str {
+    "\
+true;*.h5;run 1.h5
+false;*.h5;run.h5x
+true;*.h5;.h5
+true;*;
+true;;
+false;?;
+true;a?c;abc
+true;a*b*c;aXbYbc
+false;a*b*c;acb
+true;[]-a];^
+true;[!a-c-]x;dx
+false;[!a-c-]x;-x
+true;[a\\];[a]
+true;\\*;*
+false;\\*;a
+true;[\\]];]
+"
+}
 
 #[test]
 fn patterns_match_as_posix_says(rt: HostRuntime) -> Result<(), Fail> {
-    let table = [
-        ("*.h5", "run 1.h5", true),
-        ("*.h5", "run.h5x", false),
-        ("*.h5", ".h5", true),
-        ("*", "", true),
-        ("", "", true),
-        ("?", "", false),
-        ("a?c", "abc", true),
-        ("a*b*c", "aXbYbc", true),
-        ("a*b*c", "acb", false),
-        ("[]-a]", "^", true),
-        ("[!a-c-]x", "dx", true),
-        ("[!a-c-]x", "-x", false),
-        ("[a\\]", "[a]", true),
-        ("\\*", "*", true),
-        ("\\*", "a", false),
-        ("[\\]]", "]", true),
-    ];
-    for (pattern, text, is_match) in table {
-        let glob = Glob::read(rt.alloc(), pattern.as_bytes())?;
-        let found = glob.matches(&[], text.as_bytes());
-        assert_eq!(rt; found, is_match, "{pattern}");
-    }
-    Ok(())
+    assert_answers(&rt, matches(), match_of)
 }

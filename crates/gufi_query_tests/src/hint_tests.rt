@@ -1,7 +1,8 @@
-use gufi_base::{Bytes, Hint};
-use gufi_find::read_find;
-use gufi_select::read_select;
-use gufi_users::{Users, read_group, read_passwd};
+use crate::asking::assert_answers;
+use crate::find_tests::expression;
+use gufi_base::Hint;
+use gufi_find::FindExpr;
+use gufi_select::{Select, read_select};
 use std::alloc::Global;
 use std::test::Fail;
 
@@ -15,6 +16,16 @@ fn printed(alloc: Global, hints: &[Hint]) -> Result<String, Fail> {
         text.push_str(&format!(in alloc; "{hint:?}")?)?;
     }
     Ok(text)
+}
+
+fn hints_of_expression(alloc: Global, expression: &FindExpr) -> Result<String, Fail> {
+    let hints = expression.hints(alloc)?;
+    printed(alloc, hints.as_slice())
+}
+
+fn hints_of_words(alloc: Global, words: &str) -> Result<String, Fail> {
+    let expression = expression(alloc, words)?;
+    hints_of_expression(alloc, &expression)
 }
 
 /// The hints of an expression, and its words. The moment is second 200,000, ana is user 1001, and lab is group 500.
@@ -52,78 +63,71 @@ Unknown Kind(Link) And;-maxdepth 1 -type l
 
 #[test]
 fn expressions_tell_what_sums_bound(rt: HostRuntime) -> Result<(), Fail> {
-    let alloc = rt.alloc();
-    let passwd = read_passwd(alloc, b"ana:x:1001:1001:::\n")?;
-    let groups = read_group(alloc, b"lab:x:500:ana\n")?;
-    let users = Users::of(alloc, passwd, groups)?;
-    for line in expressions().lines() {
-        let (wanted, text) = line.split_once(';').ok_or("hints")?;
-        let mut words = Vec::new(alloc);
-        for word in text.split_whitespace() {
-            words.push(Bytes::from_slice(alloc, word.as_bytes())?)?;
-        }
-        let expression = read_find(alloc, words.as_slice(), &users, Some(200000))?;
-        let hints = expression.hints(alloc)?;
-        let found = printed(alloc, hints.as_slice())?;
-        assert_eq!(rt; found.as_str(), wanted, "{line}");
-    }
-    Ok(())
+    assert_answers(&rt, expressions(), hints_of_words)
 }
 
-/// A table, the hints of a SELECT from it, and its condition, where it has one.
+fn hints_of_select(alloc: Global, select: &Select) -> Result<String, Fail> {
+    let hints = select.hints(alloc)?;
+    printed(alloc, hints.as_slice())
+}
+
+/// The text that asks for all columns of a table, where a condition is true, if there is one.
+fn select_text(alloc: Global, table: &str, condition: &str) -> Result<String, Fail> {
+    if condition.is_empty() {
+        return Ok(format!(in alloc; "SELECT * FROM {table}")?);
+    }
+    Ok(format!(in alloc; "SELECT * FROM {table} WHERE {condition}")?)
+}
+
+/// The hints of a SELECT from a table with a condition, behind a semicolon.
+fn hints_of_rows(alloc: Global, asked: &str) -> Result<String, Fail> {
+    let (table, condition) = asked.split_once(';').ok_or("condition")?;
+    let text = select_text(alloc, table, condition)?;
+    let select = read_select(alloc, text.as_bytes())?;
+    hints_of_select(alloc, &select)
+}
+
+/// The hints of a SELECT, its table, and its condition, where it has one.
 fn selects() -> &'static str {
     "\
-rows;SizeIn(0, 18446744073709551615);
-entries;Kind(Dir) Not;
-summary;Kind(Dir);
-rows;SizeIn(7, 7);size = 7
-rows;SizeIn(7, 7) Not;size <> 7
-rows;SizeIn(7, 7) Not;size != 7
-rows;SizeIn(0, 6);size < 7
-rows;SizeIn(1, 0);size < 0
-rows;SizeIn(0, 0);size <= 0
-rows;SizeIn(8, 18446744073709551615);size > 7
-rows;SizeIn(1, 0);size > 18446744073709551615
-rows;SizeIn(18446744073709551615, 18446744073709551615);size >= 18446744073709551615
-rows;SizeIn(1, 0);size = -1
-rows;SizeIn(0, 18446744073709551615);size >= -5
-rows;MtimeIn(-5, -5);mtime = -5
-rows;MtimeIn(-9223372036854775808, -6);mtime < -5
-rows;MtimeIn(1, 0);mtime < -9223372036854775808
-rows;MtimeIn(1, 0);mtime > 9223372036854775807
-rows;MtimeIn(1, 0);mtime = 9223372036854775808
-rows;UidIn(0, 4294967295);uid <= 4294967295
-rows;UidIn(1, 0);uid = 4294967296
-rows;GidIn(4294967295, 4294967295);gid > 4294967294
-rows;Kind(File);type = 'f'
-rows;Kind(File) Not;type <> 'f'
-rows;Unknown;type = 'ff'
-rows;Unknown;type <> 'x'
-rows;Unknown;type > 'd'
-rows;Unknown;level <> 1
-rows;Unknown;name REGEXP 'x'
-rows;SizeIn(1, 1) Unknown UidIn(2, 2) And Or;size = 1 OR name = 'x' AND uid = 2
-rows;SizeIn(1, 1) Unknown Or UidIn(2, 2) And;(size = 1 OR name = 'x') AND uid = 2
-rows;SizeIn(1, 1) Not Not;NOT size <> 1
-entries;SizeIn(1, 1) UidIn(2, 2) Or Kind(Dir) Not And;size = 1 OR uid = 2
-summary;SizeIn(1, 1) Kind(Dir) And;size = 1
+SizeIn(0, 18446744073709551615);rows;
+Kind(Dir) Not;entries;
+Kind(Dir);summary;
+SizeIn(7, 7);rows;size = 7
+SizeIn(7, 7) Not;rows;size <> 7
+SizeIn(7, 7) Not;rows;size != 7
+SizeIn(0, 6);rows;size < 7
+SizeIn(1, 0);rows;size < 0
+SizeIn(0, 0);rows;size <= 0
+SizeIn(8, 18446744073709551615);rows;size > 7
+SizeIn(1, 0);rows;size > 18446744073709551615
+SizeIn(18446744073709551615, 18446744073709551615);rows;size >= 18446744073709551615
+SizeIn(1, 0);rows;size = -1
+SizeIn(0, 18446744073709551615);rows;size >= -5
+MtimeIn(-5, -5);rows;mtime = -5
+MtimeIn(-9223372036854775808, -6);rows;mtime < -5
+MtimeIn(1, 0);rows;mtime < -9223372036854775808
+MtimeIn(1, 0);rows;mtime > 9223372036854775807
+MtimeIn(1, 0);rows;mtime = 9223372036854775808
+UidIn(0, 4294967295);rows;uid <= 4294967295
+UidIn(1, 0);rows;uid = 4294967296
+GidIn(4294967295, 4294967295);rows;gid > 4294967294
+Kind(File);rows;type = 'f'
+Kind(File) Not;rows;type <> 'f'
+Unknown;rows;type = 'ff'
+Unknown;rows;type <> 'x'
+Unknown;rows;type > 'd'
+Unknown;rows;level <> 1
+Unknown;rows;name REGEXP 'x'
+SizeIn(1, 1) Unknown UidIn(2, 2) And Or;rows;size = 1 OR name = 'x' AND uid = 2
+SizeIn(1, 1) Unknown Or UidIn(2, 2) And;rows;(size = 1 OR name = 'x') AND uid = 2
+SizeIn(1, 1) Not Not;rows;NOT size <> 1
+SizeIn(1, 1) UidIn(2, 2) Or Kind(Dir) Not And;entries;size = 1 OR uid = 2
+SizeIn(1, 1) Kind(Dir) And;summary;size = 1
 "
 }
 
 #[test]
 fn selects_tell_what_sums_bound(rt: HostRuntime) -> Result<(), Fail> {
-    let alloc = rt.alloc();
-    for line in selects().lines() {
-        let (table, rest) = line.split_once(';').ok_or("table")?;
-        let (wanted, condition) = rest.split_once(';').ok_or("hints")?;
-        let mut text = format!(in alloc; "SELECT * FROM {table}")?;
-        if !condition.is_empty() {
-            text.push_str(&format!(in alloc; " WHERE {condition}")?)?;
-        }
-        let select = read_select(alloc, text.as_bytes())?;
-        let hints = select.hints(alloc)?;
-        let found = printed(alloc, hints.as_slice())?;
-        assert_eq!(rt; found.as_str(), wanted, "{line}");
-    }
-    Ok(())
+    assert_answers(&rt, selects(), hints_of_rows)
 }

@@ -5,18 +5,30 @@ use gufi_users::{Users, read_group, read_passwd};
 use std::alloc::Global;
 use std::test::Fail;
 
-/// A session's plan, or why there is none.
-fn plan_of(alloc: Global, text: &[u8]) -> Result<Result<SessionPlan, ScriptError>, Fail> {
+fn users(alloc: Global) -> Result<Users, Fail> {
     let passwd = read_passwd(alloc, b"ana:x:1001:500:::\n")?;
     let groups = read_group(alloc, b"lab:x:501:ana\n")?;
-    let users = Users::of(alloc, passwd, groups)?;
-    let script = read_script(alloc, text)?;
+    Ok(Users::of(alloc, passwd, groups)?)
+}
+
+fn plan_with(
+    alloc: Global,
+    users: &Users,
+    text: &str,
+) -> Result<Result<SessionPlan, ScriptError>, Fail> {
+    let script = read_script(alloc, text.as_bytes())?;
     let setup = Setup {
-        users: &users,
+        users,
         now: Some(200000),
         delim: b'|',
     };
     Ok(plan_session(alloc, script, &setup))
+}
+
+/// A session's plan, or why there is none.
+fn plan_of(alloc: Global, text: &str) -> Result<Result<SessionPlan, ScriptError>, Fail> {
+    let users = users(alloc)?;
+    plan_with(alloc, &users, text)
 }
 
 fn form_of(search: &Search) -> &'static str {
@@ -27,88 +39,104 @@ fn form_of(search: &Search) -> &'static str {
     }
 }
 
+fn ask_line(alloc: Global, lane: u32, search: &Search) -> Result<String, Fail> {
+    let uid = search.who.uid;
+    let depth = search.start.depth();
+    let form = form_of(search);
+    Ok(format!(in alloc; "ask {lane} {uid} {depth} {form}\n")?)
+}
+
 /// An act as a line.
 fn line_of(alloc: Global, act: &PlannedAct) -> Result<String, Fail> {
     match act {
         PlannedAct::Publish { delim, limit, file } => {
             let file = file.as_str();
-            Ok(format!(in alloc; "publish {delim} {limit} {file}")?)
+            Ok(format!(in alloc; "publish {delim} {limit} {file}\n")?)
         }
-        PlannedAct::Rollup { limit } => Ok(format!(in alloc; "rollup {limit}")?),
+        PlannedAct::Rollup { limit } => Ok(format!(in alloc; "rollup {limit}\n")?),
         PlannedAct::Refresh { delim, path, file } => {
             let depth = path.depth();
             let file = file.as_str();
-            Ok(format!(in alloc; "refresh {delim} {depth} {file}")?)
+            Ok(format!(in alloc; "refresh {delim} {depth} {file}\n")?)
         }
         PlannedAct::Ask { lane, search } => {
             let shared = search.share()?;
-            let search = shared.get();
-            let uid = search.who.uid;
-            let depth = search.start.depth();
-            let form = form_of(search);
-            Ok(format!(in alloc; "ask {lane} {uid} {depth} {form}")?)
+            ask_line(alloc, *lane, shared.get())
         }
     }
 }
 
+/// The acts of each phase, behind a line that tells of the phase.
+fn lines_of(alloc: Global, plan: &SessionPlan) -> Result<String, Fail> {
+    let mut text = String::new(alloc);
+    for phase in plan.phases() {
+        text.push_str("phase\n")?;
+        for act in phase.as_slice() {
+            text.push_str(line_of(alloc, act)?.as_str())?;
+        }
+    }
+    Ok(text)
+}
+
+fn planned(alloc: Global, text: &str) -> Result<String, Fail> {
+    let plan = plan_of(alloc, text)??;
+    lines_of(alloc, &plan)
+}
+
 #[test]
 fn acts_are_planned_by_their_phases(rt: HostRuntime) -> Result<(), Fail> {
-    let alloc = rt.alloc();
-    let text =
-        b"publish 10 a\nask 1 ana / find -name x\nrefresh /p/q b\nbarrier\n# none\nask 2 102:5 /p total\nrollup 5\n\
-ask 16 0 /p/q query SELECT name FROM rows WHERE name REGEXP 'x'\nbarrier\n";
-    let plan = plan_of(alloc, text)??;
-    let wanted = [
-        (
-            3,
-            ["publish 124 10 a", "ask 1 1001 0 find", "refresh 124 2 b"],
-        ),
-        (3, ["ask 2 102 1 total", "rollup 5", "ask 16 0 2 query"]),
-        (0, ["", "", ""]),
-    ];
-    let phases = plan.phases();
-    assert_eq!(rt; phases.len(), wanted.len());
-    for (phase, (count, wanted)) in phases.iter().zip(wanted) {
-        let mut place = 0;
-        for act in phase.as_slice() {
-            let line = line_of(alloc, act)?;
-            assert!(rt; place < 3);
-            assert_eq!(rt; line.as_str(), wanted[place]);
-            place += 1;
-        }
-        assert_eq!(rt; place, count);
-    }
+    let script = "\
+publish 10 a
+ask 1 ana / find -name x
+refresh /p/q b
+barrier
+# none
+ask 2 102:5 /p total
+rollup 5
+ask 16 0 /p/q query SELECT name FROM rows WHERE name REGEXP 'x'
+barrier
+";
+    let wanted = "\
+phase
+publish 124 10 a
+ask 1 1001 0 find
+refresh 124 2 b
+phase
+ask 2 102 1 total
+rollup 5
+ask 16 0 2 query
+phase
+";
+    assert_eq!(rt; planned(rt.alloc(), script)?.as_str(), wanted);
     Ok(())
+}
+
+fn fault_of(alloc: Global, text: &str) -> Result<Option<ScriptError>, Fail> {
+    Ok(plan_of(alloc, text)?.err())
 }
 
 #[test]
 fn the_first_fault_counts(rt: HostRuntime) -> Result<(), Fail> {
     let faults = [
-        (b"ask 1 nobody / find -nope".as_slice(), 1, ScriptKind::User),
+        ("ask 1 nobody / find -nope", 1, ScriptKind::User),
+        ("barrier\nask 1 102 / find -nope", 2, ScriptKind::Query),
         (
-            b"barrier\nask 1 102 / find -nope".as_slice(),
+            "\nask 1 102 / query SELECT nope FROM rows\nask 1 nobody / find",
             2,
             ScriptKind::Query,
         ),
-        (
-            b"\nask 1 102 / query SELECT nope FROM rows\nask 1 nobody / find".as_slice(),
-            2,
-            ScriptKind::Query,
-        ),
-        (b"ask 1 102 / total (".as_slice(), 1, ScriptKind::Query),
+        ("ask 1 102 / total (", 1, ScriptKind::Query),
     ];
     for (text, line, kind) in faults {
-        let plan = plan_of(rt.alloc(), text)?;
-        assert_eq!(rt; plan.err(), Some(ScriptError::Fault { line, kind }));
+        let fault = fault_of(rt.alloc(), text)?;
+        assert_eq!(rt; fault, Some(ScriptError::Fault { line, kind }));
     }
     Ok(())
 }
 
 fn crosses<T: Send + Sync>(_value: &T) {}
 
-#[test]
-fn searches_cross_threads(rt: HostRuntime) -> Result<(), Fail> {
-    let plan = plan_of(rt.alloc(), b"ask 1 102 / query SELECT name FROM rows")??;
+fn searches_cross(plan: &SessionPlan) {
     for phase in plan.phases() {
         for act in phase.as_slice() {
             if let PlannedAct::Ask { search, .. } = act {
@@ -116,5 +144,11 @@ fn searches_cross_threads(rt: HostRuntime) -> Result<(), Fail> {
             }
         }
     }
+}
+
+#[test]
+fn searches_cross_threads(rt: HostRuntime) -> Result<(), Fail> {
+    let plan = plan_of(rt.alloc(), "ask 1 102 / query SELECT name FROM rows")??;
+    searches_cross(&plan);
     Ok(())
 }

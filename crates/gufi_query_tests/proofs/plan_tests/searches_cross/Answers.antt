@@ -1,6 +1,6 @@
 use denote.Param.Send.{sendable}
 use Rattle.gufi_plan.proofs.Sharing.{shared_send, shared_sync}
-use Rattle.gufi_query_tests.proofs.plan_tests.searches_cross_threads.Goals as goal
+use Rattle.gufi_query_tests.proofs.plan_tests.searches_cross.Goals as goal
 
 -- a search may be asked in another thread, and in many at once
 pub crosses-requires-send-T : goal.crosses-requires-send-T
