@@ -1,4 +1,6 @@
 //! The act that a line of a script is, its user and its query read.
+//!
+//! A query is let go by a call: what is let go at an early exit is proved there anew.
 ghost use Rattle.std.specs.Prelude.{◌≡◌, ◌∷◌, ◌++◌, IfOk, OnOk};
 ghost use Rattle.std.specs.List.{flat_map};
 ghost use Rattle.gufi_base.specs.Basics.{GivesUnless, result_map_err};
@@ -93,7 +95,10 @@ fn search_of(
         return Err(ActFault::Kind(ScriptKind::User));
     };
     let query = query_of(alloc, setup, form, words)?;
-    let ask = ask_of(alloc, form, words)?;
+    let Ok(ask) = ask_of(alloc, form, words) else {
+        drop(query);
+        return Err(ActFault::Memory);
+    };
     let search = Search {
         who,
         start,
