@@ -10,14 +10,16 @@ fn snapshot_of(alloc: Global, trace: &[u8], limit: u64) -> Result<Snapshot, Fail
     Ok(Snapshot::build_uncounted(alloc, tree, limit)?)
 }
 
+/// The image of a trace's tree.
+fn image_of(alloc: Global, trace: &[u8], limit: u64) -> Result<Vec<u8>, Fail> {
+    let snap = snapshot_of(alloc, trace, limit)?;
+    Ok(write_image(alloc, &snap)?)
+}
+
 const LONE_ROOT: &[u8] = b"/|d|1|493|2|101|100|4096|4096|8|10|20|30|
 ";
 
-/// A root alone, and the 110 bytes of its image.
-fn lone_root(alloc: Global) -> Result<Snapshot, Fail> {
-    snapshot_of(alloc, LONE_ROOT, 0)
-}
-
+/// The 110 bytes of the image of a root alone.
 fn lone_image() -> &'static [u8] {
     b"GUFIX\0\x01\0\0\0\0\0\0\0\0\0\x01\0\0\0\0\0\0\0\xff\xff\xff\xff\0\0\x01\0\0\0\0\0\0\0\xed\x01\x02\0\0\0\0\0\0\0\x65\0\0\0\x64\0\0\0\0\x10\0\0\0\0\0\0\0\x10\0\0\0\0\0\0\x08\0\0\0\0\0\0\0\x0a\0\0\0\0\0\0\0\x14\0\0\0\0\0\0\0\x1e\0\0\0\0\0\0\0\0\0\0\0\0\0"
 }
@@ -54,9 +56,9 @@ const WITH_A_FOLD: &[u8] = b"/|d|1|493|2|101|100|4096|4096|8|10|20|30|
 /c/x|f|3|420|2|102|200|4096|4096|8|10|20|30|
 ";
 
-/// A root that may not be rolled up, since few may list the directory in it, which may.
-fn with_a_fold(alloc: Global) -> Result<Snapshot, Fail> {
-    snapshot_of(alloc, WITH_A_FOLD, 100)
+/// The image of a root that may not be rolled up, since few may list the directory in it, which may.
+fn with_a_fold(alloc: Global) -> Result<Vec<u8>, Fail> {
+    image_of(alloc, WITH_A_FOLD, 100)
 }
 
 const WIDE: &[u8] = b"/|d|1|493|2|101|100|4096|4096|8|10|20|30|
@@ -68,7 +70,7 @@ const WIDE: &[u8] = b"/|d|1|493|2|101|100|4096|4096|8|10|20|30|
 
 /// The image of a root with the files c and e and the directories m and n.
 fn wide_image(alloc: Global) -> Result<Vec<u8>, Fail> {
-    Ok(write_image(alloc, &snapshot_of(alloc, WIDE, 0)?)?)
+    image_of(alloc, WIDE, 0)
 }
 
 /// The fault of some bytes, of which there are few.
@@ -125,7 +127,12 @@ fn dirs_again(alloc: Global, image: &[u8]) -> Result<Option<u32>, Fail> {
         return Ok(None);
     }
     let snap = read_image(alloc, image)?;
-    if write_image(alloc, &snap)?.as_slice() != image {
+    dirs_where_written(alloc, &snap, image)
+}
+
+/// The directories of a snapshot, where this is its image.
+fn dirs_where_written(alloc: Global, snap: &Snapshot, image: &[u8]) -> Result<Option<u32>, Fail> {
+    if write_image(alloc, snap)?.as_slice() != image {
         return Ok(None);
     }
     Ok(Some(snap.tree().dirs()))
@@ -134,12 +141,9 @@ fn dirs_again(alloc: Global, image: &[u8]) -> Result<Option<u32>, Fail> {
 #[test]
 fn an_image_is_written_byte_for_byte(rt: HostRuntime) -> Result<(), Fail> {
     let alloc = rt.alloc();
-    let image = write_image(alloc, &lone_root(alloc)?)?;
-    assert!(rt; image.as_slice() == lone_image());
-    let named = write_image(alloc, &snapshot_of(alloc, NAMED_ROOT, 0)?)?;
-    assert!(rt; named.as_slice() == named_image());
-    let guarded = write_image(alloc, &snapshot_of(alloc, GUARDED_ROOT, 0)?)?;
-    assert!(rt; guarded.as_slice() == guarded_image());
+    assert!(rt; image_of(alloc, LONE_ROOT, 0)?.as_slice() == lone_image());
+    assert!(rt; image_of(alloc, NAMED_ROOT, 0)?.as_slice() == named_image());
+    assert!(rt; image_of(alloc, GUARDED_ROOT, 0)?.as_slice() == guarded_image());
     Ok(())
 }
 
@@ -149,7 +153,7 @@ fn what_is_read_is_written_again(rt: HostRuntime) -> Result<(), Fail> {
     assert!(rt; dirs_again(alloc, lone_image())? == Some(1));
     assert!(rt; dirs_again(alloc, named_image())? == Some(1));
     assert!(rt; dirs_again(alloc, guarded_image())? == Some(1));
-    let folded = write_image(alloc, &with_a_fold(alloc)?)?;
+    let folded = with_a_fold(alloc)?;
     assert!(rt; dirs_again(alloc, folded.as_slice())? == Some(2));
     assert!(rt;
         is_found(

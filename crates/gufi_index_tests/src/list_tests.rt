@@ -21,10 +21,8 @@ fn last_row(alloc: Global, trace: &[u8]) -> Result<Row, Fail> {
     Ok(Row { path, rec })
 }
 
-#[test]
-fn a_directory_is_printed(rt: HostRuntime) -> Result<(), Fail> {
-    let alloc = rt.alloc();
-    let row = last_row(alloc, b"/|d|1|493|3|101|100|4096|4096|8|10|20|30|\n")?;
+/// What stat prints of a row.
+fn stat_of(alloc: Global, row: &Row) -> Result<Vec<u8>, Fail> {
     let sum = Summary {
         dirs: 2,
         files: 1,
@@ -36,8 +34,18 @@ fn a_directory_is_printed(rt: HostRuntime) -> Result<(), Fail> {
         uid: Some((101, 102)),
         gid: Some((100, 200)),
     };
-    let text = stat_text(alloc, &row.path.as_path_ref(), &row.rec.as_rec_ref(), &sum)?;
-    assert_eq!(rt; text.as_slice(), STAT);
+    let path = row.path.as_path_ref();
+    Ok(stat_text(alloc, &path, &row.rec.as_rec_ref(), &sum)?)
+}
+
+fn stat_of_root(alloc: Global) -> Result<Vec<u8>, Fail> {
+    let row = last_row(alloc, b"/|d|1|493|3|101|100|4096|4096|8|10|20|30|\n")?;
+    stat_of(alloc, &row)
+}
+
+#[test]
+fn a_directory_is_printed(rt: HostRuntime) -> Result<(), Fail> {
+    assert_eq!(rt; stat_of_root(rt.alloc())?.as_slice(), STAT);
     Ok(())
 }
 
@@ -79,11 +87,18 @@ fn two_rows(alloc: Global) -> Result<Vec<Row>, Fail> {
     Ok(rows)
 }
 
+fn listed_with(alloc: Global, users: &Users) -> Result<Vec<u8>, Fail> {
+    let rows = two_rows(alloc)?;
+    Ok(ls_text(alloc, &rows, users, true, false)?)
+}
+
+fn listed(alloc: Global) -> Result<Vec<u8>, Fail> {
+    let users = example(alloc)?;
+    listed_with(alloc, &users)
+}
+
 #[test]
 fn directories_are_listed(rt: HostRuntime) -> Result<(), Fail> {
-    let users = example(rt.alloc())?;
-    let rows = two_rows(rt.alloc())?;
-    let text = ls_text(rt.alloc(), &rows, &users, true, false)?;
-    assert_eq!(rt; text.as_slice(), LISTED);
+    assert_eq!(rt; listed(rt.alloc())?.as_slice(), LISTED);
     Ok(())
 }

@@ -1,30 +1,11 @@
 //! Scripts read, and each fault of a line once.
 use gufi_script::{Act, Form, ScriptError, ScriptKind, read_script};
+use std::process::Abort;
 use std::test::Fail;
 
-#[test]
-fn acts_are_read_by_their_lines(rt: HostRuntime) -> Result<(), Fail> {
-    let text =
-        b"publish 100 a%20b\n# no act\n \t\nrollup 007\nbarrier\nask 16 102:5 //p/./q query SELECT%20* FROM\trows\nrefresh /p//q b";
-    let script = read_script(rt.alloc(), text)?;
-    let acts = script.acts.as_slice();
-    let lines: [u32; 5] = [1, 4, 5, 6, 7];
-    assert_eq!(rt; acts.len(), lines.len());
-    for (act, line) in acts.iter().zip(lines) {
-        assert_eq!(rt; act.0, line);
-    }
-    match &acts[0].1 {
-        Act::Publish { limit, file } => {
-            assert_eq!(rt; *limit, 100);
-            assert_eq!(rt; file.as_str(), "a b");
-        }
-        _ => assert!(rt; false),
-    }
-    match &acts[1].1 {
-        Act::Rollup { limit } => assert_eq!(rt; *limit, 7),
-        _ => assert!(rt; false),
-    }
-    match &acts[3].1 {
+/// Asserts what an ask was read to.
+fn assert_ask<R: Abort>(rt: &R, act: &Act) {
+    match act {
         Act::Ask {
             lane,
             user,
@@ -42,6 +23,27 @@ fn acts_are_read_by_their_lines(rt: HostRuntime) -> Result<(), Fail> {
         }
         _ => assert!(rt; false),
     }
+}
+
+/// Asserts the lines of five acts, and what they were read to.
+fn assert_acts<R: Abort>(rt: &R, acts: &[(u32, Act)]) {
+    let lines: [u32; 5] = [1, 4, 5, 6, 7];
+    assert_eq!(rt; acts.len(), lines.len());
+    for (act, line) in acts.iter().zip(lines) {
+        assert_eq!(rt; act.0, line);
+    }
+    match &acts[0].1 {
+        Act::Publish { limit, file } => {
+            assert_eq!(rt; *limit, 100);
+            assert_eq!(rt; file.as_str(), "a b");
+        }
+        _ => assert!(rt; false),
+    }
+    match &acts[1].1 {
+        Act::Rollup { limit } => assert_eq!(rt; *limit, 7),
+        _ => assert!(rt; false),
+    }
+    assert_ask(rt, &acts[3].1);
     match &acts[4].1 {
         Act::Refresh { path, file } => {
             assert_eq!(rt; path.printed(), b"/p/q".as_slice());
@@ -49,6 +51,14 @@ fn acts_are_read_by_their_lines(rt: HostRuntime) -> Result<(), Fail> {
         }
         _ => assert!(rt; false),
     }
+}
+
+#[test]
+fn acts_are_read_by_their_lines(rt: HostRuntime) -> Result<(), Fail> {
+    let text =
+        b"publish 100 a%20b\n# no act\n \t\nrollup 007\nbarrier\nask 16 102:5 //p/./q query SELECT%20* FROM\trows\nrefresh /p//q b";
+    let script = read_script(rt.alloc(), text)?;
+    assert_acts(&rt, script.acts.as_slice());
     Ok(())
 }
 

@@ -14,9 +14,8 @@ fn example(alloc: Global) -> Result<Users, Fail> {
     Ok(Users::of(alloc, passwd, groups)?)
 }
 
-#[test]
-fn words_name_principals(rt: HostRuntime) -> Result<(), Fail> {
-    let users = example(rt.alloc())?;
+/// Asserts whom words name, and which name nobody.
+fn assert_named<R: AllocGlobal + Abort>(rt: &R, users: &Users) -> Result<(), Fail> {
     for (word, uid, groups) in [
         ("ana", 1001, [1001, 500].as_slice()),
         ("root", 0, [0].as_slice()),
@@ -25,7 +24,7 @@ fn words_name_principals(rt: HostRuntime) -> Result<(), Fail> {
         ("102", 102, [].as_slice()),
     ] {
         let who = users.principal(rt.alloc(), word.as_bytes())?;
-        let who = who.expect(&rt, "a principal");
+        let who = who.expect(rt, "a principal");
         assert_eq!(rt; who.uid, uid);
         assert_eq!(rt; who.groups.as_slice(), groups);
     }
@@ -35,6 +34,12 @@ fn words_name_principals(rt: HostRuntime) -> Result<(), Fail> {
     Ok(())
 }
 
+#[test]
+fn words_name_principals(rt: HostRuntime) -> Result<(), Fail> {
+    let users = example(rt.alloc())?;
+    assert_named(&rt, &users)
+}
+
 fn is_text(name: Option<&[u8]>, text: &[u8]) -> bool {
     match name {
         Some(name) => name == text,
@@ -42,15 +47,19 @@ fn is_text(name: Option<&[u8]>, text: &[u8]) -> bool {
     }
 }
 
-#[test]
-fn numbers_have_names(rt: HostRuntime) -> Result<(), Fail> {
-    let users = example(rt.alloc())?;
+fn assert_numbered<R: Abort>(rt: &R, users: &Users) {
     assert!(rt; is_text(users.name_of_uid(1001), b"ana"));
     assert!(rt; is_text(users.name_of_gid(500), b"lab"));
     assert_eq!(rt; users.uid_of(b"ana"), Some(1001));
     assert_eq!(rt; users.gid_of(b"lab"), Some(500));
     assert!(rt; users.name_of_uid(7).is_none());
     assert!(rt; users.gid_of(b"ana,bob").is_none());
+}
+
+#[test]
+fn numbers_have_names(rt: HostRuntime) -> Result<(), Fail> {
+    let users = example(rt.alloc())?;
+    assert_numbered(&rt, &users);
     Ok(())
 }
 
@@ -85,14 +94,20 @@ fn newlines(alloc: Global, count: usize) -> Result<Vec<u8>, Fail> {
     Ok(vec![in alloc; b'\n'; count]?)
 }
 
+/// The number that a file gives to ana.
+fn uid_of_ana(alloc: Global, passwd: &[u8]) -> Result<Option<u32>, Fail> {
+    let passwd = read_passwd(alloc, passwd)?;
+    let groups = read_group(alloc, GROUP)?;
+    let users = Users::of(alloc, passwd, groups)?;
+    Ok(users.uid_of(b"ana"))
+}
+
 #[test]
 fn a_file_has_at_most_65536_lines(rt: HostRuntime) -> Result<(), Fail> {
     let alloc = rt.alloc();
     let mut text = newlines(alloc, 65535)?;
     text.extend_from_slice(b"ana:x:1001:1001:::\n")?;
-    let groups = read_group(alloc, GROUP)?;
-    let users = Users::of(alloc, read_passwd(alloc, &text)?, groups)?;
-    assert_eq!(rt; users.uid_of(b"ana"), Some(1001));
+    assert_eq!(rt; uid_of_ana(alloc, text.as_slice())?, Some(1001));
     text.push(b'\n')?;
     let kind = UserKind::TooMany { limit: 65536 };
     assert_fault(&rt, read_passwd(alloc, &text).err(), 65537, kind);

@@ -255,50 +255,57 @@ fn files(alloc: Global, names: &[&str]) -> Result<Vec<(String, Vec<u8>)>, Fail> 
     Ok(files)
 }
 
-#[test]
-fn numbers_fit_their_phases(rt: HostRuntime) -> Result<(), Fail> {
-    let alloc = rt.alloc();
-    let Ran { ended, out, .. } = run_two(&rt, alloc, files(alloc, &["a", "b"])?, Vec::new(alloc))?;
-    assert!(rt; matches!(&ended.end, End::Done));
-    let numbers = &ended.numbers;
+fn assert_fit<R: Abort>(rt: &R, ran: &Ran) {
+    assert!(rt; matches!(&ran.ended.end, End::Done));
+    let numbers = &ran.ended.numbers;
     assert_eq!(rt; numbers.len(), 6);
     assert!(rt; numbers[0] <= numbers[2] && numbers[1] <= 1 && numbers[2] <= 1);
     assert!(rt; numbers[3] >= 1 && numbers[4] >= 1 && numbers[5] >= numbers[3] && numbers[5] <= 2);
-    let text = out.taken();
+    let text = ran.out.taken();
     assert_eq!(rt; text.len(), 14);
     assert!(rt; text[0] as u64 == numbers[0] && text[1] == b'a' && text[3] == b'b');
     assert!(rt; text[4] == b'p' && text[12] as u64 == numbers[5] && text[13] == b'c');
-    Ok(())
 }
 
 #[test]
-fn ends_at_a_file_that_is_not_held(rt: HostRuntime) -> Result<(), Fail> {
-    let alloc = rt.alloc();
-    let Ran { ended, out, .. } = run_two(&rt, alloc, files(alloc, &["a"])?, Vec::new(alloc))?;
+fn numbers_fit_their_phases(rt: HostRuntime) -> Result<(), Fail> {
+    let held = files(rt.alloc(), &["a", "b"])?;
+    let ran = run_two(&rt, rt.alloc(), held, Vec::new(rt.alloc()))?;
+    assert_fit(&rt, &ran);
+    Ok(())
+}
+
+fn assert_no_file<R: Abort>(rt: &R, ran: &Ran) {
     let End::Stopped {
         stop: Stop::NoFile { file },
-    } = &ended.end
+    } = &ran.ended.end
     else {
         panic!(rt; "not ended by a file");
     };
     assert_eq!(rt; file.as_str(), "b");
-    assert_eq!(rt; ended.numbers.len(), 3);
-    assert_eq!(rt; out.taken().len(), 7);
+    assert_eq!(rt; ran.ended.numbers.len(), 3);
+    assert_eq!(rt; ran.out.taken().len(), 7);
+}
+
+#[test]
+fn ends_at_a_file_that_is_not_held(rt: HostRuntime) -> Result<(), Fail> {
+    let held = files(rt.alloc(), &["a"])?;
+    let ran = run_two(&rt, rt.alloc(), held, Vec::new(rt.alloc()))?;
+    assert_no_file(&rt, &ran);
     Ok(())
+}
+
+fn assert_write_fault<R: Abort>(rt: &R, ran: &Ran) {
+    assert!(rt; matches!(&ran.ended.end, End::WriteFault));
+    assert_eq!(rt; ran.ended.numbers.len(), 6);
+    assert_eq!(rt; ran.out.taken().len(), 7);
 }
 
 #[test]
 fn a_write_fails(rt: HostRuntime) -> Result<(), Fail> {
-    let alloc = rt.alloc();
-    let Ran { ended, out, .. } = run_two(
-        &rt,
-        alloc,
-        files(alloc, &["a", "b"])?,
-        vec![in alloc; 2]?,
-    )?;
-    assert!(rt; matches!(&ended.end, End::WriteFault));
-    assert_eq!(rt; ended.numbers.len(), 6);
-    assert_eq!(rt; out.taken().len(), 7);
+    let held = files(rt.alloc(), &["a", "b"])?;
+    let ran = run_two(&rt, rt.alloc(), held, vec![in rt.alloc(); 2]?)?;
+    assert_write_fault(&rt, &ran);
     Ok(())
 }
 
@@ -315,17 +322,17 @@ fn ask_twice<R: Threads + Wait + Sync + Abort>(
     run(rt, alloc, capacity, &plan, held, Vec::new(alloc))
 }
 
+/// Asserts how many hits there were, how many bodies were made, and the rest, which is the same either way.
+fn assert_twice<R: Abort>(rt: &R, ran: &Ran, hits: u64, bodies: u64) {
+    assert!(rt; ran.ended.hits == hits && ran.bodies == bodies);
+    assert!(rt; matches!(&ran.ended.end, End::Done));
+    assert_eq!(rt; ran.ended.numbers.as_slice(), [1, 1].as_slice());
+    assert_eq!(rt; ran.out.taken(), b"p\x01a\x01a".as_slice());
+}
+
 #[test]
 fn an_ask_that_comes_again_is_a_hit(rt: HostRuntime) -> Result<(), Fail> {
-    let alloc = rt.alloc();
-    let without = ask_twice(&rt, alloc, 0)?;
-    assert!(rt; without.ended.hits == 0 && without.bodies == 2);
-    let with = ask_twice(&rt, alloc, 2)?;
-    assert!(rt; with.ended.hits == 1 && with.bodies == 1);
-    for ran in [without, with] {
-        assert!(rt; matches!(&ran.ended.end, End::Done));
-        assert_eq!(rt; ran.ended.numbers.as_slice(), [1, 1].as_slice());
-        assert_eq!(rt; ran.out.taken(), b"p\x01a\x01a".as_slice());
-    }
+    assert_twice(&rt, &ask_twice(&rt, rt.alloc(), 0)?, 0, 2);
+    assert_twice(&rt, &ask_twice(&rt, rt.alloc(), 2)?, 1, 1);
     Ok(())
 }

@@ -22,31 +22,51 @@ const DAMAGED: &[u8] = b"/r|d|1|493|2|101|100|4096|4096|8|10|20|30|
 /r/x|f|2|420|1|101|100|x|4096|0|10|20|30|
 ";
 
-fn plan_of(alloc: Global, script: &[u8]) -> Result<SessionPlan, Fail> {
-    let users = Users::of(alloc, read_passwd(alloc, b"")?, read_group(alloc, b"")?)?;
+fn plan_with(alloc: Global, users: &Users, script: &[u8]) -> Result<SessionPlan, Fail> {
     let script = read_script(alloc, script)?;
     let setup = Setup {
-        users: &users,
+        users,
         now: None,
         delim: b'|',
     };
     Ok(plan_session(alloc, script, &setup)?)
 }
 
-/// How a session over both traces ends, and what it writes.
-fn run<R: Threads + Wait + Abort + Sync>(
-    rt: &R,
-    alloc: Global,
-    script: &[u8],
-) -> Result<(Ended, Vec<u8>), Fail> {
-    let plan = plan_of(alloc, script)?;
+fn plan_of(alloc: Global, script: &[u8]) -> Result<SessionPlan, Fail> {
+    let users = Users::of(alloc, read_passwd(alloc, b"")?, read_group(alloc, b"")?)?;
+    plan_with(alloc, &users, script)
+}
+
+/// A shelf of both traces.
+fn both_traces<R: AllocGlobal + Abort>(rt: &R) -> Result<MemShelf, Fail> {
+    let alloc = rt.alloc();
     let mut files = Vec::new(alloc);
     files.push((String::from_str(alloc, "shut")?, SHUT.to_vec(alloc)?))?;
     files.push((String::from_str(alloc, "damaged")?, DAMAGED.to_vec(alloc)?))?;
     assert!(rt; names_differ(&files));
-    let mut shelf = MemShelf::new(files, 64, Vec::new(alloc), Vec::new(alloc));
+    Ok(MemShelf::new(files, 64, Vec::new(alloc), Vec::new(alloc)))
+}
+
+/// How a plan over a shelf ends.
+fn run_plan<R: AllocGlobal + Threads + Wait + Sync>(
+    rt: &R,
+    script: &[u8],
+    shelf: &mut MemShelf,
+    out: &mut MemSink,
+) -> Result<Ended, Fail> {
+    let plan = plan_of(rt.alloc(), script)?;
+    Ok(run_session(rt, rt.alloc(), &plan, 1, 0, shelf, out, &NoGate))
+}
+
+/// How a session over both traces ends, and what it writes.
+fn run<R: AllocGlobal + Threads + Wait + Abort + Sync>(
+    rt: &R,
+    script: &[u8],
+) -> Result<(Ended, Vec<u8>), Fail> {
+    let alloc = rt.alloc();
+    let mut shelf = both_traces(rt)?;
     let mut out = MemSink::new(vec![in alloc; 0; 1024]?, 100, Vec::new(alloc));
-    let ended = run_session(rt, alloc, &plan, 1, 0, &mut shelf, &mut out, &NoGate);
+    let ended = run_plan(rt, script, &mut shelf, &mut out)?;
     Ok((ended, out.taken().to_vec(alloc)?))
 }
 
@@ -70,7 +90,7 @@ c
 x
 reply 4 at 2 denied at depth 1 class owner
 ";
-    let (ended, text) = run(&rt, rt.alloc(), script)?;
+    let (ended, text) = run(&rt, script)?;
     assert!(rt; matches!(ended.end, End::Done));
     assert_eq!(rt; ended.numbers.as_slice(), [2, 2, 2, 2].as_slice());
     assert_eq!(rt; text.as_slice(), wanted.as_slice());
@@ -97,7 +117,7 @@ publish 3 refused 2 BadNumber 8
 reply 2 at 1 rows 1
 /
 ";
-    let (ended, text) = run(&rt, rt.alloc(), script)?;
+    let (ended, text) = run(&rt, script)?;
     assert_eq!(rt; ended.numbers.as_slice(), [0, 1].as_slice());
     assert_eq!(rt; text.as_slice(), wanted.as_slice());
     match &ended.end {

@@ -3,6 +3,7 @@ use crate::rows_tests::row_of;
 use gufi_base::{Bytes, Kind, Memory, Meta, Path, Rec, Row};
 use gufi_page::{Cursor, Page, pack};
 use std::alloc::Global;
+use std::process::Abort;
 use std::test::Fail;
 
 /// The record of a link.
@@ -88,15 +89,18 @@ fn longest_lines(alloc: Global) -> Result<Vec<u8>, Fail> {
     Ok(text)
 }
 
-#[test]
-fn the_longest_names_and_link_come_back(rt: HostRuntime) -> Result<(), Fail> {
-    let alloc = rt.alloc();
+fn longest_page(alloc: Global) -> Result<Page, Fail> {
     let rows = longest_rows(alloc)?;
-    let page = pack(alloc, rows.as_slice())?;
+    Ok(pack(alloc, rows.as_slice())?)
+}
+
+/// Asserts that a page has the longest rows.
+fn assert_longest<R: AllocGlobal + Abort>(rt: &R, page: &Page) -> Result<(), Fail> {
+    let alloc = rt.alloc();
     let text = printed(alloc, page.rows(), page.len())?;
     assert_eq!(rt; text.as_slice(), longest_lines(alloc)?.as_slice());
     let mut cursor = page.rows();
-    for _ in &rows {
+    for _ in 0..3 {
         assert_eq!(rt; cursor.next().map(|row| *row.meta), Some(link_meta()));
     }
     assert!(rt; cursor.next().is_none());
@@ -104,21 +108,36 @@ fn the_longest_names_and_link_come_back(rt: HostRuntime) -> Result<(), Fail> {
 }
 
 #[test]
-fn a_range_has_the_stems_of_its_rows(rt: HostRuntime) -> Result<(), Fail> {
-    let alloc = rt.alloc();
-    let paths = [
-        Path::read(alloc, b"/d")?,
-        Path::read(alloc, b"/e")?,
-        Path::read(alloc, b"/d/a")?,
-        Path::read(alloc, b"/d/b")?,
-        Path::read(alloc, b"/d/b/c")?,
-        Path::read(alloc, b"/e/a")?,
-    ];
-    let meta = link_meta();
+fn the_longest_names_and_link_come_back(rt: HostRuntime) -> Result<(), Fail> {
+    let page = longest_page(rt.alloc())?;
+    assert_longest(&rt, &page)
+}
+
+/// Adds the row of a path.
+fn push_path(alloc: Global, page: &mut Page, path: &[u8]) -> Result<(), Fail> {
+    let path = Path::read(alloc, path)?;
+    page.push(row_of(&path, &link_meta()))?;
+    Ok(())
+}
+
+fn page_of_six(alloc: Global) -> Result<Page, Fail> {
     let mut page = Page::new(alloc);
-    for path in &paths {
-        page.push(row_of(path, &meta))?;
+    for path in [
+        b"/d".as_slice(),
+        b"/e",
+        b"/d/a",
+        b"/d/b",
+        b"/d/b/c",
+        b"/e/a",
+    ] {
+        push_path(alloc, &mut page, path)?;
     }
+    Ok(page)
+}
+
+/// Asserts what two ranges of the six rows print.
+fn assert_ranges<R: AllocGlobal + Abort>(rt: &R, page: &Page) -> Result<(), Fail> {
+    let alloc = rt.alloc();
     assert_eq!(rt; page.len(), 6);
     assert_eq!(rt;
         printed(alloc, page.range(1, 4), 9)?.as_slice(),
@@ -129,4 +148,10 @@ fn a_range_has_the_stems_of_its_rows(rt: HostRuntime) -> Result<(), Fail> {
         b"/d/b/ c /d/b/c/ c /d/b/c/\n/e/ a /e/a/ a /e/a/\n".as_slice()
     );
     Ok(())
+}
+
+#[test]
+fn a_range_has_the_stems_of_its_rows(rt: HostRuntime) -> Result<(), Fail> {
+    let page = page_of_six(rt.alloc())?;
+    assert_ranges(&rt, &page)
 }

@@ -68,28 +68,41 @@ fn printed(alloc: Global, rows: &[Row]) -> Result<Vec<u8>, Memory> {
     Ok(text)
 }
 
+fn three(alloc: Global, paths: [&[u8]; 3]) -> Result<[Path; 3], Fail> {
+    let [first, second, third] = paths;
+    Ok([
+        Path::read(alloc, first)?,
+        Path::read(alloc, second)?,
+        Path::read(alloc, third)?,
+    ])
+}
+
+/// The rows of `/d` and of `/d/m` in it.
+fn both_walked<Y: Yield>(alloc: Global) -> Result<Y, Fail> {
+    let outer = three(alloc, [b"/d".as_slice(), b"/d/z", b"/d/m"])?;
+    let inner = three(alloc, [b"/d/m/b".as_slice(), b"/d/m/c", b"/d/m/c/a"])?;
+    Ok(walked(alloc, &outer, &inner)?)
+}
+
+fn walked_lines(alloc: Global) -> Result<Vec<u8>, Fail> {
+    let paths: PathList = both_walked(alloc)?;
+    Ok(paths.lines(alloc)?)
+}
+
+fn walked_rows(alloc: Global) -> Result<Vec<u8>, Fail> {
+    let list: RowList = both_walked(alloc)?;
+    let rows = list.sorted(alloc)?;
+    Ok(printed(alloc, rows.as_slice())?)
+}
+
 #[test]
 fn walked_rows_come_in_path_order(rt: HostRuntime) -> Result<(), Fail> {
-    let alloc = rt.alloc();
-    let outer = [
-        Path::read(alloc, b"/d")?,
-        Path::read(alloc, b"/d/z")?,
-        Path::read(alloc, b"/d/m")?,
-    ];
-    let inner = [
-        Path::read(alloc, b"/d/m/b")?,
-        Path::read(alloc, b"/d/m/c")?,
-        Path::read(alloc, b"/d/m/c/a")?,
-    ];
-    let paths: PathList = walked(alloc, &outer, &inner)?;
     assert_eq!(rt;
-        paths.lines(alloc)?.as_slice(),
+        walked_lines(rt.alloc())?.as_slice(),
         b"/d\n/d/m\n/d/m/b\n/d/m/c\n/d/m/c/a\n/d/z\n".as_slice()
     );
-    let list: RowList = walked(alloc, &outer, &inner)?;
-    let rows = list.sorted(alloc)?;
     assert_eq!(rt;
-        printed(alloc, rows.as_slice())?.as_slice(),
+        walked_rows(rt.alloc())?.as_slice(),
         b"/d /d/ d /d/\n/d/m /d/m/ m /d/m/\n/d/m/b /d/m/b/ b /d/m/b/\n/d/m/c /d/m/c/ c /d/m/c/\n/d/m/c/a /d/m/c/a/ a /d/m/c/a/\n/d/z /d/z/ z /d/z/\n".as_slice()
     );
     Ok(())

@@ -7,6 +7,7 @@ use gufi_sums::Summary;
 use gufi_tree::{DirId, Tree};
 use std::alloc::Global;
 use std::marker::Brand;
+use std::process::Abort;
 use std::sync::ledger::{Blank, Ledger};
 use std::test::Fail;
 
@@ -62,48 +63,72 @@ fn counts(sum: &Summary) -> (u64, u64, u64) {
     (sum.dirs, sum.files, sum.links)
 }
 
-#[test]
-fn sums_are_of_own_rows_and_of_those_below(rt: HostRuntime) -> Result<(), Fail> {
-    let alloc = rt.alloc();
-    let kept = snapshot(alloc, 0)?;
-    let bare = Snapshot::bare(alloc, tree(alloc)?, 0)?;
-    let summed = Snapshot::bare(alloc, tree(alloc)?, 0)?.with_sums(alloc)?;
+/// Asserts the sums of each directory.
+fn assert_sums<R: Abort>(rt: &R, snap: &Snapshot) {
     let rows = [
         ((1u64, 0u64, 0u64), (3u64, 1u64, 1u64), (1i64, 5i64)),
         ((1, 1, 0), (2, 1, 1), (2, 5)),
         ((1, 0, 1), (1, 0, 1), (3, 4)),
     ];
-    for snap in [&kept, &bare, &summed] {
-        assert!(rt; snap.tree().dirs() == 3);
-        for place in 0..3u32 {
-            let id = DirId(place);
-            let (own, below, times) = rows[place as usize];
-            assert!(rt; counts(&snap.dir_sum(id)) == own);
-            assert!(rt; counts(&snap.tree_sum(id)) == below);
-            assert!(rt; snap.tree_sum(id).mtime == Some(times));
-        }
+    assert!(rt; snap.tree().dirs() == 3);
+    for place in 0..3u32 {
+        let id = DirId(place);
+        let (own, below, times) = rows[place as usize];
+        assert!(rt; counts(&snap.dir_sum(id)) == own);
+        assert!(rt; counts(&snap.tree_sum(id)) == below);
+        assert!(rt; snap.tree_sum(id).mtime == Some(times));
+    }
+}
+
+fn bare(alloc: Global) -> Result<Snapshot, Fail> {
+    Ok(Snapshot::bare(alloc, tree(alloc)?, 0)?)
+}
+
+fn summed(alloc: Global) -> Result<Snapshot, Fail> {
+    Ok(bare(alloc)?.with_sums(alloc)?)
+}
+
+#[test]
+fn sums_are_of_own_rows_and_of_those_below(rt: HostRuntime) -> Result<(), Fail> {
+    assert_sums(&rt, &snapshot(rt.alloc(), 0)?);
+    assert_sums(&rt, &bare(rt.alloc())?);
+    assert_sums(&rt, &summed(rt.alloc())?);
+    Ok(())
+}
+
+/// Asserts of directories whether each is rolled up, and the sum of its piece.
+fn assert_pieces<R: AllocGlobal + Abort>(
+    rt: &R,
+    snap: &Snapshot,
+    pieces: &[(u32, bool, (u64, u64, u64))],
+) -> Result<(), Fail> {
+    for (place, rolled, piece) in pieces {
+        let id = DirId(*place);
+        assert!(rt; *place < snap.tree().dirs());
+        assert!(rt; snap.rolled(id) == *rolled);
+        let found = scanned::<Brand>(rt.alloc(), snap, id, Blank::new(1))?;
+        assert!(rt; counts(&found) == *piece);
     }
     Ok(())
 }
 
+fn assert_folds<R: AllocGlobal + Abort>(rt: &R, plain: &Snapshot) -> Result<(), Fail> {
+    assert_pieces(rt, plain, &[(1, false, (1, 1, 0)), (2, false, (1, 0, 1))])?;
+    let folded = plain.with_limit(rt.alloc(), 4)?;
+    assert!(rt; (plain.limit(), folded.limit()) == (0, 4));
+    assert_pieces(
+        rt,
+        &folded,
+        &[
+            (0, false, (1, 0, 0)),
+            (1, true, (2, 1, 1)),
+            (2, true, (1, 0, 1)),
+        ],
+    )
+}
+
 #[test]
 fn a_piece_is_a_fold_where_it_is_rolled(rt: HostRuntime) -> Result<(), Fail> {
-    let alloc = rt.alloc();
-    let plain = snapshot(alloc, 0)?;
-    let folded = plain.with_limit(alloc, 4)?;
-    assert!(rt; (plain.limit(), folded.limit()) == (0, 4));
-    for (snap, place, rolled, piece) in [
-        (&plain, 1u32, false, (1u64, 1u64, 0u64)),
-        (&plain, 2, false, (1, 0, 1)),
-        (&folded, 0, false, (1, 0, 0)),
-        (&folded, 1, true, (2, 1, 1)),
-        (&folded, 2, true, (1, 0, 1)),
-    ] {
-        let id = DirId(place);
-        assert!(rt; place < snap.tree().dirs());
-        assert!(rt; snap.rolled(id) == rolled);
-        let found = scanned::<Brand>(alloc, snap, id, Blank::new(1))?;
-        assert!(rt; counts(&found) == piece);
-    }
-    Ok(())
+    let plain = snapshot(rt.alloc(), 0)?;
+    assert_folds(&rt, &plain)
 }

@@ -8,6 +8,7 @@ use gufi_base::{Kind, Meta, Path, Row, path_cmp};
 use gufi_stats::{Report, stats_text};
 use std::alloc::Global;
 use std::cmp::Ordering;
+use std::process::Abort;
 use std::test::Fail;
 
 const LEVELS: &[u8] = b"level 0 dirs 1 files 0 links 0 others 0 bytes 0
@@ -38,14 +39,21 @@ fn row(alloc: Global, path: &[u8], kind: Kind, uid: u32, gid: u32) -> Result<Row
 fn six_rows(alloc: Global) -> Result<Vec<Row>, Fail>
     ensures { IfOk result (λ rows. length rows.items ≡ 6) }
 {
-    Ok(vec![in alloc;
-        row(alloc, b"/p", Kind::Dir, 103, 200)?,
-        row(alloc, b"/p/a", Kind::Dir, 102, 100)?,
-        row(alloc, b"/p/a/x", Kind::File, 102, 200)?,
-        row(alloc, b"/p/b", Kind::Link, 103, 100)?,
-        row(alloc, b"/p/c", Kind::Dir, 101, 200)?,
-        row(alloc, b"/p/c/s", Kind::Socket, 101, 300)?,
-    ]?)
+    let mut rows = Vec::new(alloc);
+    for (path, kind, uid, gid) in [
+        (b"/p".as_slice(), Kind::Dir, 103, 200),
+        (b"/p/a", Kind::Dir, 102, 100),
+        (b"/p/a/x", Kind::File, 102, 200),
+        (b"/p/b", Kind::Link, 103, 100),
+        (b"/p/c", Kind::Dir, 101, 200),
+        (b"/p/c/s", Kind::Socket, 101, 300),
+    ] {
+        rows.push(row(alloc, path, kind, uid, gid)?)?;
+    }
+    if rows.len() != 6 {
+        return Err(Fail::new("there are not six rows"));
+    }
+    Ok(rows)
 }
 
 // Reports ask for rows in path order.
@@ -61,20 +69,26 @@ fn are_in_order(rows: &[Row]) -> bool
     path_cmp(&first.path, &second.path) == Ordering::Less && are_in_order(rest)
 }
 
-#[test]
-fn rows_are_counted_and_leaves_are_named(rt: HostRuntime) -> Result<(), Fail> {
-    let alloc = rt.alloc();
-    let rows = six_rows(alloc)?;
-    let start = Path::read(alloc, b"/p")?;
-    assert!(rt; are_in_order(&rows));
+/// Asserts the four reports of six rows below `/p`.
+fn assert_reports<R: AllocGlobal + Abort>(rt: &R, rows: &[Row]) -> Result<(), Fail>
+    requires { length rows.now ≡ 6 }
+{
+    let start = Path::read(rt.alloc(), b"/p")?;
+    assert!(rt; are_in_order(rows));
     for (report, by_hand) in [
         (Report::Levels, LEVELS),
         (Report::Uids, UIDS),
         (Report::Gids, GIDS),
         (Report::Leaves, b"/p/a\n/p/c\n".as_slice()),
     ] {
-        let text = stats_text(alloc, &rows, &start, report)?;
+        let text = stats_text(rt.alloc(), rows, &start, report)?;
         assert_eq!(rt; text.as_slice(), by_hand);
     }
     Ok(())
+}
+
+#[test]
+fn rows_are_counted_and_leaves_are_named(rt: HostRuntime) -> Result<(), Fail> {
+    let rows = six_rows(rt.alloc())?;
+    assert_reports(&rt, rows.as_slice())
 }

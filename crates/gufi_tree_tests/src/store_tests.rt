@@ -9,6 +9,7 @@ use gufi_store::DirStore;
 use gufi_tree::{DirId, DirRef, Tree};
 use std::alloc::Global;
 use std::marker::Brand;
+use std::process::Abort;
 use std::sync::ledger::{Blank, Ledger};
 use std::test::Fail;
 
@@ -59,16 +60,24 @@ fn two_directories(alloc: Global) -> Result<Tree, Fail>
     Ok(tree)
 }
 
-#[test]
-fn a_directory_is_scanned(rt: HostRuntime) -> Result<(), Fail> {
-    let alloc = rt.alloc();
-    let tree = two_directories(alloc)?;
-    let dir = tree.dir(DirId(1));
-    assert!(rt; dir.entries().len() == 2);
+fn scanned_lines(alloc: Global, dir: DirRef<'_>) -> Result<Vec<u8>, Fail>
+    requires { length dir.entries < 2 ^ 32 }
+{
     let paths: PathList = scan_alone(alloc, dir)?;
-    let text = paths.lines(alloc)?;
+    Ok(paths.lines(alloc)?)
+}
+
+fn assert_scanned<R: AllocGlobal + Abort>(rt: &R, dir: DirRef<'_>) -> Result<(), Fail> {
+    assert!(rt; dir.entries().len() == 2);
+    let text = scanned_lines(rt.alloc(), dir)?;
     assert!(rt; text.as_slice() == b"/d\n/d/a\n/d/b\n".as_slice());
     Ok(())
+}
+
+#[test]
+fn a_directory_is_scanned(rt: HostRuntime) -> Result<(), Fail> {
+    let tree = two_directories(rt.alloc())?;
+    assert_scanned(&rt, tree.dir(DirId(1)))
 }
 
 /// The letter and the path of each row.
@@ -83,17 +92,25 @@ fn printed(alloc: Global, rows: &[Row]) -> Result<Vec<u8>, Memory> {
     Ok(text)
 }
 
-#[test]
-fn scanned_rows_are_sorted(rt: HostRuntime) -> Result<(), Fail> {
-    let alloc = rt.alloc();
-    let tree = two_directories(alloc)?;
-    let dir = tree.dir(DirId(1));
-    assert!(rt; dir.entries().len() == 2);
+fn scanned_rows(alloc: Global, dir: DirRef<'_>) -> Result<Vec<u8>, Fail>
+    requires { length dir.entries < 2 ^ 32 }
+{
     let list: RowList = scan_alone(alloc, dir)?;
     let rows = list.sorted(alloc)?;
+    Ok(printed(alloc, rows.as_slice())?)
+}
+
+fn assert_sorted<R: AllocGlobal + Abort>(rt: &R, dir: DirRef<'_>) -> Result<(), Fail> {
+    assert!(rt; dir.entries().len() == 2);
     assert_eq!(rt;
-        printed(alloc, rows.as_slice())?.as_slice(),
+        scanned_rows(rt.alloc(), dir)?.as_slice(),
         b"d /d\nl /d/a\nf /d/b\n".as_slice()
     );
     Ok(())
+}
+
+#[test]
+fn scanned_rows_are_sorted(rt: HostRuntime) -> Result<(), Fail> {
+    let tree = two_directories(rt.alloc())?;
+    assert_sorted(&rt, tree.dir(DirId(1)))
 }

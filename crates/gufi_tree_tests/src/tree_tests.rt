@@ -3,6 +3,7 @@ use gufi_access::Class;
 use gufi_base::{Kind, Path};
 use gufi_tree::{DirId, Resolved, Tree, TreeFault, build};
 use std::alloc::Global;
+use std::process::Abort;
 use std::test::Fail;
 
 fn four_rows(alloc: Global) -> Result<Tree, Fail> {
@@ -24,10 +25,8 @@ fn led(alloc: Global, tree: &Tree, path: &[u8]) -> Result<Resolved, Fail> {
     Ok(tree.resolve(&who, &path))
 }
 
-#[test]
-fn paths_lead_where_search_is_granted(rt: HostRuntime) -> Result<(), Fail> {
-    let alloc = rt.alloc();
-    let tree = four_rows(alloc)?;
+/// Asserts where each path leads in the tree of four rows.
+fn assert_led<R: AllocGlobal + Abort>(rt: &R, tree: &Tree) -> Result<(), Fail> {
     let class = Class::Other;
     let rows = [
         (b"/".as_slice(), Resolved::Found(DirId(0))),
@@ -38,18 +37,22 @@ fn paths_lead_where_search_is_granted(rt: HostRuntime) -> Result<(), Fail> {
         (b"/p/q/y/z", Resolved::NotDir { depth: 3 }),
     ];
     for (path, resolved) in rows {
-        assert_eq!(rt; led(alloc, &tree, path)?, resolved);
+        assert_eq!(rt; led(rt.alloc(), tree, path)?, resolved);
     }
     Ok(())
 }
 
 #[test]
-fn directories_have_their_paths_and_entries(rt: HostRuntime) -> Result<(), Fail> {
-    let alloc = rt.alloc();
-    let tree = four_rows(alloc)?;
+fn paths_lead_where_search_is_granted(rt: HostRuntime) -> Result<(), Fail> {
+    let tree = four_rows(rt.alloc())?;
+    assert_led(&rt, &tree)
+}
+
+/// Asserts the path and the entry of `/p/q` in that tree.
+fn assert_third<R: AllocGlobal + Abort>(rt: &R, tree: &Tree) -> Result<(), Fail> {
     assert_eq!(rt; tree.dirs(), 3);
     assert_eq!(rt;
-        tree.path_of(alloc, DirId(2))?.printed(),
+        tree.path_of(rt.alloc(), DirId(2))?.printed(),
         b"/p/q".as_slice()
     );
     let entries = tree.entries(DirId(2));
@@ -60,14 +63,18 @@ fn directories_have_their_paths_and_entries(rt: HostRuntime) -> Result<(), Fail>
     Ok(())
 }
 
+#[test]
+fn directories_have_their_paths_and_entries(rt: HostRuntime) -> Result<(), Fail> {
+    let tree = four_rows(rt.alloc())?;
+    assert_third(&rt, &tree)
+}
+
 /// The fault of three directories on the lines 1 to 3.
 fn fault_of(alloc: Global, paths: [&[u8]; 3]) -> Result<Option<TreeFault>, Fail> {
-    let [first, second, third] = paths;
-    let lines = vec![in alloc;
-        line(alloc, 1, first, Kind::Dir, 0o755)?,
-        line(alloc, 2, second, Kind::Dir, 0o755)?,
-        line(alloc, 3, third, Kind::Dir, 0o755)?,
-    ]?;
+    let mut lines = Vec::new(alloc);
+    for (number, path) in (1..).zip(paths) {
+        lines.push(line(alloc, number, path, Kind::Dir, 0o755)?)?;
+    }
     Ok(build(alloc, lines).err())
 }
 

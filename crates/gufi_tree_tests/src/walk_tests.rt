@@ -8,6 +8,7 @@ use gufi_walk::{
     Refusal, Walkers, answer_lines, answer_rows, answer_sum, answer_total, put_refusal,
 };
 use std::alloc::Global;
+use std::process::Abort;
 use std::sync::Wait;
 use std::test::Fail;
 use std::thread::Threads;
@@ -59,11 +60,13 @@ fn seven_rows(alloc: Global) -> Result<Snapshot, Fail> {
     )
 }
 
-#[test]
-fn rows_come_from_listed_directories(rt: HostRuntime) -> Result<(), Fail> {
+/// Asserts what a walk of a snapshot answers to users, and what it and the same snapshot rolled up have in total.
+fn assert_walked<R: AllocGlobal + Threads + Wait + Sync + Abort>(
+    rt: &R,
+    snap: &Snapshot,
+    rolled: &Snapshot,
+) -> Result<(), Fail> {
     let alloc = rt.alloc();
-    let snap = seven_rows(alloc)?;
-    let rolled = snap.with_limit(alloc, 2)?;
     let all = b"/\n/a\n/a/x\n/p\n/p/q\n/p/q/y\n/z\n".as_slice();
     let rows = [
         (0u32, b"/".as_slice(), 4u64, 3u64, 7usize, all),
@@ -71,18 +74,32 @@ fn rows_come_from_listed_directories(rt: HostRuntime) -> Result<(), Fail> {
         (102, b"/", 1, 1, 2, b"/\n/z\n"),
         (102, b"/p/q", 1, 1, 2, b"/p/q\n/p/q/y\n"),
     ];
-    let walkers = Walkers::of(&rt, &NoGate, 1);
+    let walkers = Walkers::of(rt, &NoGate, 1);
     for (uid, start, dirs, files, count, text) in rows {
         let start = Path::read(alloc, start)?;
-        let reply = walked(alloc, &walkers, &snap, uid, &start)?;
+        let reply = walked(alloc, &walkers, snap, uid, &start)?;
         assert_eq!(rt; reply.sums, (dirs, files));
         assert_eq!(rt; reply.rows, (count, count));
         assert_eq!(rt; reply.text.as_slice(), text);
-        for snap in [&snap, &rolled] {
+        for snap in [snap, rolled] {
             assert_eq!(rt; totalled(alloc, snap, uid, &start)?, (dirs, files));
         }
     }
     Ok(())
+}
+
+fn assert_walked_and_rolled<R: AllocGlobal + Threads + Wait + Sync + Abort>(
+    rt: &R,
+    snap: &Snapshot,
+) -> Result<(), Fail> {
+    let rolled = snap.with_limit(rt.alloc(), 2)?;
+    assert_walked(rt, snap, &rolled)
+}
+
+#[test]
+fn rows_come_from_listed_directories(rt: HostRuntime) -> Result<(), Fail> {
+    let snap = seven_rows(rt.alloc())?;
+    assert_walked_and_rolled(&rt, &snap)
 }
 
 fn three_rows(alloc: Global) -> Result<Snapshot, Fail> {
@@ -116,10 +133,11 @@ fn words_of(alloc: Global, refusal: Refusal) -> Result<Vec<u8>, Fail> {
     Ok(text)
 }
 
-#[test]
-fn a_start_is_refused_as_it_resolves(rt: HostRuntime) -> Result<(), Fail> {
+fn assert_refused<R: AllocGlobal + Threads + Wait + Sync + Abort>(
+    rt: &R,
+    snap: &Snapshot,
+) -> Result<(), Fail> {
     let alloc = rt.alloc();
-    let snap = three_rows(alloc)?;
     let class = Class::Other;
     let rows = [
         (
@@ -138,11 +156,17 @@ fn a_start_is_refused_as_it_resolves(rt: HostRuntime) -> Result<(), Fail> {
             b"not a directory at depth 2",
         ),
     ];
-    let walkers = Walkers::of(&rt, &NoGate, 4);
+    let walkers = Walkers::of(rt, &NoGate, 4);
     for (start, refusal, words) in rows {
-        let found = refused(alloc, &walkers, &snap, start)?;
+        let found = refused(alloc, &walkers, snap, start)?;
         assert_eq!(rt; found, (Some(refusal), Some(refusal)));
         assert_eq!(rt; words_of(alloc, refusal)?.as_slice(), words);
     }
     Ok(())
+}
+
+#[test]
+fn a_start_is_refused_as_it_resolves(rt: HostRuntime) -> Result<(), Fail> {
+    let snap = three_rows(rt.alloc())?;
+    assert_refused(&rt, &snap)
 }

@@ -13,6 +13,7 @@ use gufi_tree::build;
 use gufi_walk::{Walkers, answer, answer_alone, answer_lines};
 use std::alloc::Global;
 use std::marker::Brand;
+use std::process::Abort;
 use std::sync::Wait;
 use std::sync::atomic::{AtomicU64, Ordering};
 use std::sync::ledger::{Blank, Ledger};
@@ -69,25 +70,50 @@ fn told<R: Threads + Wait + Sync>(
     Ok((sum.dirs, tasks, stores))
 }
 
+/// Asserts how many tasks and stores are told of, whatever the number of walkers.
+fn assert_told<R: AllocGlobal + Threads + Wait + Sync + Abort>(
+    rt: &R,
+    snap: &Snapshot,
+    front: u64,
+) -> Result<(), Fail> {
+    for workers in [1u32, 4, 32] {
+        assert!(rt; 0 < workers && workers <= 32);
+        assert_eq!(rt; told(rt, rt.alloc(), snap, workers)?, (3, front, front));
+    }
+    Ok(())
+}
+
+fn assert_told_at<R: AllocGlobal + Threads + Wait + Sync + Abort>(
+    rt: &R,
+    plain: &Snapshot,
+    limit: u64,
+    front: u64,
+) -> Result<(), Fail> {
+    let snap = plain.with_limit(rt.alloc(), limit)?;
+    assert_told(rt, &snap, front)
+}
+
+fn assert_fronts<R: AllocGlobal + Threads + Wait + Sync + Abort>(
+    rt: &R,
+    plain: &Snapshot,
+) -> Result<(), Fail> {
+    for (limit, front) in [(100u64, 1u64), (2, 2), (0, 3)] {
+        assert_told_at(rt, plain, limit, front)?;
+    }
+    Ok(())
+}
+
 #[test]
 fn a_gate_is_told_of_each_directory_of_the_front(rt: HostRuntime) -> Result<(), Fail> {
-    let alloc = rt.alloc();
     let plain = snapshot_of(
-        alloc,
+        rt.alloc(),
         &[
             (b"/".as_slice(), Kind::Dir, 0o755),
             (b"/a", Kind::Dir, 0o755),
             (b"/a/b", Kind::Dir, 0o755),
         ],
     )?;
-    for (limit, front) in [(100u64, 1u64), (2, 2), (0, 3)] {
-        let snap = plain.with_limit(alloc, limit)?;
-        for workers in [1u32, 4, 32] {
-            assert!(rt; 0 < workers && workers <= 32);
-            assert_eq!(rt; told(&rt, alloc, &snap, workers)?, (3, front, front));
-        }
-    }
-    Ok(())
+    assert_fronts(&rt, &plain)
 }
 
 /// All rows down to a depth.
@@ -150,10 +176,11 @@ fn visited<R: Threads + Wait + Sync>(
     Ok((sum.dirs, sum.files, gate.stores.load(Ordering::SeqCst)))
 }
 
-#[test]
-fn a_walk_visits_no_directory_that_lies_too_deep(rt: HostRuntime) -> Result<(), Fail> {
+fn assert_visited<R: AllocGlobal + Threads + Wait + Sync + Abort>(
+    rt: &R,
+    snap: &Snapshot,
+) -> Result<(), Fail> {
     let alloc = rt.alloc();
-    let snap = seven_rows(alloc)?;
     let rows = [
         (b"/".as_slice(), 0u32, 1u64, 0u64),
         (b"/", 1, 3, 0),
@@ -165,11 +192,17 @@ fn a_walk_visits_no_directory_that_lies_too_deep(rt: HostRuntime) -> Result<(), 
         let start = Path::read(alloc, start)?;
         for workers in [1u32, 4] {
             assert!(rt; 0 < workers && workers <= 32);
-            let found = visited(&rt, alloc, &snap, &start, depth, workers)?;
+            let found = visited(rt, alloc, snap, &start, depth, workers)?;
             assert_eq!(rt; found, (dirs, files, dirs));
         }
     }
     Ok(())
+}
+
+#[test]
+fn a_walk_visits_no_directory_that_lies_too_deep(rt: HostRuntime) -> Result<(), Fail> {
+    let snap = seven_rows(rt.alloc())?;
+    assert_visited(&rt, &snap)
 }
 
 /// Adds a row to a trace, and its path to what is printed of it.
@@ -221,30 +254,50 @@ fn lines_alone<L: Ledger>(
     Ok(paths.lines(alloc)?)
 }
 
-#[test]
-fn many_walkers_give_the_rows_of_one_thread(rt: HostRuntime) -> Result<(), Fail> {
-    let alloc = rt.alloc();
-    let mut lines = Vec::new(alloc);
-    let mut text = Vec::new(alloc);
-    add(alloc, &mut lines, &mut text, b"/", Kind::Dir)?;
+/// Adds the lines of a root and of 625 branches to a trace, and their paths to a text.
+fn add_tree(alloc: Global, lines: &mut Vec<Line>, text: &mut Vec<u8>) -> Result<(), Fail> {
+    add(alloc, lines, text, b"/", Kind::Dir)?;
     for a in b'a'..b'z' {
         for b in b'a'..b'z' {
-            add_branch(alloc, &mut lines, &mut text, [a, b])?;
+            add_branch(alloc, lines, text, [a, b])?;
         }
     }
-    let count = lines.len();
-    assert!(rt; count == 1876);
+    Ok(())
+}
+
+fn snapshot_of_lines(alloc: Global, lines: Vec<Line>) -> Result<Snapshot, Fail> {
+    if lines.len() != 1876 {
+        return Err(Fail::new("there are not 1876 lines"));
+    }
     let tree = build(alloc, lines)?;
-    let snap = Snapshot::build_uncounted(alloc, tree, 0)?;
+    Ok(Snapshot::build_uncounted(alloc, tree, 0)?)
+}
+
+/// Asserts that one thread and many walkers find this text.
+fn assert_same<R: AllocGlobal + Threads + Wait + Sync + Abort>(
+    rt: &R,
+    snap: &Snapshot,
+    text: &[u8],
+) -> Result<(), Fail> {
+    let alloc = rt.alloc();
     let who = principal(alloc, 102);
     let start = Path::root(alloc)?;
-    let alone = lines_alone::<Brand>(alloc, &snap, &who, &start, Blank::new(1))?;
-    assert_eq!(rt; alone.as_slice(), text.as_slice());
+    let alone = lines_alone::<Brand>(alloc, snap, &who, &start, Blank::new(1))?;
+    assert_eq!(rt; alone.as_slice(), text);
     for workers in [1u32, 4, 32] {
-        let walkers = Walkers::of(&rt, &NoGate, workers);
-        let lines = answer_lines(&walkers, alloc, &snap, &who, &start, &Always, &NoSkip)?;
-        assert_eq!(rt; lines.text.as_slice(), text.as_slice());
-        assert_eq!(rt; lines.count, count);
+        let walkers = Walkers::of(rt, &NoGate, workers);
+        let lines = answer_lines(&walkers, alloc, snap, &who, &start, &Always, &NoSkip)?;
+        assert_eq!(rt; lines.text.as_slice(), text);
+        assert_eq!(rt; lines.count, 1876);
     }
     Ok(())
+}
+
+#[test]
+fn many_walkers_give_the_rows_of_one_thread(rt: HostRuntime) -> Result<(), Fail> {
+    let mut lines = Vec::new(rt.alloc());
+    let mut text = Vec::new(rt.alloc());
+    add_tree(rt.alloc(), &mut lines, &mut text)?;
+    let snap = snapshot_of_lines(rt.alloc(), lines)?;
+    assert_same(&rt, &snap, text.as_slice())
 }

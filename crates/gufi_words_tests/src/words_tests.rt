@@ -1,6 +1,7 @@
 use clap::{Arg, ArgAction, ArgMatches, Command as ClapCommand, Error as ClapError};
 use gufi_words::{Command, Common, WordError, read_words};
 use std::alloc::{AllocError, Global};
+use std::process::Abort;
 use std::test::Fail;
 
 fn words_of(alloc: Global, line: &str) -> Result<Vec<String>, AllocError> {
@@ -114,6 +115,16 @@ fn command_line(alloc: Global, command: &Command) -> Result<String, AllocError> 
     }
 }
 
+fn line_of(alloc: Global, command: &Command) -> Result<String, Fail> {
+    Ok(command_line(alloc, command)?)
+}
+
+/// The command that words make, as a line.
+fn line_read(alloc: Global, words: &[String]) -> Result<String, Fail> {
+    let command = read_words(alloc, words)?;
+    line_of(alloc, &command)
+}
+
 #[test]
 fn each_command_is_read(rt: HostRuntime) -> Result<(), Fail> {
     let rows = [
@@ -156,34 +167,34 @@ fn each_command_is_read(rt: HostRuntime) -> Result<(), Fail> {
     ];
     for (line, wanted) in rows {
         let words = words_of(rt.alloc(), line)?;
-        let command = read_words(rt.alloc(), words.as_slice())?;
-        assert_eq!(rt;
-            command_line(rt.alloc(), &command)?.as_str(),
-            wanted,
-            "{line}"
-        );
+        let found = line_read(rt.alloc(), words.as_slice())?;
+        assert_eq!(rt; found.as_str(), wanted, "{line}");
     }
     Ok(())
+}
+
+fn assert_walk<R: Abort>(rt: &R, command: &Command) {
+    let Command::Walk {
+        trace,
+        uid,
+        gids,
+        delim,
+    } = command
+    else {
+        panic!(rt; "it is another command");
+    };
+    assert_eq!(rt; trace.as_str(), "A");
+    assert_eq!(rt; *uid, 102);
+    assert!(rt; gids.as_slice().is_empty());
+    assert_eq!(rt; *delim, b'|');
 }
 
 #[test]
 fn two_dashes_end_the_options(rt: HostRuntime) -> Result<(), Fail> {
     let words = words_of(rt.alloc(), "walk -- A 102 - |")?;
-    match read_words(rt.alloc(), words.as_slice())? {
-        Command::Walk {
-            trace,
-            uid,
-            gids,
-            delim,
-        } => {
-            assert_eq!(rt; trace.as_str(), "A");
-            assert_eq!(rt; uid, 102);
-            assert!(rt; gids.as_slice().is_empty());
-            assert_eq!(rt; delim, b'|');
-            Ok(())
-        }
-        _ => panic!(rt; "it is another command"),
-    }
+    let command = read_words(rt.alloc(), words.as_slice())?;
+    assert_walk(&rt, &command);
+    Ok(())
 }
 
 fn with_option<'a>(
@@ -244,30 +255,46 @@ fn has_bytes(found: &ArgMatches<'_>, name: &str, value: &[u8]) -> bool {
     }
 }
 
+/// Asserts that clap found what was read.
+fn assert_common<R: Abort>(rt: &R, found: &ArgMatches<'_>, common: &Common) {
+    let passwd = common.passwd.as_ref().map(|file| file.as_str());
+    let group = common.group.as_ref().map(|file| file.as_str());
+    assert!(rt; has_bytes(found, "delim", &[common.delim]));
+    assert!(rt; has_bytes(found, "start", common.start.printed()));
+    assert!(rt; has_value(found, "passwd", passwd));
+    assert!(rt; has_value(found, "group", group));
+    assert!(rt; has_value(found, "limit", None));
+    assert!(rt; has_value(found, "workers", None));
+    assert!(rt; has_value(found, "index", Some(common.index.as_str())));
+    assert!(rt; has_value(found, "user", Some(common.user.as_str())));
+    assert_eq!(rt; common.limit, 0);
+    assert_eq!(rt; common.workers, 1);
+    assert_eq!(rt; passwd, Some("P"));
+}
+
+fn assert_flags<R: Abort>(rt: &R, found: &ArgMatches<'_>, long: bool, all: bool) {
+    assert!(rt; long);
+    assert_eq!(rt; long, found.get_flag("long"));
+    assert_eq!(rt; all, found.get_flag("all"));
+}
+
+fn assert_found<R: AllocGlobal + Abort>(
+    rt: &R,
+    words: &[String],
+    command: &Command,
+) -> Result<(), Fail> {
+    let Command::Ls { common, long, all } = command else {
+        panic!(rt; "it is another command");
+    };
+    let found = found_by_clap(rt.alloc(), words)?;
+    assert_common(rt, &found, common);
+    assert_flags(rt, &found, *long, *all);
+    Ok(())
+}
+
 #[test]
 fn clap_finds_the_same_in_the_words_of_ls(rt: HostRuntime) -> Result<(), Fail> {
     let words = words_of(rt.alloc(), "ls --delim=| --passwd=P --group=G -l H ana /")?;
-    let found = found_by_clap(rt.alloc(), words.as_slice())?;
-    match read_words(rt.alloc(), words.as_slice())? {
-        Command::Ls { common, long, all } => {
-            let passwd = common.passwd.as_ref().map(|file| file.as_str());
-            let group = common.group.as_ref().map(|file| file.as_str());
-            assert!(rt; has_bytes(&found, "delim", &[common.delim]));
-            assert!(rt; has_bytes(&found, "start", common.start.printed()));
-            assert!(rt; has_value(&found, "passwd", passwd));
-            assert!(rt; has_value(&found, "group", group));
-            assert!(rt; has_value(&found, "limit", None));
-            assert!(rt; has_value(&found, "workers", None));
-            assert!(rt; has_value(&found, "index", Some(common.index.as_str())));
-            assert!(rt; has_value(&found, "user", Some(common.user.as_str())));
-            assert_eq!(rt; common.limit, 0);
-            assert_eq!(rt; common.workers, 1);
-            assert_eq!(rt; passwd, Some("P"));
-            assert!(rt; long);
-            assert_eq!(rt; long, found.get_flag("long"));
-            assert_eq!(rt; all, found.get_flag("all"));
-            Ok(())
-        }
-        _ => panic!(rt; "it is another command"),
-    }
+    let command = read_words(rt.alloc(), words.as_slice())?;
+    assert_found(&rt, words.as_slice(), &command)
 }

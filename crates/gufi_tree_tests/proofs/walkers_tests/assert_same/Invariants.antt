@@ -1,4 +1,4 @@
-use Rattle.gufi_tree_tests.proofs.walkers_tests.many_walkers_give_the_rows_of_one_thread.Given as goal
+use Rattle.gufi_tree_tests.proofs.walkers_tests.assert_same.Given as goal
 
 abbrev pub ghosts-lines_alone : goal.ghosts-lines_alone
 ghosts-lines_alone g a = record { name = a.blank.name; parts = a.blank.parts }
