@@ -1,0 +1,413 @@
+#!/usr/bin/env python3
+"""Asks a site through its wrapper under everything that a caller can turn, and holds each answer to the whole one or a refusal.
+
+  bench/wrappers.py [--program PROGRAM] [--broken]
+
+It makes a site with accounts of its own, and removes them at the end; so it is to be run as root, on a machine with sudo and sshd,
+whose rules of sudo it adds a file to meanwhile. Two users ask: `gufitry1` is in a group that is barred from a directory which
+everybody else may list, so whoever loses his groups is shown more. What each must be shown stands here, worked by hand. A call's answer
+is whole (status 0, and that text), or refused (another status, and no text), or it is wrong; the status is 1 where one is, and where a
+call that nothing hinders is refused. With --broken the wrapper is one that loses groups: then wrong ones must be found.
+"""
+import argparse
+import collections
+import concurrent.futures
+import os
+import pwd
+import resource
+import shutil
+import subprocess
+import sys
+import tempfile
+import time
+
+TOP = os.path.dirname(os.path.dirname(os.path.abspath(__file__)))
+SITE, ONE, TWO, BARRED = "gufitry", "gufitry1", "gufitry2", "gufitryb"
+RULES = "/etc/sudoers.d/gufitry"
+PORT = 22522
+
+# Path, type, mode, owner, group and size. Numbers of owners and groups are put in by their names.
+TREE = [
+    ("/t", "d", 0o755, "root", "root", 4096),
+    ("/t/barred", "d", 0o705, "root", BARRED, 4096),
+    ("/t/barred/secret", "f", 0o644, "root", BARRED, 11),
+    ("/t/mine", "d", 0o700, ONE, ONE, 4096),
+    ("/t/mine/key", "f", 0o600, ONE, ONE, 9),
+    ("/t/open", "d", 0o755, "root", "root", 4096),
+    ("/t/open/a.txt", "f", 0o644, "root", "root", 5),
+    ("/t/shared", "d", 0o750, "root", BARRED, 4096),
+    ("/t/shared/plan", "f", 0o640, "root", BARRED, 7),
+]
+
+# Words, and what each of the two users is shown.
+QUESTIONS = [
+    (
+        ["find", "/"],
+        "/\n/mine\n/mine/key\n/open\n/open/a.txt\n/shared\n/shared/plan\n",
+        "/\n/barred\n/barred/secret\n/open\n/open/a.txt\n",
+    ),
+    (["find", "/", "-name", "*e*", "-type", "f", "-mtime", "+1"], "/mine/key\n", "/barred/secret\n"),
+    (["ls", "/"], "mine\nopen\nshared\n", "barred\nopen\n"),
+    (["query", "/", "SELECT size, name FROM entries"], "9\tkey\n5\ta.txt\n7\tplan\n", "11\tsecret\n5\ta.txt\n"),
+    (["agg", "/", "SELECT type, COUNT(*) FROM rows GROUP BY type"], "d\t4\nf\t3\n", "d\t3\nf\t2\n"),
+    (["stats", "/", "leaves"], "/mine\n/open\n/shared\n", "/barred\n/open\n"),
+]
+STAT = "path /\ntype d mode 0755 links 1 uid 0 gid 0\nsize 4096 blksize 4096 blocks 8 inode 1\natime 0 mtime 0 ctime 0\n"
+SUM = "dirs %s links 0 others 0 bytes %s mtime 0 0 uid 0 %s gid 0 %s\n"
+
+# Words that are refused, with the status and the front of the note, in which the caller's words are counted.
+REFUSED = [
+    ([], 2, "gufi-ask: word 1 refused"),
+    (["trace2index", "/etc/passwd"], 2, "gufi-ask: word 1 refused"),
+    (["--passwd=/etc/passwd", "find", "/"], 2, "gufi-ask: word 1 refused"),
+    (["find"], 2, "gufi-ask: word 2 refused"),
+    (["find", ""], 2, "gufi-ask: word 2 refused"),
+    (["find", "--limit=2", "/"], 2, "gufi-ask: word 2 refused"),
+    (["ls", "-l", "-A", "-x", "/"], 2, "gufi-ask: word 4 refused"),
+    (["ls", "-l", "-l", "/"], 2, "gufi: word 3 refused"),
+    (["ls", "-l", "/", "/"], 2, "gufi: word 4 refused"),
+    (["find", "/..", "-name", "x"], 2, "gufi: word 2 refused"),
+    (["find", "/", "-size", "1x"], 2, "gufi: word 4 BadNumber"),
+    (["find", "/", "-name", "a", "$(id)"], 2, "gufi: word 5 UnknownPrimary"),
+    (["find", "/", "; id"], 2, "gufi: word 3 UnknownPrimary"),
+    (["find", "/", "-name"], 2, "gufi: word 3 MissingArgument"),
+    (["query", "/"], 2, "gufi: word 3 refused"),
+    (["query", "/", "SELECT nope FROM rows"], 2, "gufi: word 3 at 7 UnknownColumn"),
+    (["agg", "/", "SELECT uid FROM rows GROUP BY gid"], 2, "gufi: word 3 at "),
+    (["stats", "/", "all"], 2, "gufi: word 3 refused"),
+    (["stat", "/none"], 1, "gufi: no such at depth 1"),
+    (["find", "/\nx"], 1, "gufi: no such at depth 1"),
+    (["find", b"/\xff"], 2, "gufi-ask: word 2 isn't UTF-8"),
+    (["find", "/" + 200000 * "x"], 77, "gufi-ask: "),
+]
+
+Answer = collections.namedtuple("Answer", "status text note")
+counts = collections.defaultdict(collections.Counter)
+faults = []
+
+
+def run(*words):
+    """Runs a command of the system, which must succeed."""
+    subprocess.run(words, check=True, stdout=subprocess.DEVNULL, stderr=subprocess.PIPE)
+
+
+class Site:
+    """A site in a folder of its own, with its accounts, and the ways to call its wrapper."""
+
+    def __init__(self, program, broken):
+        self.top = tempfile.mkdtemp(prefix="gufitry", dir="/var/lib")
+        os.chmod(self.top, 0o755)
+        self.ask = self.top + "/gufi-ask"
+        self.sshd = None
+        run("groupadd", BARRED)
+        run("useradd", "--system", "--user-group", "--home-dir", self.top, "--shell", "/bin/sh", SITE)
+        run("usermod", "--password", "*", SITE)
+        run("useradd", "--user-group", "--no-create-home", "--groups", BARRED, ONE)
+        run("useradd", "--user-group", "--no-create-home", TWO)
+        self.account = pwd.getpwnam(SITE)
+        self.users = [pwd.getpwnam(ONE), pwd.getpwnam(TWO)]
+        self.write_wrapper(broken)
+        self.write_site(program)
+        self.write("/sudoers", "Defaults!%s env_reset, preserve_groups\nALL ALL=(%s) NOPASSWD: NOSETENV: %s\n" % (self.ask, SITE, self.ask))
+        run("visudo", "-c", "-f", self.top + "/sudoers")
+        run("install", "-m", "0440", self.top + "/sudoers", RULES)
+        shown = [user.pw_uid for user in self.users]
+        groups = [os.getgrouplist(user.pw_name, user.pw_gid) for user in self.users]
+        self.questions = QUESTIONS + [
+            (
+                ["stat", "/"],
+                STAT + SUM % ("4 files 3", "21 size 5 9", shown[0], max(groups[0])),
+                STAT + SUM % ("3 files 2", "16 size 5 11", 0, max(gid for gid in groups[0] if gid != self.users[0].pw_gid)),
+            )
+        ]
+
+    def write(self, name, text, mode=0o644):
+        with open(self.top + name, "w", encoding="utf-8") as file:
+            file.write(text)
+        os.chmod(self.top + name, mode)
+
+    def write_wrapper(self, broken):
+        with open(TOP + "/examples/gufi-ask.py", encoding="utf-8") as file:
+            text = file.read()
+        text = text.replace('SITE = "/srv/gufi"', 'SITE = "%s/site"' % self.top)
+        if broken:
+            text = text.replace("groups = os.getgroups()", "groups = []")
+            text = text.replace("os.getgrouplist(name, entry.pw_gid)", "[entry.pw_gid]")
+        self.write("/gufi-ask", text, 0o755)
+
+    def write_site(self, program):
+        os.mkdir(self.top + "/site")
+        shutil.copy(program, self.top + "/site/gufi")
+        for table in ("passwd", "group"):
+            self.write("/site/" + table, subprocess.check_output(["getent", table], text=True))
+        ids = {user.pw_name: user.pw_uid for user in self.users}
+        gids = dict({user.pw_name: user.pw_gid for user in self.users}, root=0)
+        gids[BARRED] = int(subprocess.check_output(["getent", "group", BARRED], text=True).split(":")[2])
+        lines = [
+            "%s|%s|%d|%d|1|%d|%d|%d|4096|8|0|0|0|\n" % (path, kind, number, mode, ids.get(owner, 0), gids[group], size)
+            for number, (path, kind, mode, owner, group, size) in enumerate(TREE, 1)
+        ]
+        self.write("/site/trace", "".join(lines), 0o600)
+        with open(self.top + "/site/index", "wb") as index:
+            subprocess.run([self.top + "/site/gufi", "trace2index", "--delim=|", self.top + "/site/trace"], stdout=index, check=True)
+        shutil.chown(self.top + "/site", "root", SITE)
+        os.chmod(self.top + "/site", 0o750)
+        shutil.chown(self.top + "/site/index", "root", SITE)
+        os.chmod(self.top + "/site/index", 0o640)
+
+    def start_sshd(self, processes):
+        """Starts an sshd of the site's own for its account, under a limit of processes for that account."""
+        self.stop_sshd()
+        if not os.path.exists(self.top + "/host"):
+            os.makedirs("/run/sshd", exist_ok=True)
+            run("ssh-keygen", "-q", "-t", "ed25519", "-N", "", "-f", self.top + "/host")
+            keys = ""
+            for user in self.users:
+                run("ssh-keygen", "-q", "-t", "ed25519", "-N", "", "-f", self.top + "/" + user.pw_name)
+                with open("%s/%s.pub" % (self.top, user.pw_name), encoding="utf-8") as key:
+                    keys += 'restrict,command="%s --ssh %s" %s' % (self.ask, user.pw_name, key.read())
+            self.write("/keys", keys)
+        settings = "Port %d\nListenAddress 127.0.0.1\nHostKey %s/host\nAuthorizedKeysFile %s/keys\n" % (PORT, self.top, self.top)
+        self.write("/sshd_config", settings + "UsePAM no\nMaxStartups 200\nPidFile none\n")
+        bound = lambda: resource.setrlimit(resource.RLIMIT_NPROC, (processes, processes))
+        command = ["/usr/sbin/sshd", "-D", "-e", "-f", self.top + "/sshd_config"]
+        self.sshd = subprocess.Popen(command, preexec_fn=bound, stderr=subprocess.DEVNULL)
+        time.sleep(1)
+
+    def stop_sshd(self):
+        if self.sshd:
+            self.sshd.terminate()
+            self.sshd.wait()
+            self.sshd = None
+
+    def remove(self):
+        self.stop_sshd()
+        if os.path.exists(RULES):
+            os.remove(RULES)
+        for user in (ONE, TWO, SITE):
+            subprocess.run(["userdel", user], stderr=subprocess.DEVNULL, check=False)
+        subprocess.run(["groupdel", BARRED], stderr=subprocess.DEVNULL, check=False)
+        shutil.rmtree(self.top)
+
+    def by_sudo(self, user, words, **hindrance):
+        """The user's own call, by sudo."""
+        command = ["sudo", "-n", "-u", SITE, self.ask] + words
+        return call(command, user, os.getgrouplist(user.pw_name, user.pw_gid), **hindrance)
+
+    def by_sudo_alone(self, user, words, environment=None, **hindrance):
+        """What sudo starts for the user, with nothing of sudo's beside it."""
+        given = dict(environment or {}, SUDO_UID=str(user.pw_uid), SUDO_GID=str(user.pw_gid), SUDO_USER=user.pw_name)
+        groups = os.getgrouplist(user.pw_name, user.pw_gid)
+        return call([self.ask] + words, self.account, groups, environment=given, **hindrance)
+
+    def by_ssh_alone(self, user, words, environment=None, **hindrance):
+        """What sshd starts for a key of the user's, with nothing of sshd's beside it."""
+        given = dict(environment or {}, SSH_ORIGINAL_COMMAND=quoted(words))
+        return call([self.ask, "--ssh", user.pw_name], self.account, [self.account.pw_gid], environment=given, **hindrance)
+
+    def by_ssh(self, user, words):
+        """The user's own call, by ssh."""
+        options = "-p%d -oBatchMode=yes -oStrictHostKeyChecking=no -oUserKnownHostsFile=/dev/null -oLogLevel=ERROR" % PORT
+        command = ["ssh", "-F/dev/null", "-i%s/%s" % (self.top, user.pw_name)] + options.split() + [SITE + "@127.0.0.1", quoted(words)]
+        return call(command, pwd.getpwnam("root"), [0])
+
+
+def quoted(words):
+    """The words as one text, each in single quotes."""
+    text = b" ".join(b"'%s'" % os.fsencode(word).replace(b"'", b"'\\''") for word in words)
+    return os.fsdecode(text)
+
+
+def call(command, user, groups, environment=None, limits=(), closed=(), folder="/"):
+    """Runs a command as a user, under limits, with streams closed, in an environment and a folder."""
+
+    def hinder():
+        for kind, most in limits:
+            resource.setrlimit(kind, (most, most))
+        for stream in closed:
+            os.close(stream)
+
+    started = subprocess.run(
+        command,
+        user=user.pw_uid,
+        group=user.pw_gid,
+        extra_groups=groups,
+        preexec_fn=hinder,
+        env=dict({"PATH": "/usr/bin:/bin", "LANG": "C.UTF-8"}, **(environment or {})),
+        cwd=folder,
+        stdin=subprocess.DEVNULL,
+        stdout=subprocess.PIPE,
+        stderr=subprocess.PIPE,
+        timeout=120,
+        check=False,
+    )
+    return Answer(started.returncode, started.stdout.decode("utf-8", "replace"), started.stderr.decode("utf-8", "replace"))
+
+
+def judge(kind, whole, answer, hindered=True, no_text=False):
+    """Counts an answer: whole, refused, or wrong. With no_text there is no stream that a text could come by."""
+    if answer.status == 0 and (answer.text == whole or no_text and not answer.text):
+        counts[kind]["whole"] += 1
+    elif answer.status != 0 and not answer.text and hindered:
+        counts[kind]["refused"] += 1
+    else:
+        counts[kind]["wrong"] += 1
+        faults.append("%s: %r in place of %r" % (kind, answer, whole))
+
+
+def judge_refusal(kind, status, note, answer):
+    """Counts an answer that must be a refusal with that status and a note that begins so."""
+    if answer.status == status and not answer.text and answer.note.startswith(note):
+        counts[kind]["refused"] += 1
+    else:
+        counts[kind]["wrong"] += 1
+        faults.append("%s: %r in place of %d %s" % (kind, answer, status, note))
+
+
+def each(site, ways):
+    """Each way, user and question, with what is to be shown."""
+    for way in ways:
+        for place, user in enumerate(site.users):
+            for question in site.questions:
+                yield way, user, question[0], question[1 + place]
+
+
+def try_unhindered(site):
+    for way, user, words, whole in each(site, (site.by_sudo, site.by_sudo_alone, site.by_ssh_alone, site.by_ssh)):
+        judge("nothing in the way, %s" % way.__name__, whole, way(user, words), hindered=False)
+
+
+def try_limits(site):
+    """Limits that a caller can set, from none to plenty."""
+    mega = 1 << 20
+    limits = [("processes", resource.RLIMIT_NPROC, range(0, 65))]
+    limits.append(("open files", resource.RLIMIT_NOFILE, range(0, 65)))
+    for name, kind in (("address space", resource.RLIMIT_AS), ("data", resource.RLIMIT_DATA), ("stack", resource.RLIMIT_STACK)):
+        sizes = [mega // 16 * step for step in range(0, 16)] + [mega * step for step in range(1, 64)]
+        limits.append((name, kind, sizes + [mega * step for step in range(64, 640, 16)]))
+    limits.append(("sizes of files", resource.RLIMIT_FSIZE, [0, 1, 10, 1000]))
+    limits.append(("locked memory", resource.RLIMIT_MEMLOCK, [0]))
+    limits.append(("processor time", resource.RLIMIT_CPU, [0, 1]))
+    ways = (site.by_sudo, site.by_sudo_alone, site.by_ssh_alone)
+    for name, kind, values in limits:
+        for way in ways:
+            for value in values:
+                for place, user in enumerate(site.users):
+                    question = site.questions[value % len(site.questions)] if value % 2 else site.questions[0]
+                    judge("limits of %s, %s" % (name, way.__name__), question[1 + place], way(user, question[0], limits=[(kind, value)]))
+
+
+def try_closed(site):
+    for way, user, words, whole in each(site, (site.by_sudo, site.by_sudo_alone, site.by_ssh_alone)):
+        for closed in ((0,), (1,), (2,), (0, 1), (0, 2), (1, 2), (0, 1, 2)):
+            answer = way(user, words, closed=closed)
+            judge("closed streams, %s" % way.__name__, whole, answer, no_text=1 in closed)
+            if whole in answer.note:
+                faults.append("closed streams %s: the answer stands among the notes" % (closed,))
+
+
+def try_words(site):
+    for way in (site.by_sudo, site.by_sudo_alone, site.by_ssh_alone, site.by_ssh):
+        for words, status, note in REFUSED:
+            long = any(len(word) > 100000 for word in words)
+            if not (long and way != site.by_sudo_alone):
+                words = [word if isinstance(word, bytes) else word.encode() for word in words]
+                judge_refusal("odd words, %s" % way.__name__, status, note, way(site.users[0], words))
+    for text in ("find / 'x", 'find "/', "find /\\"):
+        answer = call(
+            [site.ask, "--ssh", ONE], site.account, [site.account.pw_gid], environment={"SSH_ORIGINAL_COMMAND": text}
+        )
+        judge_refusal("odd words, an open quote", 2, "gufi-ask: the words can't be told apart", answer)
+
+
+def try_callers(site):
+    """Callers who aren't there, or can't be told."""
+    kind = "odd callers"
+    nobody = collections.namedtuple("User", "pw_name pw_uid pw_gid")("nobody-at-all", 65000, 65000)
+    answer = call(["sudo", "-n", "-u", SITE, site.ask, "find", "/"], nobody, [])
+    judge(kind, "nothing", answer)
+    for name in (nobody.pw_name, "", "-x", "#0", "0", "root\n", ONE + " "):
+        user = nobody._replace(pw_name=name)
+        judge_refusal(kind, 77, "gufi-ask: ", site.by_ssh_alone(user, ["find", "/"]))
+    for uid in ("", "0;id", "-1", " 0", "+0", "0x0", "\u0663", "4294967296", "9" * 5000):
+        environment = {"SUDO_UID": uid, "SUDO_GID": "0"}
+        judge_refusal(kind, 77, "gufi-ask: ", call([site.ask, "find", "/"], site.account, [], environment=environment))
+    one = site.users[0]
+    judge_refusal(kind, 77, "gufi-ask: to be called", site.by_sudo(one, ["--ssh", TWO], environment={"SSH_ORIGINAL_COMMAND": "find /"}))
+    judge_refusal(kind, 77, "gufi-ask: to be called", call([site.ask, "find", "/"], site.account, []))
+    judge_refusal(kind, 77, "gufi-ask: sudo didn't keep", call([site.ask, "find", "/"], site.account, [site.account.pw_gid],
+                  environment={"SUDO_UID": str(one.pw_uid), "SUDO_GID": str(one.pw_gid)}))
+
+
+def try_environments(site):
+    """What a caller can put into his environment and his folder."""
+    folder = site.top + "/odd"
+    os.mkdir(folder)
+    for name in ("pwd", "re", "resource", "shlex", "signal", "time", "os", "sitecustomize", "usercustomize", "encodings"):
+        site.write("/odd/%s.py" % name, 'import sys\nsys.stdout.write("/barred/secret\\n")\nsys.exit(0)\n')
+    odd = [{"PYTHON" + name: folder} for name in ("PATH", "HOME", "STARTUP", "USERBASE", "CASEOK", "PLATLIBDIR", "PYCACHEPREFIX")]
+    odd += [{"PYTHON" + name: "1"} for name in ("INSPECT", "OPTIMIZE", "VERBOSE", "DEBUG", "WARNINGS", "UTF8", "MALLOC", "IOENCODING")]
+    odd += [{"LANG": lang, "LC_ALL": lang} for lang in ("C", "POSIX", "tr_TR", "xx", "", "../..", "ja_JP.SJIS", 1000 * "a")]
+    odd += [{"SUDO_UID": "0", "SUDO_GID": "0", "SUDO_USER": "root"}, {"SSH_ORIGINAL_COMMAND": "find /barred"}, {"IFS": "/"}]
+    odd += [{"PATH": folder}, {"PATH": ""}, {"HOME": "/none"}, {"TZ": "../../etc/passwd"}, {"TMPDIR": "/none"}, {"ENV": folder + "/re.py"}]
+    odd += [{"GLIBC_TUNABLES": "glibc.malloc.arena_max=1"}, {"LD_LIBRARY_PATH": folder}, {"MALLOC_ARENA_MAX": "1"}, {"X": 100000 * "x"}]
+    for environment in odd:
+        kept = dict(environment)
+        path = kept.pop("PATH", None)
+        for place, user in enumerate(site.users):
+            words, whole = QUESTIONS[0][0], QUESTIONS[0][1 + place]
+            judge("odd environments, by_sudo", whole, site.by_sudo(user, words, environment=kept, folder=folder), hindered=False)
+            if path is not None:
+                kept["PATH"] = path
+            alone = {name: value for name, value in kept.items() if not name.startswith(("SUDO_", "SSH_"))}
+            for way in (site.by_sudo_alone, site.by_ssh_alone):
+                answer = way(user, words, environment=alone, folder=folder)
+                judge("odd environments, %s" % way.__name__, whole, answer, hindered=False)
+    shutil.rmtree(folder)
+
+
+def try_crowds(site):
+    """Forty calls side by side, by ssh under limits of processes for the account, and by sudo under the callers' own."""
+    with concurrent.futures.ThreadPoolExecutor(40) as crowd:
+        for most in (2, 8, 16, 24, 40, 64, 4096):
+            site.start_sshd(most)
+            asked = [(place, crowd.submit(site.by_ssh, site.users[place], QUESTIONS[0][0])) for place in (0, 1) * 20]
+            for place, asking in asked:
+                judge("40 side by side, by ssh, %d processes" % most, QUESTIONS[0][1 + place], asking.result(), most < 4096)
+        site.start_sshd(4096)
+        for most in (2, 8, 16, 24, 40, 64):
+            limits = [(resource.RLIMIT_NPROC, most)]
+            asked = [(place, crowd.submit(site.by_sudo, site.users[place], QUESTIONS[0][0], limits=limits)) for place in (0, 1) * 20]
+            for place, asking in asked:
+                judge("40 side by side, by sudo, %d processes" % most, QUESTIONS[0][1 + place], asking.result())
+
+
+def tell():
+    """Prints what was counted, and returns how many answers were wrong."""
+    for kind, count in sorted(counts.items()):
+        print("%-60s whole %5d  refused %5d  wrong %d" % (kind, count["whole"], count["refused"], count["wrong"]))
+    total = sum(counts.values(), collections.Counter())
+    print("%-60s whole %5d  refused %5d  wrong %d" % ("all", total["whole"], total["refused"], total["wrong"]))
+    for fault in faults[:10]:
+        print(fault)
+    return len(faults)
+
+
+def main():
+    parser = argparse.ArgumentParser(description="Asks a site through its wrapper under everything that a caller can turn.")
+    parser.add_argument("--program", default=TOP + "/crates/gufi/out/gufi")
+    parser.add_argument("--broken", action="store_true", help="use a wrapper that loses groups, of which wrong answers must come")
+    given = parser.parse_args()
+    site = Site(given.program, given.broken)
+    try:
+        site.start_sshd(4096)
+        tries = (try_unhindered, try_words, try_callers, try_closed, try_environments, try_limits, try_crowds)
+        for attempt in tries[:1] if given.broken else tries:
+            attempt(site)
+    finally:
+        site.remove()
+    return int((tell() > 0) != given.broken)
+
+
+if __name__ == "__main__":
+    sys.exit(main())
