@@ -16,10 +16,12 @@ import os
 import pwd
 import resource
 import shutil
+import signal
 import subprocess
 import sys
 import tempfile
 import time
+from functools import partial
 
 TOP = os.path.dirname(os.path.dirname(os.path.abspath(__file__)))
 SITE, ONE, TWO, BARRED = "gufitry", "gufitry1", "gufitry2", "gufitryb"
@@ -70,18 +72,19 @@ REFUSED = [
     (["find", "/", "-size", "1x"], 2, "gufi: word 4 BadNumber"),
     (["find", "/", "-name", "a", "$(id)"], 2, "gufi: word 5 UnknownPrimary"),
     (["find", "/", "; id"], 2, "gufi: word 3 UnknownPrimary"),
-    (["find", "/", "-name"], 2, "gufi: word 3 MissingArgument"),
+    (["find", "/", "-name"], 2, "gufi: word 4 MissingArgument"),
     (["query", "/"], 2, "gufi: word 3 refused"),
     (["query", "/", "SELECT nope FROM rows"], 2, "gufi: word 3 at 7 UnknownColumn"),
     (["agg", "/", "SELECT uid FROM rows GROUP BY gid"], 2, "gufi: word 3 at "),
     (["stats", "/", "all"], 2, "gufi: word 3 refused"),
     (["stat", "/none"], 1, "gufi: no such at depth 1"),
-    (["find", "/\nx"], 1, "gufi: no such at depth 1"),
+    (["find", "/\nx"], 2, "gufi: word 2 refused"),
     (["find", b"/\xff"], 2, "gufi-ask: word 2 isn't UTF-8"),
-    (["find", "/" + 200000 * "x"], 77, "gufi-ask: "),
+    (["find", "/" + 100000 * "x"], 2, "gufi: word 2 refused"),
 ]
 
 Answer = collections.namedtuple("Answer", "status text note")
+User = collections.namedtuple("User", "pw_name pw_uid pw_gid")
 counts = collections.defaultdict(collections.Counter)
 faults = []
 
@@ -194,10 +197,10 @@ class Site:
         command = ["sudo", "-n", "-u", SITE, self.ask] + words
         return call(command, user, os.getgrouplist(user.pw_name, user.pw_gid), **hindrance)
 
-    def by_sudo_alone(self, user, words, environment=None, **hindrance):
+    def by_sudo_alone(self, user, words, environment=None, groups=None, **hindrance):
         """What sudo starts for the user, with nothing of sudo's beside it."""
         given = dict(environment or {}, SUDO_UID=str(user.pw_uid), SUDO_GID=str(user.pw_gid), SUDO_USER=user.pw_name)
-        groups = os.getgrouplist(user.pw_name, user.pw_gid)
+        groups = groups or os.getgrouplist(user.pw_name, user.pw_gid)
         return call([self.ask] + words, self.account, groups, environment=given, **hindrance)
 
     def by_ssh_alone(self, user, words, environment=None, **hindrance):
@@ -244,9 +247,9 @@ def call(command, user, groups, environment=None, limits=(), closed=(), folder="
     return Answer(started.returncode, started.stdout.decode("utf-8", "replace"), started.stderr.decode("utf-8", "replace"))
 
 
-def judge(kind, whole, answer, hindered=True, no_text=False):
+def judge(answer, kind, whole, hindered=True, no_text=False):
     """Counts an answer: whole, refused, or wrong. With no_text there is no stream that a text could come by."""
-    if answer.status == 0 and (answer.text == whole or no_text and not answer.text):
+    if answer.status == 0 and (answer.text == whole or no_text and not answer.text) and whole not in answer.note:
         counts[kind]["whole"] += 1
     elif answer.status != 0 and not answer.text and hindered:
         counts[kind]["refused"] += 1
@@ -255,13 +258,20 @@ def judge(kind, whole, answer, hindered=True, no_text=False):
         faults.append("%s: %r in place of %r" % (kind, answer, whole))
 
 
-def judge_refusal(kind, status, note, answer):
+def judge_refusal(answer, kind, status, note):
     """Counts an answer that must be a refusal with that status and a note that begins so."""
     if answer.status == status and not answer.text and answer.note.startswith(note):
         counts[kind]["refused"] += 1
     else:
         counts[kind]["wrong"] += 1
         faults.append("%s: %r in place of %d %s" % (kind, answer, status, note))
+
+
+def run_all(cases, side_by_side):
+    """Runs cases, each a call and what judges its answer, so many at a time."""
+    with concurrent.futures.ThreadPoolExecutor(side_by_side) as pool:
+        for judged, answer in [(judged, pool.submit(asked)) for asked, judged in cases]:
+            judged(answer.result())
 
 
 def each(site, ways):
@@ -272,114 +282,114 @@ def each(site, ways):
                 yield way, user, question[0], question[1 + place]
 
 
-def try_unhindered(site):
+def unhindered(site):
     for way, user, words, whole in each(site, (site.by_sudo, site.by_sudo_alone, site.by_ssh_alone, site.by_ssh)):
-        judge("nothing in the way, %s" % way.__name__, whole, way(user, words), hindered=False)
+        yield partial(way, user, words), partial(judge, kind="nothing in the way, " + way.__name__, whole=whole, hindered=False)
 
 
-def try_limits(site):
-    """Limits that a caller can set, from none to plenty."""
+def limits():
+    """Limits that a caller can set, from none to plenty: what they are called, which they are, and their values."""
     mega = 1 << 20
-    limits = [("processes", resource.RLIMIT_NPROC, range(0, 65))]
-    limits.append(("open files", resource.RLIMIT_NOFILE, range(0, 65)))
-    for name, kind in (("address space", resource.RLIMIT_AS), ("data", resource.RLIMIT_DATA), ("stack", resource.RLIMIT_STACK)):
-        sizes = [mega // 16 * step for step in range(0, 16)] + [mega * step for step in range(1, 64)]
-        limits.append((name, kind, sizes + [mega * step for step in range(64, 640, 16)]))
-    limits.append(("sizes of files", resource.RLIMIT_FSIZE, [0, 1, 10, 1000]))
-    limits.append(("locked memory", resource.RLIMIT_MEMLOCK, [0]))
-    limits.append(("processor time", resource.RLIMIT_CPU, [0, 1]))
-    ways = (site.by_sudo, site.by_sudo_alone, site.by_ssh_alone)
-    for name, kind, values in limits:
-        for way in ways:
-            for value in values:
-                for place, user in enumerate(site.users):
-                    question = site.questions[value % len(site.questions)] if value % 2 else site.questions[0]
-                    judge("limits of %s, %s" % (name, way.__name__), question[1 + place], way(user, question[0], limits=[(kind, value)]))
+    sizes = [mega // 8 * step for step in range(8)] + [mega * step for step in range(1, 40)] + [mega * step for step in range(40, 640, 40)]
+    return [
+        ("processes", resource.RLIMIT_NPROC, range(65)),
+        ("open files", resource.RLIMIT_NOFILE, range(65)),
+        ("address space", resource.RLIMIT_AS, sizes),
+        ("data", resource.RLIMIT_DATA, sizes),
+        ("stack", resource.RLIMIT_STACK, sizes[:16]),
+        ("sizes of files", resource.RLIMIT_FSIZE, [0, 1, 1000]),
+        ("locked memory", resource.RLIMIT_MEMLOCK, [0]),
+        ("processor time", resource.RLIMIT_CPU, [0, 1]),
+    ]
 
 
-def try_closed(site):
-    for way, user, words, whole in each(site, (site.by_sudo, site.by_sudo_alone, site.by_ssh_alone)):
-        for closed in ((0,), (1,), (2,), (0, 1), (0, 2), (1, 2), (0, 1, 2)):
-            answer = way(user, words, closed=closed)
-            judge("closed streams, %s" % way.__name__, whole, answer, no_text=1 in closed)
-            if whole in answer.note:
-                faults.append("closed streams %s: the answer stands among the notes" % (closed,))
+def limited(site):
+    """The barred user under each limit, and the other one under some."""
+    for name, kind, values in limits():
+        for way in (site.by_sudo, site.by_sudo_alone, site.by_ssh_alone):
+            for number, value in enumerate(values):
+                question = site.questions[number % len(site.questions)]
+                for place in (0, 1) if number % 8 == 0 else (0,):
+                    asked = partial(way, site.users[place], question[0], limits=[(kind, value)])
+                    yield asked, partial(judge, kind="limits of %s, %s" % (name, way.__name__), whole=question[1 + place])
 
 
-def try_words(site):
+def closed(site):
+    for way in (site.by_sudo, site.by_sudo_alone, site.by_ssh_alone):
+        for streams in ((0,), (1,), (2,), (0, 1), (0, 2), (1, 2), (0, 1, 2)):
+            for place, user in enumerate(site.users):
+                for question in site.questions[:3]:
+                    asked = partial(way, user, question[0], closed=streams)
+                    yield asked, partial(judge, kind="closed streams, " + way.__name__, whole=question[1 + place], no_text=1 in streams)
+
+
+def odd_words(site):
     for way in (site.by_sudo, site.by_sudo_alone, site.by_ssh_alone, site.by_ssh):
         for words, status, note in REFUSED:
-            long = any(len(word) > 100000 for word in words)
-            if not (long and way != site.by_sudo_alone):
-                words = [word if isinstance(word, bytes) else word.encode() for word in words]
-                judge_refusal("odd words, %s" % way.__name__, status, note, way(site.users[0], words))
+            asked = partial(way, site.users[0], [os.fsencode(word) for word in words])
+            yield asked, partial(judge_refusal, kind="odd words, " + way.__name__, status=status, note=note)
     for text in ("find / 'x", 'find "/', "find /\\"):
-        answer = call(
-            [site.ask, "--ssh", ONE], site.account, [site.account.pw_gid], environment={"SSH_ORIGINAL_COMMAND": text}
-        )
-        judge_refusal("odd words, an open quote", 2, "gufi-ask: the words can't be told apart", answer)
+        environment = {"SSH_ORIGINAL_COMMAND": text}
+        asked = partial(call, [site.ask, "--ssh", ONE], site.account, [site.account.pw_gid], environment=environment)
+        yield asked, partial(judge_refusal, kind="odd words, an open quote", status=2, note="gufi-ask: the words can't be told apart")
 
 
-def try_callers(site):
+def odd_callers(site):
     """Callers who aren't there, or can't be told."""
-    kind = "odd callers"
-    nobody = collections.namedtuple("User", "pw_name pw_uid pw_gid")("nobody-at-all", 65000, 65000)
-    answer = call(["sudo", "-n", "-u", SITE, site.ask, "find", "/"], nobody, [])
-    judge(kind, "nothing", answer)
+    nobody = User("nobody-at-all", 65000, 65000)
+    yield partial(call, ["sudo", "-n", "-u", SITE, site.ask, "find", "/"], nobody, []), partial(judge, kind="odd callers", whole="none")
+    refused = partial(judge_refusal, kind="odd callers", status=77)
     for name in (nobody.pw_name, "", "-x", "#0", "0", "root\n", ONE + " "):
-        user = nobody._replace(pw_name=name)
-        judge_refusal(kind, 77, "gufi-ask: ", site.by_ssh_alone(user, ["find", "/"]))
-    for uid in ("", "0;id", "-1", " 0", "+0", "0x0", "\u0663", "4294967296", "9" * 5000):
-        environment = {"SUDO_UID": uid, "SUDO_GID": "0"}
-        judge_refusal(kind, 77, "gufi-ask: ", call([site.ask, "find", "/"], site.account, [], environment=environment))
+        yield partial(site.by_ssh_alone, nobody._replace(pw_name=name), ["find", "/"]), partial(refused, note="gufi-ask: ")
+    alone = partial(call, [site.ask, "find", "/"], site.account)
+    for uid in ("", "0;id", "-1", " 0", "+0", "0x0", "\u0663", "4294967296", 5000 * "9"):
+        yield partial(alone, [], environment={"SUDO_UID": uid, "SUDO_GID": "0"}), partial(refused, note="gufi-ask: ")
+    yield partial(alone, []), partial(refused, note="gufi-ask: to be called by")
     one = site.users[0]
-    judge_refusal(kind, 77, "gufi-ask: to be called", site.by_sudo(one, ["--ssh", TWO], environment={"SSH_ORIGINAL_COMMAND": "find /"}))
-    judge_refusal(kind, 77, "gufi-ask: to be called", call([site.ask, "find", "/"], site.account, []))
-    judge_refusal(kind, 77, "gufi-ask: sudo didn't keep", call([site.ask, "find", "/"], site.account, [site.account.pw_gid],
-                  environment={"SUDO_UID": str(one.pw_uid), "SUDO_GID": str(one.pw_gid)}))
+    not_kept = partial(site.by_sudo_alone, one, ["find", "/"], groups=[site.account.pw_gid])
+    yield not_kept, partial(refused, note="gufi-ask: sudo didn't keep")
+    other = partial(site.by_sudo, one, ["--ssh", TWO], environment={"SSH_ORIGINAL_COMMAND": "find /"})
+    yield other, partial(refused, note="gufi-ask: to be called by")
 
 
-def try_environments(site):
-    """What a caller can put into his environment and his folder."""
-    folder = site.top + "/odd"
-    os.mkdir(folder)
-    for name in ("pwd", "re", "resource", "shlex", "signal", "time", "os", "sitecustomize", "usercustomize", "encodings"):
-        site.write("/odd/%s.py" % name, 'import sys\nsys.stdout.write("/barred/secret\\n")\nsys.exit(0)\n')
+def environments(folder):
+    """What a caller can put into his environment, with a folder of hostile modules."""
     odd = [{"PYTHON" + name: folder} for name in ("PATH", "HOME", "STARTUP", "USERBASE", "CASEOK", "PLATLIBDIR", "PYCACHEPREFIX")]
     odd += [{"PYTHON" + name: "1"} for name in ("INSPECT", "OPTIMIZE", "VERBOSE", "DEBUG", "WARNINGS", "UTF8", "MALLOC", "IOENCODING")]
     odd += [{"LANG": lang, "LC_ALL": lang} for lang in ("C", "POSIX", "tr_TR", "xx", "", "../..", "ja_JP.SJIS", 1000 * "a")]
     odd += [{"SUDO_UID": "0", "SUDO_GID": "0", "SUDO_USER": "root"}, {"SSH_ORIGINAL_COMMAND": "find /barred"}, {"IFS": "/"}]
-    odd += [{"PATH": folder}, {"PATH": ""}, {"HOME": "/none"}, {"TZ": "../../etc/passwd"}, {"TMPDIR": "/none"}, {"ENV": folder + "/re.py"}]
-    odd += [{"GLIBC_TUNABLES": "glibc.malloc.arena_max=1"}, {"LD_LIBRARY_PATH": folder}, {"MALLOC_ARENA_MAX": "1"}, {"X": 100000 * "x"}]
-    for environment in odd:
-        kept = dict(environment)
-        path = kept.pop("PATH", None)
-        for place, user in enumerate(site.users):
-            words, whole = QUESTIONS[0][0], QUESTIONS[0][1 + place]
-            judge("odd environments, by_sudo", whole, site.by_sudo(user, words, environment=kept, folder=folder), hindered=False)
-            if path is not None:
-                kept["PATH"] = path
-            alone = {name: value for name, value in kept.items() if not name.startswith(("SUDO_", "SSH_"))}
-            for way in (site.by_sudo_alone, site.by_ssh_alone):
-                answer = way(user, words, environment=alone, folder=folder)
-                judge("odd environments, %s" % way.__name__, whole, answer, hindered=False)
-    shutil.rmtree(folder)
+    odd += [{"HOME": "/none"}, {"TZ": "../../etc/passwd"}, {"TMPDIR": "/none"}, {"ENV": folder + "/re.py"}, {"X": 100000 * "x"}]
+    return odd + [{"GLIBC_TUNABLES": "glibc.malloc.arena_max=1"}, {"LD_LIBRARY_PATH": folder}, {"MALLOC_ARENA_MAX": "1"}]
+
+
+def odd_environments(site):
+    folder = site.top + "/odd"
+    os.mkdir(folder)
+    for name in ("pwd", "re", "resource", "shlex", "signal", "time", "os", "sitecustomize", "usercustomize", "encodings"):
+        site.write("/odd/%s.py" % name, 'import sys\nsys.stdout.write("/barred/secret\\n")\nsys.exit(0)\n')
+    for environment in environments(folder):
+        mine = {name: value for name, value in environment.items() if not name.startswith(("SUDO_", "SSH_"))}
+        for way, given in ((site.by_sudo, environment), (site.by_sudo_alone, mine), (site.by_ssh_alone, mine)):
+            for place, user in enumerate(site.users):
+                asked = partial(way, user, QUESTIONS[0][0], environment=given, folder=folder)
+                kind = "odd environments, " + way.__name__
+                yield asked, partial(judge, kind=kind, whole=QUESTIONS[0][1 + place], hindered=False)
+
+
+def crowd(site, way, kind, **hindrance):
+    """Forty calls, by each of the two users twenty."""
+    for place in (0, 1) * 20:
+        judged = partial(judge, kind="40 side by side, " + kind, whole=QUESTIONS[0][1 + place])
+        yield partial(way, site.users[place], QUESTIONS[0][0], **hindrance), judged
 
 
 def try_crowds(site):
-    """Forty calls side by side, by ssh under limits of processes for the account, and by sudo under the callers' own."""
-    with concurrent.futures.ThreadPoolExecutor(40) as crowd:
-        for most in (2, 8, 16, 24, 40, 64, 4096):
-            site.start_sshd(most)
-            asked = [(place, crowd.submit(site.by_ssh, site.users[place], QUESTIONS[0][0])) for place in (0, 1) * 20]
-            for place, asking in asked:
-                judge("40 side by side, by ssh, %d processes" % most, QUESTIONS[0][1 + place], asking.result(), most < 4096)
-        site.start_sshd(4096)
-        for most in (2, 8, 16, 24, 40, 64):
-            limits = [(resource.RLIMIT_NPROC, most)]
-            asked = [(place, crowd.submit(site.by_sudo, site.users[place], QUESTIONS[0][0], limits=limits)) for place in (0, 1) * 20]
-            for place, asking in asked:
-                judge("40 side by side, by sudo, %d processes" % most, QUESTIONS[0][1 + place], asking.result())
+    """By ssh under limits of processes for the account, and by sudo under the callers' own."""
+    for most in (4, 8, 16, 24, 40, 64, 4096):
+        site.start_sshd(most)
+        run_all(crowd(site, site.by_ssh, "by_ssh, %d processes" % most), 40)
+    for most in (4, 8, 16, 24, 40, 64, 4096):
+        run_all(crowd(site, site.by_sudo, "by_sudo, %d processes" % most, limits=[(resource.RLIMIT_NPROC, most)]), 40)
 
 
 def tell():
@@ -397,13 +407,16 @@ def main():
     parser = argparse.ArgumentParser(description="Asks a site through its wrapper under everything that a caller can turn.")
     parser.add_argument("--program", default=TOP + "/crates/gufi/out/gufi")
     parser.add_argument("--broken", action="store_true", help="use a wrapper that loses groups, of which wrong answers must come")
+    parser.add_argument("--jobs", type=int, default=os.cpu_count(), help="how many calls side by side, but for the crowds")
     given = parser.parse_args()
+    signal.signal(signal.SIGTERM, lambda number, frame: sys.exit(1))
     site = Site(given.program, given.broken)
     try:
         site.start_sshd(4096)
-        tries = (try_unhindered, try_words, try_callers, try_closed, try_environments, try_limits, try_crowds)
-        for attempt in tries[:1] if given.broken else tries:
-            attempt(site)
+        for cases in (unhindered,) if given.broken else (unhindered, odd_words, odd_callers, odd_environments, closed, limited):
+            run_all(cases(site), given.jobs)
+        if not given.broken:
+            try_crowds(site)
     finally:
         site.remove()
     return int((tell() > 0) != given.broken)

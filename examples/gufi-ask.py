@@ -119,9 +119,9 @@ def texts_of(words):
 
 def words_by_ssh():
     """The words that came with the call."""
-    [text] = texts_of([os.environb.get(b"SSH_ORIGINAL_COMMAND", b"")])
+    text = os.environb.get(b"SSH_ORIGINAL_COMMAND", b"").decode("utf-8", "surrogateescape")
     try:
-        return shlex.split(text)
+        return texts_of(word.encode("utf-8", "surrogateescape") for word in shlex.split(text))
     except ValueError as fault:
         refuse(2, "the words can't be told apart: %s" % str(fault).lower())
 
