@@ -86,6 +86,7 @@ REFUSED = [
 Answer = collections.namedtuple("Answer", "status text note")
 User = collections.namedtuple("User", "pw_name pw_uid pw_gid")
 counts = collections.defaultdict(collections.Counter)
+statuses = collections.defaultdict(collections.Counter)
 faults = []
 
 
@@ -249,6 +250,7 @@ def call(command, user, groups, environment=None, limits=(), closed=(), folder="
 
 def judge(answer, kind, whole, hindered=True, no_text=False):
     """Counts an answer: whole, refused, or wrong. With no_text there is no stream that a text could come by."""
+    statuses[kind][answer.status] += 1
     if answer.status == 0 and (answer.text == whole or no_text and not answer.text) and whole not in answer.note:
         counts[kind]["whole"] += 1
     elif answer.status != 0 and not answer.text and hindered:
@@ -260,6 +262,7 @@ def judge(answer, kind, whole, hindered=True, no_text=False):
 
 def judge_refusal(answer, kind, status, note):
     """Counts an answer that must be a refusal with that status and a note that begins so."""
+    statuses[kind][answer.status] += 1
     if answer.status == status and not answer.text and answer.note.startswith(note):
         counts[kind]["refused"] += 1
     else:
@@ -269,9 +272,12 @@ def judge_refusal(answer, kind, status, note):
 
 def run_all(cases, side_by_side):
     """Runs cases, each a call and what judges its answer, so many at a time."""
-    with concurrent.futures.ThreadPoolExecutor(side_by_side) as pool:
+    pool = concurrent.futures.ThreadPoolExecutor(side_by_side)
+    try:
         for judged, answer in [(judged, pool.submit(asked)) for asked, judged in cases]:
             judged(answer.result())
+    finally:
+        pool.shutdown(cancel_futures=True)
 
 
 def each(site, ways):
@@ -394,13 +400,20 @@ def try_crowds(site):
 
 def tell():
     """Prints what was counted, and returns how many answers were wrong."""
-    for kind, count in sorted(counts.items()):
-        print("%-60s whole %5d  refused %5d  wrong %d" % (kind, count["whole"], count["refused"], count["wrong"]))
-    total = sum(counts.values(), collections.Counter())
-    print("%-60s whole %5d  refused %5d  wrong %d" % ("all", total["whole"], total["refused"], total["wrong"]))
+    counts["all"] = sum(counts.values(), collections.Counter())
+    statuses["all"] = sum(statuses.values(), collections.Counter())
+    for kind, count in counts.items():
+        met = ", ".join("%d of %d" % (times, status) for status, times in sorted(statuses[kind].items()))
+        print("%s: whole %d, refused %d, wrong %d; statuses %s" % (kind, count["whole"], count["refused"], count["wrong"], met))
     for fault in faults[:10]:
         print(fault)
     return len(faults)
+
+
+def end(number, frame):
+    """Ends by way of what removes the site, once."""
+    signal.signal(number, signal.SIG_IGN)
+    sys.exit(1)
 
 
 def main():
@@ -409,7 +422,7 @@ def main():
     parser.add_argument("--broken", action="store_true", help="use a wrapper that loses groups, of which wrong answers must come")
     parser.add_argument("--jobs", type=int, default=os.cpu_count(), help="how many calls side by side, but for the crowds")
     given = parser.parse_args()
-    signal.signal(signal.SIGTERM, lambda number, frame: sys.exit(1))
+    signal.signal(signal.SIGTERM, end)
     site = Site(given.program, given.broken)
     try:
         site.start_sshd(4096)

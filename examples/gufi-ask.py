@@ -10,7 +10,22 @@ ends with status 77 and a note, and a word that is refused here with status 2.
 import os
 import sys
 
-# Whatever fails, an import too, is a refusal.
+
+def tell(note):
+    """Writes a note, where it can be written: the status tells all the same."""
+    try:
+        os.write(2, note)
+    except OSError:
+        pass
+
+
+def refuse(status, why):
+    """Ends with a note and a status."""
+    tell(("gufi-ask: %s\n" % why).encode("utf-8", "backslashreplace"))
+    os._exit(status)
+
+
+# Whatever fails from here on, an import too, is a refusal.
 sys.excepthook = lambda kind, fault, trace: refuse(77, str(fault) or kind.__name__)
 
 import pwd
@@ -35,20 +50,6 @@ HELP = {
     "agg": ("START SELECT", "counts and sums of the rows: 'SELECT uid, COUNT(*) FROM rows GROUP BY uid'"),
     "stats": ("START REPORT", "a report: levels, uids, gids or leaves"),
 }
-
-
-def tell(note):
-    """Writes a note, where it can be written: the status tells all the same."""
-    try:
-        os.write(2, note)
-    except OSError:
-        pass
-
-
-def refuse(status, why):
-    """Ends with a note and a status."""
-    tell(("gufi-ask: %s\n" % why).encode("utf-8", "backslashreplace"))
-    os._exit(status)
 
 
 def hold_streams():
