@@ -7,7 +7,7 @@ It makes a site with accounts of its own, and removes them at the end; so it is 
 whose rules of sudo it adds a file to meanwhile. Two users ask: `gufitry1` is in a group that is barred from a directory which
 everybody else may list, so whoever loses his groups is shown more. What each must be shown stands here, worked by hand. A call's answer
 is whole (status 0, and that text), or refused (another status, and no text), or it is wrong; the status is 1 where one is, and where a
-call that nothing hinders is refused. With --broken the wrapper is one that loses groups: then wrong ones must be found.
+call that nothing hinders is refused. With --broken the wrapper is one that loses groups: then wrong ones must be found on each way.
 """
 import argparse
 import collections
@@ -135,8 +135,7 @@ class Site:
             text = file.read()
         text = text.replace('SITE = "/srv/gufi"', 'SITE = "%s/site"' % self.top)
         if broken:
-            text = text.replace("groups = os.getgroups()", "groups = []")
-            text = text.replace("os.getgrouplist(name, entry.pw_gid)", "[entry.pw_gid]")
+            text = text.replace("os.getgroups()", "[]").replace("os.getgrouplist(name, entry.pw_gid)", "[entry.pw_gid]")
         self.write("/gufi-ask", text, 0o755)
 
     def write_site(self, program):
@@ -432,7 +431,10 @@ def main():
             try_crowds(site)
     finally:
         site.remove()
-    return int((tell() > 0) != given.broken)
+    wrong = tell()
+    if given.broken:
+        return int(not all(count["wrong"] for count in counts.values()))
+    return int(wrong > 0)
 
 
 if __name__ == "__main__":
