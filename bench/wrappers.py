@@ -49,6 +49,7 @@ QUESTIONS = [
         "/\n/barred\n/barred/secret\n/open\n/open/a.txt\n",
     ),
     (["find", "/", "-name", "*e*", "-type", "f", "-mtime", "+1"], "/mine/key\n", "/barred/secret\n"),
+    (["find", "/", "-name", "\u00e9*", "-o", "-name", "a.txt"], "/open/a.txt\n", "/open/a.txt\n"),
     (["ls", "/"], "mine\nopen\nshared\n", "barred\nopen\n"),
     (["query", "/", "SELECT size, name FROM entries"], "9\tkey\n5\ta.txt\n7\tplan\n", "11\tsecret\n5\ta.txt\n"),
     (["agg", "/", "SELECT type, COUNT(*) FROM rows GROUP BY type"], "d\t4\nf\t3\n", "d\t3\nf\t2\n"),

@@ -174,7 +174,7 @@ def start(words):
     reading, writing = os.pipe()
     program = os.posix_spawn(
         SITE + "/gufi",
-        ["gufi"] + words,
+        [b"gufi"] + [word.encode("utf-8") for word in words],
         ENVIRONMENT,
         file_actions=[(os.POSIX_SPAWN_DUP2, writing, 2)],
         setsigmask=[],
