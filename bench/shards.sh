@@ -2,10 +2,11 @@
 # Compares what shards of a trace answer, merged, with what `gufi find` answers over the whole: shards.sh TRACE USER..
 #
 # The trace has the delimiter 0x1E, and is cut into 4 and into 16. Each user asks from the root, from directories all over the trace,
-# from a file and from what isn't there, with several expressions. Lines, statuses and notes have to be the same.
+# from a file and from what isn't there, with several expressions. Lines, statuses and notes have to be the same. PROGRAM names the
+# program, else it is the script gufi of this clone.
 here=$(CDPATH= cd -P -- "$(dirname -- "$0")" && pwd) || exit 1
-GUFI=${GUFI:-$here/../gufi}
-export GUFI
+PROGRAM=${PROGRAM:-$here/../gufi}
+export PROGRAM
 trace=$1
 shift
 work=$(mktemp -d) || exit 1
@@ -14,7 +15,7 @@ trap 'exit 130' INT TERM
 
 # Compares one question, whose words are given, over the shards of $count.
 compare() {
-    "$GUFI" find "$trace" "$@" >"$work/whole" 2>"$work/whole.note"
+    "$PROGRAM" find "$trace" "$@" >"$work/whole" 2>"$work/whole.note"
     status=$?
     "$here/../examples/ask.sh" "$work/$count" "$@" >"$work/merged" 2>"$work/merged.note"
     if [ $? -eq $status ] && cmp -s "$work/whole" "$work/merged" && cmp -s "$work/whole.note" "$work/merged.note"; then

@@ -3,7 +3,7 @@
 
 Owners, groups and modes are those of a shared file system, directories that nobody may read or search among them; names have
 blanks, leading dots and dashes, bytes that are no UTF-8, control characters and some newlines. The same numbers give the same
-tree. `live.sh` compares what `gufi` and `find` list of it.
+tree. It is there to be timed over; `live.py` and `renewal.py` make trees of their own.
 """
 import os
 import random

@@ -5,8 +5,8 @@
 
 A command is a line of a code block that begins with `$ `, with the lines behind it while a backslash ends them. The lines up to
 the next command, or to the block's end, are what it prints on both streams. The commands of a document run one after another in
-one shell, in a fresh folder that holds the program as `gufi` and the clone's `examples`; the variable GUFI names that folder.
-The status is 1 where a command prints something else.
+one shell, in a fresh folder that holds the program as `gufi` and the clone's `examples` and `bench`; the variable GUFI names that folder,
+as if it were the clone, and PROGRAM the program for the scripts. The status is 1 where a command prints something else.
 """
 import argparse
 import os
@@ -15,7 +15,7 @@ import sys
 import tempfile
 
 TOP = os.path.dirname(os.path.dirname(os.path.abspath(__file__)))
-DOCUMENTS = ["README.md", "docs/guide.md", "docs/operators.md"]
+DOCUMENTS = ["README.md", "docs/guide.md", "docs/operators.md", "docs/shards.md"]
 
 # What the shell prints behind each command, and no command prints.
 MARK = "\036\036\n"
@@ -59,8 +59,10 @@ def printed_by(runs, program):
     """What each command prints, in a fresh folder."""
     with tempfile.TemporaryDirectory() as folder:
         os.symlink(os.path.abspath(program), os.path.join(folder, "gufi"))
-        os.symlink(os.path.join(TOP, "examples"), os.path.join(folder, "examples"))
+        for name in ("examples", "bench"):
+            os.symlink(os.path.join(TOP, name), os.path.join(folder, name))
         setting = dict(os.environ, GUFI=folder, HOME=folder, LC_ALL="C", PATH=folder + ":" + os.environ["PATH"])
+        setting["PROGRAM"] = os.path.join(folder, "gufi")
         shell = subprocess.run(
             ["sh", "-c", script_of(runs)],
             cwd=folder,

@@ -50,7 +50,11 @@ TEXT_PART = 1 << 20
 TEXT_AHEAD = 64 << 20
 TURN = 0.1
 
+MOUNTED = "a file system that a user mounted"
+
+# How many paths are told, and how many characters of each.
 TOLD = 10
+MOST_SHOWN = 200
 
 KINDS = {
     stat.S_IFREG: b"f",
@@ -131,8 +135,9 @@ class Report:
 
 
 def shown(path):
-    """A path in ASCII, without controls, which a terminal would obey."""
-    return "".join(chr(byte) if 32 <= byte < 127 and byte != 92 else "\\x%02x" % byte for byte in path)
+    """A path in ASCII, without controls, which a terminal would obey, and without the midst of a long one."""
+    text = "".join(chr(byte) if 32 <= byte < 127 and byte != 92 else "\\x%02x" % byte for byte in path)
+    return text if len(text) <= MOST_SHOWN else text[: MOST_SHOWN // 2] + " .. " + text[-MOST_SHOWN // 2 :]
 
 
 def tell(line):
@@ -209,6 +214,16 @@ def names_text(names):
         held.append(name)
         size += len(name) + 1
     return b"xattrs/" + b",".join(held) if held else b"", len(users) - len(held)
+
+
+def link_of(name):
+    try:
+        return os.readlink(name)
+    except OSError as error:
+        # It isn't a link any more.
+        if error.errno == errno.EINVAL:
+            raise FileNotFoundError(errno.ENOENT, "not a link") from error
+        raise
 
 
 def list_of(file):
@@ -325,7 +340,7 @@ class Walker:
     """Walks the tree below a folder, and hands its text on in parts."""
 
     def __init__(self, top, given, hand_on):
-        self.top, self.xdev, self.excluded = top.path, given.xdev, given.excluded
+        self.top, self.xdev, self.excluded, self.mounts = top.path, given.xdev, given.excluded, given.mounts
         self.descriptor, self.device, self.depth = top.descriptor, top.device, top.depth
         self.hand_on = hand_on
         self.report = Report()
@@ -419,10 +434,12 @@ class Walker:
     def enter(self, folder, name, descriptor):
         """Writes the line of the folder that was opened, and those of its files. Its subfolders are to be walked next."""
         found = os.fstat(descriptor)
+        path = folder.path + b"/" + name if folder else self.top.rstrip(b"/")
+        if folder and found.st_dev != folder.identities[-1][0] and path in user_mounts():
+            raise Unfit(MOUNTED)
         acl = list_of(descriptor)
         names, left = names_of(descriptor)
         self.report.attributes += left
-        path = folder.path + b"/" + name if folder else self.top.rstrip(b"/")
         self.add(line_of(path or b"/", b"d", found, b"", names, acl), True)
         identity = found.st_dev, found.st_ino, found.st_uid
         if folder:
@@ -451,6 +468,9 @@ class Walker:
             if path in self.excluded:
                 continue
             try:
+                # It may never answer.
+                if path in self.mounts:
+                    raise Unfit(MOUNTED)
                 if not plain:
                     check_path(path, depth)
                 if self.read_file(name, path):
@@ -470,7 +490,7 @@ class Walker:
         if kind is None:
             raise Unfit("of no type that a trace has")
         if kind == b"l":
-            link = os.readlink(name)
+            link = link_of(name)
             check_link(link)
         elif self.has_attributes(name):
             found, names, acl = self.look(name)
@@ -520,7 +540,7 @@ class Walker:
         if error.errno in GONE:
             return False
         if path in user_mounts():
-            self.report.leave(path, "a file system that a user mounted")
+            self.report.leave(path, MOUNTED)
             return False
         self.report.miss(path or b"/", os.strerror(error.errno))
         return True
@@ -780,8 +800,8 @@ def begin(given):
     try:
         top = Top(given.folder)
         given.excluded = frozenset(excluded_paths(given.exclude, top.path))
-        # Whatever is looked at by the number of its descriptor needs /proc.
-        user_mounts()
+        # So it is known that there is /proc too, where files are looked at by the numbers of their descriptors.
+        given.mounts = user_mounts()
         return top
     except Unfit as why:
         tell("%s: %s" % (shown(os.fsencode(given.folder)), why))
