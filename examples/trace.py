@@ -20,13 +20,16 @@ A tree that changes meanwhile is told as it was met. Whoever changes it can't le
 in the folder that is open, never through a link, and a folder's line and rights are those of the folder that was opened.
 """
 import argparse
+import contextlib
 import errno
 import heapq
-import multiprocessing
+import itertools
 import multiprocessing.connection
 import os
+import pickle
 import resource
 import signal
+import socket
 import stat
 import struct
 import sys
@@ -49,6 +52,10 @@ MOST_BYTES = 536870912
 TEXT_PART = 1 << 20
 TEXT_AHEAD = 64 << 20
 TURN = 0.1
+
+# How many open folders go over a connection at once, and how many batches wait before only the first one is begun.
+MOST_AT_ONCE = 200
+MOST_WAITING = 1000
 
 MOUNTED = "a file system that a user mounted"
 
@@ -281,6 +288,15 @@ def open_folder(name, within=None):
         return os.open(name, flags, dir_fd=within)
 
 
+def names_in(descriptor, most):
+    """The names in an open folder, in order."""
+    with os.scandir(descriptor) as found:
+        names = [os.fsencode(entry.name) for entry in itertools.islice(found, most)]
+        if next(found, None):
+            raise Unfit("what is in it: more than %d names" % most)
+    return sorted(names)
+
+
 def user_mounts():
     """The paths at which users mounted file systems of their own: root may not look at these."""
     mounts = set()
@@ -296,32 +312,16 @@ def user_mounts():
 
 
 class Folder:
-    """A folder on the way from the root to where the walk is: open, with the names of its subfolders that are still to be walked."""
+    """A folder on the way from the top to where the walk is: open, with the names of its subfolders that are still to be walked."""
 
-    def __init__(self, descriptor, names, identities, path, subfolders):
+    def __init__(self, descriptor, names, path, device, subfolders):
         self.descriptor = descriptor
-        # The names from the root to it, and what says which folder each of these was.
-        self.names, self.identities = names, identities
+        # The names from the top to it.
+        self.names = names
         self.path = path
+        self.device = device
         # The next one is the last.
         self.subfolders = subfolders
-
-
-class Batch:
-    """Subfolders of one folder that are to be walked one behind the other. Their order is that of their first paths."""
-
-    def __init__(self, names, identities, subfolders):
-        self.names, self.identities, self.subfolders = names, identities, subfolders
-        self.key = names + subfolders[:1]
-
-    def __lt__(self, other):
-        return self.key < other.key
-
-    def parts(self, count):
-        """The same in at most so many batches."""
-        size = -(-len(self.subfolders) // count)
-        starts = range(0, len(self.subfolders), size)
-        return [Batch(self.names, self.identities, self.subfolders[start : start + size]) for start in starts]
 
 
 class Top:
@@ -342,6 +342,8 @@ class Walker:
     def __init__(self, top, given, hand_on):
         self.top, self.xdev, self.excluded, self.mounts = top.path, given.xdev, given.excluded, given.mounts
         self.descriptor, self.device, self.depth = top.descriptor, top.device, top.depth
+        # More than that an index has no room for.
+        self.most_names = sys.maxsize if given.any_size else MOST_DIRECTORIES + MOST_ENTRIES
         self.hand_on = hand_on
         self.report = Report()
         self.open = []
@@ -351,37 +353,13 @@ class Walker:
         """Begins at the top itself."""
         self.enter(None, b"", os.dup(self.descriptor))
 
-    def resume(self, batch):
-        """Begins at subfolders of a folder, if the way there leads through the folders that it did."""
-        descriptor, path = os.dup(self.descriptor), self.top.rstrip(b"/")
-        for name, identity in zip(batch.names, batch.identities[1:]):
-            path += b"/" + name
-            try:
-                below = open_folder(name, descriptor)
-            except OSError as error:
-                self.fail(path, error)
-                below = None
-            os.close(descriptor)
-            if below is None:
-                return
-            if not self.is_same(path, below, identity):
-                os.close(below)
-                return
-            descriptor = below
-        self.open.append(Folder(descriptor, batch.names, batch.identities, path, list(reversed(batch.subfolders))))
-
-    def is_same(self, path, descriptor, identity):
-        """Whether this is the folder that has its line. A number may be given to another folder, which is of another owner then."""
-        found = os.fstat(descriptor)
-        if (found.st_dev, found.st_ino) != identity[:2]:
-            return False
-        if found.st_uid != identity[2]:
-            self.report.miss(path, "it was given to another owner meanwhile")
-            return False
-        return True
+    def resume(self, names, subfolders, descriptor):
+        """Begins at these subfolders of an open folder."""
+        path = b"/".join((self.top.rstrip(b"/"), *names))
+        self.open.append(Folder(descriptor, names, path, os.fstat(descriptor).st_dev, list(reversed(subfolders))))
 
     def walk(self, seconds):
-        """Walks on for so many seconds, and gives the batches that are left, in path order."""
+        """Walks on for so many seconds, and gives the open folders whose subfolders are left, in path order."""
         until = time.monotonic() + seconds
         while self.open:
             folder = self.open[-1]
@@ -393,16 +371,11 @@ class Walker:
             else:
                 self.step_down(folder, folder.subfolders.pop())
         self.flush()
-        return self.give_back()
-
-    def give_back(self):
-        left = []
-        for folder in reversed(self.open):
-            os.close(folder.descriptor)
-            if folder.subfolders:
-                left.append(Batch(folder.names, folder.identities, tuple(reversed(folder.subfolders))))
-        self.open.clear()
-        return left
+        left, self.open = self.open[::-1], []
+        for folder in left:
+            if not folder.subfolders:
+                os.close(folder.descriptor)
+        return [folder for folder in left if folder.subfolders]
 
     def step_down(self, folder, name):
         path = folder.path + b"/" + name
@@ -435,17 +408,14 @@ class Walker:
         """Writes the line of the folder that was opened, and those of its files. Its subfolders are to be walked next."""
         found = os.fstat(descriptor)
         path = folder.path + b"/" + name if folder else self.top.rstrip(b"/")
-        if folder and found.st_dev != folder.identities[-1][0] and path in user_mounts():
+        if folder and found.st_dev != folder.device and path in user_mounts():
             raise Unfit(MOUNTED)
         acl = list_of(descriptor)
         names, left = names_of(descriptor)
         self.report.attributes += left
         self.add(line_of(path or b"/", b"d", found, b"", names, acl), True)
-        identity = found.st_dev, found.st_ino, found.st_uid
-        if folder:
-            opened = Folder(descriptor, folder.names + (name,), folder.identities + (identity,), path, [])
-        else:
-            opened = Folder(descriptor, (), (identity,), path, [])
+        names_to_it = folder.names + (name,) if folder else ()
+        opened = Folder(descriptor, names_to_it, path, found.st_dev, [])
         self.open.append(opened)
         if not self.xdev or found.st_dev == self.device:
             self.read(opened)
@@ -453,8 +423,11 @@ class Walker:
     def read(self, folder):
         """Writes the lines of a folder's files, and keeps the names of its subfolders. The process stands in the folder meanwhile."""
         try:
-            names = sorted(map(os.fsencode, os.listdir(folder.descriptor)))
+            names = names_in(folder.descriptor, self.most_names)
             os.fchdir(folder.descriptor)
+        except Unfit as why:
+            self.report.leave(folder.path, why)
+            return
         except OSError as error:
             self.fail(folder.path, error)
             return
@@ -614,6 +587,69 @@ class Output:
             self.show(b"\r\033[K")
 
 
+class Channel:
+    """One end of a connection between two processes. Open folders go over it beside what is said."""
+
+    def __init__(self, end):
+        self.end = end
+
+    def fileno(self):
+        return self.end.fileno()
+
+    def send(self, message, descriptors=()):
+        data = pickle.dumps(message, pickle.HIGHEST_PROTOCOL)
+        try:
+            socket.send_fds(self.end, [len(data).to_bytes(8, "little")], descriptors)
+            self.end.sendall(data)
+        except OSError as error:
+            raise Ended from error
+
+    def receive(self):
+        """What was said, and the folders that came with it."""
+        try:
+            head, descriptors, _, _ = socket.recv_fds(self.end, 8, MOST_AT_ONCE)
+            data = memoryview(bytearray(int.from_bytes(head, "little")))
+            rest = data if len(head) == 8 else None
+            while rest:
+                count = self.end.recv_into(rest)
+                rest = rest[count:] if count else None
+        except OSError as error:
+            raise Ended from error
+        if rest is None:
+            raise Ended
+        return pickle.loads(data), descriptors
+
+
+class Held:
+    """A folder that is open for the batches of its subfolders, and closed behind the last of them."""
+
+    def __init__(self, names, descriptor):
+        self.names, self.descriptor = names, descriptor
+        self.batches = 0
+
+    def batches_of(self, subfolders, count):
+        """So many batches at most of these subfolders, each of some that come one behind the other."""
+        size = -(-len(subfolders) // count)
+        return [Batch(self, subfolders[start : start + size]) for start in range(0, len(subfolders), size)]
+
+    def release(self):
+        self.batches -= 1
+        if not self.batches:
+            os.close(self.descriptor)
+
+
+class Batch:
+    """Subfolders of one folder that are to be walked one behind the other. The first path says its place."""
+
+    def __init__(self, folder, subfolders):
+        self.folder, self.subfolders = folder, subfolders
+        self.key = folder.names + subfolders[:1]
+        folder.batches += 1
+
+    def __lt__(self, other):
+        return self.key < other.key
+
+
 class Piece:
     """The text of one turn of a process, from the first path of a batch on, as far as it has come."""
 
@@ -631,54 +667,54 @@ class Worker:
     """A process that walks, seen from the one that writes."""
 
     def __init__(self, top, given, earlier):
-        self.connection, inner = multiprocessing.Pipe()
+        outer, inner = socket.socketpair()
+        self.channel = Channel(outer)
         self.piece = None
-        self.process = os.fork()
-        if not self.process:
+        if not os.fork():
             # Only so does each end see that the other is gone.
-            for worker in earlier:
-                worker.connection.close()
-            self.connection.close()
-            work(top, given, inner)
+            for worker in earlier + [self]:
+                worker.channel.end.close()
+            work(top, given, Channel(inner))
         inner.close()
 
-    def ask(self, batch, key):
-        self.piece = Piece(key)
-        send(self.connection, batch)
+    def begin(self):
+        """Has it begin at the top."""
+        self.piece = Piece(())
+        self.channel.send(None)
+
+    def resume(self, batch):
+        self.piece = Piece(batch.key)
+        self.channel.send((batch.folder.names, batch.subfolders), [batch.folder.descriptor])
+        batch.folder.release()
 
 
-def send(connection, message):
-    try:
-        connection.send(message)
-    except OSError as error:
-        raise Ended from error
-
-
-def receive(connection):
-    try:
-        return connection.recv()
-    except (EOFError, OSError) as error:
-        raise Ended from error
-
-
-def work(top, given, connection):
+def work(top, given, channel):
     """Walks one batch after the other, until the process that writes is gone, and ends the process."""
     try:
-        walker = Walker(top, given, lambda *part: send(connection, part))
+        walker = Walker(top, given, lambda *part: channel.send(part))
         while True:
-            batch = receive(connection)
-            if batch is None:
+            words, descriptors = channel.receive()
+            if words is None:
                 walker.begin()
             else:
-                walker.resume(batch)
-            left = walker.walk(TURN)
-            send(connection, (left, walker.take_report()))
+                walker.resume(*words, *descriptors)
+            give_back(channel, walker.walk(TURN))
+            channel.send(walker.take_report())
     except Ended:
         pass
     except BaseException as error:
         tell("%s: %s" % (type(error).__name__, error))
     finally:
         os._exit(3)
+
+
+def give_back(channel, folders):
+    """Hands the folders on, as many at once as one message takes."""
+    for start in range(0, len(folders), MOST_AT_ONCE):
+        some = folders[start : start + MOST_AT_ONCE]
+        channel.send([(folder.names, tuple(reversed(folder.subfolders))) for folder in some], [folder.descriptor for folder in some])
+        for folder in some:
+            os.close(folder.descriptor)
 
 
 class Crew:
@@ -689,44 +725,50 @@ class Crew:
         self.workers = []
         for _ in range(given.jobs):
             self.workers.append(Worker(top, given, self.workers))
-        # The top itself is the batch that is none.
-        self.waiting, self.ended = [((), None)], []
+        self.waiting, self.ended = [], []
 
     def run(self):
+        self.workers[0].begin()
         while self.waiting or any(worker.piece for worker in self.workers):
             for worker in self.workers:
-                if self.waiting and not worker.piece:
-                    key, batch = heapq.heappop(self.waiting)
-                    worker.ask(batch, key)
+                if not worker.piece and self.may_begin():
+                    worker.resume(heapq.heappop(self.waiting))
             self.receive()
             self.write()
+
+    def may_begin(self):
+        """Whether a batch is to be begun. While many wait it is only the first one, and they don't become many more."""
+        return self.waiting and (len(self.waiting) < MOST_WAITING or self.front() == self.waiting[0].key)
 
     def front(self):
         """The first path that isn't ended: up to it pieces may be written."""
         keys = [worker.piece.key for worker in self.workers if worker.piece]
-        return min(keys + [key for key, _ in self.waiting[:1]], default=None)
+        return min(keys + [batch.key for batch in self.waiting[:1]], default=None)
 
     def receive(self):
         """Waits for the processes that have something. One that is ahead waits, once what was kept for it is much."""
         front = self.front()
         busy = [worker for worker in self.workers if worker.piece]
         kept = sum(piece.size for piece in self.ended) + sum(worker.piece.size for worker in busy)
-        heard = {worker.connection: worker for worker in busy if kept < TEXT_AHEAD or worker.piece.key == front}
-        for connection in multiprocessing.connection.wait(list(heard)):
-            self.take(heard[connection], receive(connection))
+        heard = {worker.channel: worker for worker in busy if kept < TEXT_AHEAD or worker.piece.key == front}
+        for channel in multiprocessing.connection.wait(list(heard)):
+            self.take(heard[channel], *channel.receive())
 
-    def take(self, worker, message):
+    def take(self, worker, message, descriptors):
+        """A part of the text, folders with subfolders that are left, or the report with which a turn ends."""
         piece = worker.piece
-        if len(message) == 3:
+        if isinstance(message, tuple):
             piece.parts.append(message)
             piece.size += len(message[0])
-            return
-        left, piece.report = message
-        for batch in left:
-            for part in batch.parts(2 * len(self.workers)):
-                heapq.heappush(self.waiting, (part.key, part))
-        heapq.heappush(self.ended, piece)
-        worker.piece = None
+        elif isinstance(message, list):
+            count = 2 * len(self.workers) if len(self.waiting) < MOST_WAITING else 1
+            for (names, subfolders), descriptor in zip(message, descriptors):
+                for batch in Held(names, descriptor).batches_of(subfolders, count):
+                    heapq.heappush(self.waiting, batch)
+        else:
+            piece.report = message
+            heapq.heappush(self.ended, piece)
+            worker.piece = None
 
     def write(self):
         """Writes the pieces before the front, and what has come of the one that is the front."""
@@ -779,7 +821,8 @@ def words():
 def allow_descriptors():
     """A folder on the way to the deepest one takes a descriptor each."""
     most = resource.getrlimit(resource.RLIMIT_NOFILE)[1]
-    resource.setrlimit(resource.RLIMIT_NOFILE, (most, most))
+    with contextlib.suppress(OSError, ValueError):
+        resource.setrlimit(resource.RLIMIT_NOFILE, (most, most))
 
 
 def write_trace(top, given, report):
