@@ -311,6 +311,13 @@ def user_mounts():
     return mounts
 
 
+def is_user_mount(path):
+    try:
+        return path in user_mounts()
+    except OSError:
+        return False
+
+
 class Folder:
     """A folder on the way from the top to where the walk is: open, with the names of its subfolders that are still to be walked."""
 
@@ -351,7 +358,7 @@ class Walker:
 
     def begin(self):
         """Begins at the top itself."""
-        self.enter(None, b"", os.dup(self.descriptor))
+        self.read(self.enter(None, b"", os.dup(self.descriptor)))
 
     def resume(self, names, subfolders, descriptor):
         """Begins at these subfolders of an open folder."""
@@ -386,13 +393,15 @@ class Walker:
                 self.enter_shut(folder, name, path)
             return
         try:
-            self.enter(folder, name, descriptor)
+            opened = self.enter(folder, name, descriptor)
         except Unfit as why:
             os.close(descriptor)
             self.report.leave(path, why)
         except OSError as error:
             os.close(descriptor)
             self.fail(path, error)
+        else:
+            self.read(opened)
 
     def enter_shut(self, folder, name, path):
         """Writes the line of a folder that may not be opened, if that much can be had. What lies in it is missing."""
@@ -405,10 +414,10 @@ class Walker:
             self.add(line_of(path, b"d", found, b"", names, acl), True)
 
     def enter(self, folder, name, descriptor):
-        """Writes the line of the folder that was opened, and those of its files. Its subfolders are to be walked next."""
+        """Writes the line of the folder that was opened, and goes on from there."""
         found = os.fstat(descriptor)
         path = folder.path + b"/" + name if folder else self.top.rstrip(b"/")
-        if folder and found.st_dev != folder.device and path in user_mounts():
+        if folder and found.st_dev != folder.device and is_user_mount(path):
             raise Unfit(MOUNTED)
         acl = list_of(descriptor)
         names, left = names_of(descriptor)
@@ -417,11 +426,12 @@ class Walker:
         names_to_it = folder.names + (name,) if folder else ()
         opened = Folder(descriptor, names_to_it, path, found.st_dev, [])
         self.open.append(opened)
-        if not self.xdev or found.st_dev == self.device:
-            self.read(opened)
+        return opened
 
     def read(self, folder):
         """Writes the lines of a folder's files, and keeps the names of its subfolders. The process stands in the folder meanwhile."""
+        if self.xdev and folder.device != self.device:
+            return
         try:
             names = names_in(folder.descriptor, self.most_names)
             os.fchdir(folder.descriptor)
@@ -512,7 +522,7 @@ class Walker:
         """Whether something is missing. What is gone by now is no part of the tree, nor is what a user mounted for himself."""
         if error.errno in GONE:
             return False
-        if path in user_mounts():
+        if is_user_mount(path):
             self.report.leave(path, MOUNTED)
             return False
         self.report.miss(path or b"/", os.strerror(error.errno))
