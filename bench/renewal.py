@@ -9,7 +9,7 @@ and in a folder of his own a user makes all that a trace can't hold, beside what
 - the renewal goes through, and tells what was left out once, not again while it is the same;
 - a renewal that is killed at each of its steps, and at moments all over it, leaves the index before or the whole new one;
 - two at once don't meet, and a trace that breaks or lacks a part, and an index of less than half of the rows, are refused;
-- a folder that is swapped for a link while it is walked leads the walk nowhere.
+- a folder that is swapped for a link while it is walked leads the walk nowhere, and no mode stands without its list.
 
 With --flood the user makes 300,000 directories too, more than an index takes. The status is 1 where one of these doesn't hold, which is
 told. It needs setpriv and GNU find.
@@ -349,6 +349,31 @@ def check_races(check, work):
     print("races: 60 traces while a folder was swapped for a link, met as a folder in %d" % met)
 
 
+def check_lists(check, work):
+    """While a folder's list is given and taken away, its mode never stands in the trace without it: the group's bits are the mask then."""
+    top = os.path.join(work, "lists")
+    os.mkdir(top)
+    os.mkdir(top + "/folder", 0o700)
+    whole = access_list(1).replace(struct.pack("<HHI", 4, 5, 0xFFFFFFFF), struct.pack("<HHI", 4, 0, 0xFFFFFFFF))
+    giver = os.fork()
+    if not giver:
+        while True:
+            os.setxattr(top + "/folder", "system.posix_acl_access", whole)
+            os.removexattr(top + "/folder", "system.posix_acl_access")
+    bare = listed = 0
+    for _ in range(60):
+        status, text, told = trace(top)
+        fields = text.split(b"\n")[-2].split(b"\x1e")
+        check.that(status == 0, "a list that comes and goes: status %d: %s" % (status, told))
+        if fields[0].endswith(b"/folder"):
+            has_list = len(fields) == 16
+            check.that(has_list or not int(fields[3]) & 0o070, "a mode without its list")
+            listed, bare = listed + has_list, bare + (not has_list)
+    os.kill(giver, signal.SIGKILL)
+    os.waitpid(giver, 0)
+    print("lists: 60 traces while a list was given and taken away, met with it in %d and without in %d" % (listed, bare))
+
+
 def check_unread(check, work, site, top):
     """A part that can't be read: seen as a user, who hasn't the rights."""
     os.mkdir(work + "/part")
@@ -527,6 +552,7 @@ def main():
             check_bounds(check, work, given.program)
             check_trace(check, top, own)
             check_races(check, work)
+            check_lists(check, work)
             check_renewal(check, site, top)
             check_unread(check, work, site, top)
             check_half(check, site, work, top)

@@ -63,6 +63,9 @@ MOUNTED = "a file system that a user mounted"
 TOLD = 10
 MOST_SHOWN = 200
 
+# How often a file is looked at whose rights change meanwhile.
+TRIES = 10
+
 KINDS = {
     stat.S_IFREG: b"f",
     stat.S_IFDIR: b"d",
@@ -244,6 +247,20 @@ def list_of(file):
     return list_text(data)
 
 
+def steady(descriptor, file):
+    """What the system tells of an open file, and its list, of one moment: a list that is taken away or given changes the mode too."""
+    for _ in range(TRIES):
+        found = os.fstat(descriptor)
+        acl = list_of(file)
+        if rights(found) == rights(os.fstat(descriptor)):
+            return found, acl
+    raise Unfit("its rights change all the time")
+
+
+def rights(found):
+    return found.st_mode, found.st_uid, found.st_gid
+
+
 def names_of(file):
     """Field 15 of an open file, or of one by its path, and how many names are left out."""
     try:
@@ -415,11 +432,10 @@ class Walker:
 
     def enter(self, folder, name, descriptor):
         """Writes the line of the folder that was opened, and goes on from there."""
-        found = os.fstat(descriptor)
         path = folder.path + b"/" + name if folder else self.top.rstrip(b"/")
-        if folder and found.st_dev != folder.device and is_user_mount(path):
+        if folder and os.fstat(descriptor).st_dev != folder.device and is_user_mount(path):
             raise Unfit(MOUNTED)
-        acl = list_of(descriptor)
+        found, acl = steady(descriptor, descriptor)
         names, left = names_of(descriptor)
         self.report.attributes += left
         self.add(line_of(path or b"/", b"d", found, b"", names, acl), True)
@@ -511,7 +527,7 @@ class Walker:
             if stat.S_ISLNK(found.st_mode):
                 return found, b"", b""
             by_number = "/proc/self/fd/%d" % descriptor
-            acl = list_of(by_number)
+            found, acl = steady(descriptor, by_number)
             names, left = names_of(by_number)
         finally:
             os.close(descriptor)
