@@ -339,14 +339,14 @@ def check_races(check, work):
             touch(top + "/comes")
             os.unlink(top + "/comes")
     met = 0
-    for number in range(60):
+    for number in range(20):
         status, text, told = trace(top, "--jobs", str(1 + number % 2))
         check.that(status == 0 and b"secret" not in text, "a swapped folder leads out of the tree, or status %d: %s" % (status, told))
         met += b"/folder\x1ed" in text
     os.kill(swapper, signal.SIGKILL)
     os.waitpid(swapper, 0)
     check.that(0 < met, "the folder was met")
-    print("races: 60 traces while a folder was swapped for a link, met as a folder in %d" % met)
+    print("races: 20 traces while a folder was swapped for a link, met as a folder in %d" % met)
 
 
 def check_lists(check, work):
@@ -354,14 +354,16 @@ def check_lists(check, work):
     top = os.path.join(work, "lists")
     os.mkdir(top)
     os.mkdir(top + "/folder", 0o700)
-    whole = access_list(1).replace(struct.pack("<HHI", 4, 5, 0xFFFFFFFF), struct.pack("<HHI", 4, 0, 0xFFFFFFFF))
+    texts = [access_list(named).replace(struct.pack("<HHI", 4, 5, 0xFFFFFFFF), struct.pack("<HHI", 4, 0, 0xFFFFFFFF)) for named in (1, 0)]
+    # Without names, and without a mask, the list is what the mode says, and the system keeps none.
+    whole, none = texts[0], texts[1].replace(struct.pack("<HHI", 16, 5, 0xFFFFFFFF), b"")
     giver = os.fork()
     if not giver:
         while True:
             os.setxattr(top + "/folder", "system.posix_acl_access", whole)
-            os.removexattr(top + "/folder", "system.posix_acl_access")
+            os.setxattr(top + "/folder", "system.posix_acl_access", none)
     bare = listed = 0
-    for _ in range(60):
+    for _ in range(20):
         status, text, told = trace(top)
         fields = text.split(b"\n")[-2].split(b"\x1e")
         check.that(status == 0, "a list that comes and goes: status %d: %s" % (status, told))
@@ -371,7 +373,7 @@ def check_lists(check, work):
             listed, bare = listed + has_list, bare + (not has_list)
     os.kill(giver, signal.SIGKILL)
     os.waitpid(giver, 0)
-    print("lists: 60 traces while a list was given and taken away, met with it in %d and without in %d" % (listed, bare))
+    print("lists: 20 traces while a list was given and taken away, met with it in %d and without in %d" % (listed, bare))
 
 
 def check_unread(check, work, site, top):

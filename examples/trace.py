@@ -64,7 +64,7 @@ TOLD = 10
 MOST_SHOWN = 200
 
 # How often a file is looked at whose rights change meanwhile.
-TRIES = 10
+TRIES = 100
 
 KINDS = {
     stat.S_IFREG: b"f",
@@ -258,7 +258,8 @@ def steady(descriptor, file):
 
 
 def rights(found):
-    return found.st_mode, found.st_uid, found.st_gid
+    """What says whether something was changed meanwhile and changed back: each change of a file's rights sets the last time."""
+    return found.st_mode, found.st_uid, found.st_gid, found.st_ctime_ns
 
 
 def names_of(file):
