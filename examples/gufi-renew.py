@@ -30,6 +30,9 @@ MADE = ("passwd", "group", "index", "trace", "left")
 SHARED = ("passwd", "group", "index")
 HEAD = 24
 
+# Where nothing else is said as many processes walk as there are processors, and no more than these.
+MOST_JOBS = 16
+
 
 class Refused(Exception):
     """The index isn't renewed; it says why."""
@@ -191,7 +194,7 @@ def words():
     parser.add_argument("--fewer", action="store_true", help="take an index with less than half of the rows of the one before")
     parser.add_argument("--xdev", action="store_true", help="stay on the file system of ROOT")
     parser.add_argument("--exclude", action="append", default=[], metavar="PATH", help="leave out PATH and all below it")
-    parser.add_argument("--jobs", type=int, default=os.cpu_count(), metavar="N", help="walk by N processes, as many as there are processors")
+    parser.add_argument("--jobs", type=int, default=min(os.cpu_count() or 1, MOST_JOBS), metavar="N", help="walk by N processes")
     parser.add_argument("root", metavar="ROOT")
     return parser.parse_args()
 
