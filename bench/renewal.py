@@ -267,11 +267,11 @@ def acl(named):
 def check_bounds(check, work, program):
     """What the program says of a line at each bound, and of one past it."""
     file = os.path.join(work, "bounds")
-    full = "/".join(["p" * 255] * 16)
+    full, over = ("/" + "/".join(["p" * size for size in [255] * 15 + [last, 127]]) for last in (127, 128))
     chain = "/".join(["d"] * 255)
     bounds = {
         "name": (line("/r/" + "n" * 255), line("/r/" + "n" * 256)),
-        "path": (line("/" + full[:4095]), line("/" + full[:4096])),
+        "path": (line(full), line(over)),
         "names of a path": (line("/" + chain + "/f"), line("/" + chain + "/d/f")),
         "link": (line("/r/l", "l", "x" * 4096), line("/r/l", "l", "x" * 4097)),
         "name of an attribute": (line("/r/f", names="xattrs/" + "a" * 255), line("/r/f", names="xattrs/" + "a" * 256)),
