@@ -71,10 +71,12 @@ fn directories_have_their_paths_and_entries(rt: HostRuntime) -> Result<(), Fail>
 
 /// The fault of three directories on the lines 1 to 3.
 fn fault_of(alloc: Global, paths: [&[u8]; 3]) -> Result<Option<TreeFault>, Fail> {
-    let mut lines = Vec::new(alloc);
-    for (number, path) in (1..).zip(paths) {
-        lines.push(line(alloc, number, path, Kind::Dir, 0o755)?)?;
-    }
+    let [first, second, third] = paths;
+    let lines = vec![in alloc;
+        line(alloc, 1, first, Kind::Dir, 0o755)?,
+        line(alloc, 2, second, Kind::Dir, 0o755)?,
+        line(alloc, 3, third, Kind::Dir, 0o755)?,
+    ]?;
     Ok(build(alloc, lines).err())
 }
 
