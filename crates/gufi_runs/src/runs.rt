@@ -59,7 +59,7 @@ fn words_of(alloc: Global, words: &[&str]) -> Result<Vec<String>, AllocError> {
     Ok(all)
 }
 
-fn ran(alloc: Global, outcome: Outcome, text: &[u8], note: &[u8]) -> Result<Ran, AllocError> {
+fn told(alloc: Global, outcome: Outcome, text: &[u8], note: &[u8]) -> Result<Ran, AllocError> {
     let text = text.to_vec(alloc)?;
     let note = note.to_vec(alloc)?;
     Ok(Ran {
@@ -81,7 +81,7 @@ pub(crate) fn run<R: AllocGlobal + Abort + Threads + Wait + Sync, G: Gate + Sync
     let mut notes = sink_of(alloc, &[])?;
     let mut shelf = shelf_of(rt, input.files)?;
     let outcome = gufi_run(rt, alloc, &words, &mut shelf, &mut out, &mut notes, gate);
-    ran(alloc, outcome, out.taken(), notes.taken())
+    told(alloc, outcome, out.taken(), notes.taken())
 }
 
 /// That a run gave this status, text and note, and these numbers.

@@ -4,7 +4,6 @@ ghost use Rattle.gufi_core.specs.Interleavings.{are_shapes};
 use gufi_base::{Items, Nums};
 use gufi_core::{Core, CoreFault, Event, Shape, WorkerState, run_events};
 use std::alloc::Global;
-use std::process::Abort;
 use std::test::Fail;
 
 /// One shape of tree 5, whose first task 0 brings forth task 1.
@@ -42,14 +41,13 @@ fn worker(core: &Core, place: usize) -> Option<&WorkerState> {
     core.jobs.as_slice().first()?.workers.as_slice().get(place)
 }
 
-/// What events come to over the one shape.
-fn core_of(alloc: Global, events: &[Event]) -> Result<Core, Fail> {
+#[test]
+fn a_worker_takes_a_task_and_then_its_kid(rt: HostRuntime) -> Result<(), Fail> {
+    let alloc = rt.alloc();
     let shapes = shapes(alloc)?;
-    Ok(run_events(alloc, 1, &shapes, events)?)
-}
-
-fn assert_ended<R: Abort>(rt: &R, core: &Core) -> Result<(), Fail> {
-    let Some(worker) = worker(core, 0) else {
+    let events = [PUBLISH, PIN, BEGIN, TAKE, PUSH, TAKE, END];
+    let core = run_events(alloc, 1, &shapes, &events)?;
+    let Some(worker) = worker(&core, 0) else {
         return Err(Fail::new("no such worker"));
     };
     assert!(rt; worker.taken.as_slice() == [0u32, 1].as_slice());
@@ -60,24 +58,17 @@ fn assert_ended<R: Abort>(rt: &R, core: &Core) -> Result<(), Fail> {
 }
 
 #[test]
-fn a_worker_takes_a_task_and_then_its_kid(rt: HostRuntime) -> Result<(), Fail> {
-    let core = core_of(rt.alloc(), &[PUBLISH, PIN, BEGIN, TAKE, PUSH, TAKE, END])?;
-    assert_ended(&rt, &core)
-}
-
-fn assert_running<R: Abort>(rt: &R, core: &Core) -> Result<(), Fail> {
-    let Some(worker) = worker(core, 0) else {
+fn before_its_end_the_worker_runs_with_an_empty_deque(rt: HostRuntime) -> Result<(), Fail> {
+    let alloc = rt.alloc();
+    let shapes = shapes(alloc)?;
+    let events = [PUBLISH, PIN, BEGIN, TAKE, PUSH, TAKE];
+    let core = run_events(alloc, 1, &shapes, &events)?;
+    let Some(worker) = worker(&core, 0) else {
         return Err(Fail::new("no such worker"));
     };
     assert!(rt; !worker.ended);
     assert!(rt; worker.deque.as_slice().is_empty());
     Ok(())
-}
-
-#[test]
-fn before_its_end_the_worker_runs_with_an_empty_deque(rt: HostRuntime) -> Result<(), Fail> {
-    let core = core_of(rt.alloc(), &[PUBLISH, PIN, BEGIN, TAKE, PUSH, TAKE])?;
-    assert_running(&rt, &core)
 }
 
 #[test]
@@ -90,17 +81,10 @@ fn an_end_with_a_kid_to_push_is_illegal_at_its_place(rt: HostRuntime) -> Result<
     Ok(())
 }
 
-fn assert_stolen<R: Abort>(rt: &R, core: &Core) -> Result<(), Fail> {
-    let (Some(first), Some(second)) = (worker(core, 0), worker(core, 1)) else {
-        return Err(Fail::new("no such worker"));
-    };
-    assert!(rt; first.taken.as_slice() == [1u32].as_slice());
-    assert!(rt; second.taken.as_slice() == [0u32].as_slice());
-    Ok(())
-}
-
 #[test]
 fn two_workers_steal_from_each_other(rt: HostRuntime) -> Result<(), Fail> {
+    let alloc = rt.alloc();
+    let shapes = shapes(alloc)?;
     let begin = Event::Begin {
         caller: 0,
         shape: 0,
@@ -127,6 +111,11 @@ fn two_workers_steal_from_each_other(rt: HostRuntime) -> Result<(), Fail> {
         END,
         Event::End { job: 0, worker: 1 },
     ];
-    let core = core_of(rt.alloc(), &events)?;
-    assert_stolen(&rt, &core)
+    let core = run_events(alloc, 1, &shapes, &events)?;
+    let (Some(first), Some(second)) = (worker(&core, 0), worker(&core, 1)) else {
+        return Err(Fail::new("no such worker"));
+    };
+    assert!(rt; first.taken.as_slice() == [1u32].as_slice());
+    assert!(rt; second.taken.as_slice() == [0u32].as_slice());
+    Ok(())
 }
