@@ -17,10 +17,10 @@ pub(crate) const X: &[u8] = b"/r|d|1|493|2|101|100|4096|4096|8|10|20|30|
 
 /// The words, the files, and the numbers of the writes that fail.
 #[derive(Clone, Copy)]
-pub(crate) struct Input<'a> {
-    pub(crate) words: &'a [&'a str],
-    pub(crate) files: &'a [(&'a str, &'a [u8])],
-    pub(crate) bad_writes: &'a [u64],
+pub(crate) struct Input<'w, 'f, 'b> {
+    pub(crate) words: &'w [&'w str],
+    pub(crate) files: &'f [(&'f str, &'f [u8])],
+    pub(crate) bad_writes: &'b [u64],
 }
 
 /// What a run gives.
@@ -73,7 +73,7 @@ fn told(alloc: Global, outcome: Outcome, text: &[u8], note: &[u8]) -> Result<Ran
 pub(crate) fn run<R: AllocGlobal + Abort + Threads + Wait + Sync, G: Gate + Sync>(
     rt: &R,
     gate: &G,
-    input: &Input<'_>,
+    input: &Input<'_, '_, '_>,
 ) -> Result<Ran, AllocError> {
     let alloc = rt.alloc();
     let words = words_of(alloc, input.words)?;
