@@ -25,7 +25,7 @@ const LONGEST: u32 = 138;
 fn session<R: AllocGlobal + Abort + Threads + Wait + Sync, G: Gate + Sync>(
     rt: &R,
     gate: &G,
-    option: &str,
+    option: &'static str,
     script: &[u8],
     bad_writes: &[u64],
 ) -> Result<Ran, AllocError> {
@@ -89,7 +89,7 @@ fn check_four_replies<R: AllocGlobal + Abort>(
 
 fn check_four_asks<R: AllocGlobal + Abort + Threads + Wait + Sync>(
     rt: &R,
-    workers: &str,
+    workers: &'static str,
 ) -> Result<(), AllocError> {
     let gate = Counting::new();
     let ran = session(rt, &gate, workers, FOUR_ASKS, &[])?;
