@@ -23,7 +23,7 @@ const SIZES: &[u8] = b"/r|d|1|493|2|101|100|4096|4096|8|10|20|30|
 // Finds in a trace, and counts.
 fn counted<R: AllocGlobal + Abort + Threads + Wait + Sync>(
     rt: &R,
-    trace: &[u8],
+    trace: &'static [u8],
     words: &[&str],
     text: &[u8],
 ) -> Result<Counting, AllocError> {
