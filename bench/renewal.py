@@ -8,15 +8,19 @@ and in a folder of his own a user makes all that a trace can't hold, beside what
 - the trace has what is at the bound and lacks what is past it, with all below, with the same text by one process and by several;
 - the renewal goes through, and tells what was left out once, not again while it is the same;
 - a renewal that is killed at each of its steps, and at moments all over it, leaves the index before or the whole new one;
+- one on a full disk, or by a user who may have few processes, does so too;
 - two at once don't meet, and a trace that breaks or lacks a part, and an index of less than half of the rows, are refused;
-- a folder that is swapped for a link while it is walked leads the walk nowhere, and no mode stands without its list.
+- a folder that is swapped for a link while it is walked leads the walk nowhere, and no mode stands without its list;
+- a trace that is made with few open files is whole, or its status says that it isn't.
 
 With --flood the user makes 300,000 directories too, more than an index takes. The status is 1 where one of these doesn't hold, which is
-told. It needs setpriv and GNU find.
+told. It needs setpriv, prlimit and GNU find.
 """
 import argparse
 import contextlib
+import ctypes
 import os
+import resource
 import shutil
 import signal
 import socket
@@ -30,6 +34,9 @@ TOP = os.path.dirname(os.path.dirname(os.path.abspath(__file__)))
 TRACE = os.path.join(TOP, "examples", "trace.py")
 RENEW = os.path.join(TOP, "examples", "gufi-renew.py")
 USER = 2001
+
+# Of the system's call renameat2: each of two files gets the other's name, at once.
+EXCHANGE = 2
 
 # Kills the renewal as it begins its step of this number: what it does with a file of the site, or a command that it starts.
 KILLER = """
@@ -120,6 +127,8 @@ def make_kinds():
     touch("old")
     os.utime("old", (-5000000000, -1))
     os.link("old", "old-too")
+    touch("far")
+    os.utime("far", ns=((2**63 - 1) * 10**9, -(2**63) * 10**9))
     os.mkdir("shut")
     touch("shut/hidden")
     os.chmod("shut", 0)
@@ -305,7 +314,7 @@ def check_trace(check, top, own):
         check.that(trace(top, "--jobs", jobs) == (status, text, told), "another text by %s processes" % jobs)
     rows = {line.split(b"\x1e")[0]: line.split(b"\x1e") for line in text.split(b"\n")[:-1]}
     base = os.fsencode(own)
-    here = [b"make_names/" + b"n" * 255, b"make_names/long-link", b"make_names/byte\xff", b"make_kinds/pipe", b"make_kinds/socket"]
+    here = [b"make_names/" + b"n" * 255, b"make_names/long-link", b"make_names/byte\xff", b"make_kinds/pipe", b"make_kinds/socket", b"make_kinds/far"]
     here += [b"make_kinds/shut/hidden", b"make_lists/list32/below", b"make_lists/file32", b"make_lists/default/heir", b"make_attributes/many"]
     here += [b"make_depths/chain300", b"make_depths/chain10000", b"make_attributes/odd", b"make_attributes/long"]
     for path in here:
@@ -322,6 +331,33 @@ def check_trace(check, top, own):
     check.that(rows[base + b"/make_lists/default/heir"][14:] != [], "an heir has its access list")
     check.that(rows[base + b"/make_lists/default"][14:] == [], "a default list is no access list")
     print("trace: %d rows, %s" % (len(rows), ", ".join(line for line in told.decode().split("\n") if " left out" in line and "trace.py: left" not in line)))
+
+
+def make_wide(folder, depth):
+    os.mkdir(folder)
+    touch(folder + "/f")
+    for number in range(6 if depth else 0):
+        make_wide("%s/d%d" % (folder, number), depth - 1)
+
+
+def check_descriptors(check, work):
+    """Where the system allows few open files, the trace is whole, or its status says that it isn't."""
+    top, hasty = os.path.join(work, "wide"), os.path.join(work, "hasty.py")
+    make_wide(top, 4)
+    with open(TRACE) as script, open(hasty, "w") as changed:
+        text = script.read()
+        changed.write(text.replace("TURN = 0.1\n", "TURN = 0.0005\n"))
+    check.that("TURN = 0.1\n" in text, "turns of processes can be made short")
+    whole = trace(top)[1]
+    found = []
+    for most in (6, 8, 10, 12, 14, 16, 18, 20, 24, 32, 64, 1024, 4096):
+        limit = lambda: resource.setrlimit(resource.RLIMIT_NOFILE, (most, most))
+        words = [sys.executable, "-I", hasty, "--jobs=4", top]
+        ran = subprocess.run(words, stdout=subprocess.PIPE, stderr=subprocess.DEVNULL, preexec_fn=limit)
+        found.append("%d: %d" % (most, ran.returncode))
+        check.that(ran.returncode or ran.stdout == whole, "%d open files: status 0, and a part is lacking" % most)
+    check.that(ran.returncode == 0, "%d open files are enough" % most)
+    print("open files, and the status of a trace with so many: %s" % ", ".join(found))
 
 
 def check_races(check, work):
@@ -349,6 +385,30 @@ def check_races(check, work):
     print("races: 20 traces while a folder was swapped for a link, met as a folder in %d" % met)
 
 
+@contextlib.contextmanager
+def meanwhile(done, *several):
+    """Does something again and again, by a process for each of several words, while what stands below it goes on."""
+    children = []
+    try:
+        for word in several:
+            children.append(os.fork())
+            if not children[-1]:
+                repeat(done, word)
+        yield
+    finally:
+        for child in children:
+            os.kill(child, signal.SIGKILL)
+            os.waitpid(child, 0)
+
+
+def repeat(done, word):
+    try:
+        while True:
+            done(word)
+    finally:
+        os._exit(1)
+
+
 def check_lists(check, work):
     """While a folder's list is given and taken away, its mode never stands in the trace without it: the group's bits are the mask then."""
     top = os.path.join(work, "lists")
@@ -357,23 +417,58 @@ def check_lists(check, work):
     texts = [access_list(named).replace(struct.pack("<HHI", 4, 5, 0xFFFFFFFF), struct.pack("<HHI", 4, 0, 0xFFFFFFFF)) for named in (1, 0)]
     # Without names, and without a mask, the list is what the mode says, and the system keeps none.
     whole, none = texts[0], texts[1].replace(struct.pack("<HHI", 16, 5, 0xFFFFFFFF), b"")
-    giver = os.fork()
-    if not giver:
-        while True:
-            os.setxattr(top + "/folder", "system.posix_acl_access", whole)
-            os.setxattr(top + "/folder", "system.posix_acl_access", none)
-    bare = listed = 0
-    for _ in range(20):
-        status, text, told = trace(top)
-        fields = text.split(b"\n")[-2].split(b"\x1e")
+
+    def toggle(pause):
+        for text in (whole, none):
+            os.setxattr(top + "/folder", "system.posix_acl_access", text)
+            time.sleep(pause) if pause else None
+
+    bare = listed = left = 0
+    for pause in 20 * (0, 0.001):
+        with meanwhile(toggle, pause):
+            status, text, told = trace(top)
         check.that(status == 0, "a list that comes and goes: status %d: %s" % (status, told))
+        fields = text.split(b"\n")[-2].split(b"\x1e")
         if fields[0].endswith(b"/folder"):
             has_list = len(fields) == 16
             check.that(has_list or not int(fields[3]) & 0o070, "a mode without its list")
             listed, bare = listed + has_list, bare + (not has_list)
-    os.kill(giver, signal.SIGKILL)
-    os.waitpid(giver, 0)
-    print("lists: 20 traces while a list was given and taken away, met with it in %d and without in %d" % (listed, bare))
+        else:
+            check.that(b"left out" in told, "a folder that is left out is told")
+            left += 1
+    check.that(listed and bare, "the list was met, and its want")
+    print("lists: 40 traces while a list was given and taken away, met with it in %d, without in %d, left out in %d" % (listed, bare, left))
+
+
+def check_swaps(check, work):
+    """While a file with a list has the name of one without, and that one its, the line of the first is never without its list."""
+    top = os.path.join(work, "swaps")
+    os.mkdir(top)
+    listed = set()
+    for number in range(40):
+        for name in ("one", "other"):
+            touch("%s/%s%d" % (top, name, number))
+        give_list("%s/one%d" % (top, number), 1)
+        listed.add(os.stat("%s/one%d" % (top, number)).st_ino)
+
+    exchange = ctypes.CDLL(None).renameat2
+
+    def swap(numbers):
+        for number in numbers:
+            one, other = (os.fsencode("%s/%s%d" % (top, name, number)) for name in ("one", "other"))
+            if exchange(0, one, 0, other, EXCHANGE):
+                raise OSError("renameat2")
+
+    met = 0
+    with meanwhile(swap, *(range(first, 40, 4) for first in range(4))):
+        for _ in range(40):
+            status, text, told = trace(top)
+            check.that(status == 0, "swapped files: status %d: %s" % (status, told))
+            for fields in [line.split(b"\x1e") for line in text.split(b"\n")[1:-1]]:
+                if int(fields[2]) in listed:
+                    met += 1
+                    check.that(len(fields) == 16, "a file's line without its list")
+    print("swaps: 40 traces while files with and without a list were swapped, %d lines of the first" % met)
 
 
 def check_unread(check, work, site, top):
@@ -410,6 +505,12 @@ def check_renewal(check, site, top):
     touch(top + "/b\nc")
     status, told = site.renew(top)
     check.that(status == 0 and "left out" in told, "one more is left out: status %d: %s" % (status, told))
+    # What a user makes is told; that it can't be ends no renewal.
+    for number, closed in enumerate(("2>&-", "<&- 2>&-", ">&- 2>&-", "<&- >&- 2>&-", "2>/dev/full")):
+        touch(top + "/b\n%d" % number)
+        ran = subprocess.run(["sh", "-c", '"$@" ' + closed, "sh", sys.executable, "-I", *site.words(top)], stdout=subprocess.DEVNULL)
+        check.that(ran.returncode == 0, "something is left out, and %s: status %d" % (closed, ran.returncode))
+        os.unlink(top + "/b\n%d" % number)
     os.unlink(top + "/b\nc")
     site.renew(top)
     kept = {name: os.stat(site.path(name)) for name in ("passwd", "group", "index", "trace", "left")}
@@ -428,6 +529,42 @@ def check_half(check, site, work, top):
     status, told = site.renew("--fewer", small)
     check.that(status == 0 and site.index() != before, "and taken where that is told: %s" % told)
     site.renew(top)
+
+
+def check_want(check, work, program):
+    """A renewal on a full disk, and by a user who may have few processes: the index before stands, or the whole new one."""
+    small, folder, ended = os.path.join(work, "few"), os.path.join(work, "want"), {}
+    os.mkdir(small)
+    for number in range(3000):
+        touch("%s/%d" % (small, number))
+    os.mkdir(folder)
+    subprocess.run(["mount", "-t", "tmpfs", "-o", "size=16m", "tmpfs", folder], check=True)
+    try:
+        os.chown(folder, USER, USER)
+        own = Site(folder, program)
+        os.chown(own.folder, USER, USER)
+        before = ["setpriv", "--reuid=%d" % USER, "--regid=%d" % USER, "--clear-groups"]
+        wants = [("bytes of a disk", free, []) for free in (0, 4096, 40960, 100000, 200000, 300000, 400000, 500000, 600000, 2000000)]
+        wants += [("processes", most, ["prlimit", "--nproc=%d:%d" % (most, most)]) for most in range(12)]
+        for kind, most, limit in wants:
+            own.put(b"before")
+            filler = os.path.join(folder, "filler")
+            room = os.statvfs(folder)
+            with open(filler, "wb") as file:
+                file.truncate(0)
+                if kind == "bytes of a disk":
+                    os.posix_fallocate(file.fileno(), 0, max(1, room.f_bavail * room.f_bsize - most))
+            # By the script's own first line, since the user may not be allowed the program that runs this.
+            ran = subprocess.run([*before, *limit, *own.words("--jobs=3", small)], stdout=subprocess.DEVNULL, stderr=subprocess.PIPE)
+            os.unlink(filler)
+            what = "%d %s: status %d: %s" % (most, kind, ran.returncode, ran.stderr)
+            ended.setdefault(kind, []).append(ran.returncode)
+            check.that(ran.returncode == 0 or own.index() == b"before" and ran.stderr, what)
+            check.that(ran.returncode or own.find("0", "/").count(b"\n") == 3001, what)
+        check.that(all(0 in statuses and 1 in statuses for statuses in ended.values()), "some are refused, and some aren't: %s" % ended)
+    finally:
+        subprocess.run(["umount", folder], check=True)
+    print("want, and statuses: %s" % ", ".join("%s %s" % each for each in ended.items()))
 
 
 def check_pairs(check, site, top):
@@ -553,11 +690,14 @@ def main():
             site = Site(work, given.program)
             check_bounds(check, work, given.program)
             check_trace(check, top, own)
+            check_descriptors(check, work)
             check_races(check, work)
             check_lists(check, work)
+            check_swaps(check, work)
             check_renewal(check, site, top)
             check_unread(check, work, site, top)
             check_half(check, site, work, top)
+            check_want(check, work, given.program)
             check_pairs(check, site, top)
             check_kills(check, site, top)
             check_mount(check, site, own, top)

@@ -42,8 +42,19 @@ class Busy(Exception):
     """Another renewal runs."""
 
 
-def tell(line):
-    print("gufi-renew: " + line, file=sys.stderr)
+def hold_streams():
+    """Keeps the numbers of closed streams from being given to the site's files."""
+    for number in range(3):
+        try:
+            os.fstat(number)
+        except OSError:
+            os.open(os.devnull, os.O_RDWR)
+
+
+def tell(text):
+    """Says something on standard error. It may be closed or full: what a user makes is no cause to end there."""
+    with contextlib.suppress(OSError):
+        os.write(2, (text + "\n").encode("ascii", "backslashreplace"))
 
 
 class Site:
@@ -95,7 +106,7 @@ def make_trace(site, given):
     if status == 0 or status == 1 and given.partial:
         return
     with open(site.new("left"), "rb") as left:
-        sys.stderr.write(note_of(left.read()) + "\n")
+        tell(note_of(left.read()))
     if status == 1:
         raise Refused("a part of %s couldn't be read; --partial takes the rest" % given.root)
     raise Refused("trace.py ended with status %d" % status)
@@ -155,8 +166,7 @@ def tell_left(site):
         except FileNotFoundError:
             texts.append(b"")
     if texts[0] != texts[1]:
-        sys.stderr.write(note_of(texts[0]) + "\n" if texts[0] else "gufi-renew: nothing is left out any more\n")
-        sys.stderr.flush()
+        tell(note_of(texts[0]) if texts[0] else "gufi-renew: nothing is left out any more")
 
 
 def put_in_place(site):
@@ -200,18 +210,20 @@ def words():
 
 
 def main():
+    hold_streams()
     given = words()
     os.umask(0o077)
     try:
         renew(Site(given.site), given)
     except Refused as why:
-        tell("%s. The index isn't renewed" % why)
+        tell("gufi-renew: %s. The index isn't renewed" % why)
         return 1
     except OSError as error:
-        tell("%s: %s. The index isn't renewed" % (error.filename, os.strerror(error.errno)))
+        where = "%s: " % error.filename if error.filename else ""
+        tell("gufi-renew: %s%s. The index isn't renewed" % (where, os.strerror(error.errno)))
         return 1
     except Busy:
-        tell("another renewal runs")
+        tell("gufi-renew: another renewal runs")
         return 75
     return 0
 

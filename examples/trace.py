@@ -10,7 +10,7 @@ which the trace would outgrow one index, unless --any-size is given. That change
 
   --xdev          stay on the file system of FOLDER; the folder on which another one is mounted has a line
   --exclude PATH  leave out what is at PATH, and all below it; it lies below FOLDER
-  --jobs N        walk by N processes; the text is the same
+  --jobs N        walk by N processes, or by fewer where the system allows them too few open files; the text is the same
   --any-size      make the trace as large as the tree is, to be cut into shards
 
 The status is 0 where all was read, 1 where something couldn't be, 2 where a word can't be taken, 3 where a process of its own ended
@@ -63,8 +63,11 @@ MOUNTED = "a file system that a user mounted"
 TOLD = 10
 MOST_SHOWN = 200
 
-# How often a file is looked at whose rights change meanwhile.
-TRIES = 100
+# How often a file is looked at whose rights change meanwhile, how often one of this second has to be found the same, and how many
+# nanoseconds a tick of the system has at most.
+TRIES = 1000
+LOOKS = 20
+TICK = 20_000_000
 
 KINDS = {
     stat.S_IFREG: b"f",
@@ -249,17 +252,35 @@ def list_of(file):
 
 def steady(descriptor, file):
     """What the system tells of an open file, and its list, of one moment: a list that is taken away or given changes the mode too."""
+    same, before = 0, None
     for _ in range(TRIES):
+        began = second()
         found = os.fstat(descriptor)
         acl = list_of(file)
-        if rights(found) == rights(os.fstat(descriptor)):
+        again = os.fstat(descriptor)
+        if not may_have_changed(found, again, began):
+            return found, acl
+        # Of one that was changed in this second the times don't tell. A chance that comes once doesn't come so often.
+        looked = found.st_mode, found.st_uid, found.st_gid, acl
+        same = same + 1 if looked == before and looked[:3] == (again.st_mode, again.st_uid, again.st_gid) else 0
+        before = looked
+        if same == LOOKS:
             return found, acl
     raise Unfit("its rights change all the time")
 
 
-def rights(found):
-    """What says whether something was changed meanwhile and changed back: each change of a file's rights sets the last time."""
-    return found.st_mode, found.st_uid, found.st_gid, found.st_ctime_ns
+def second():
+    """The second in which a change would be now. The clock of files' times is behind by a tick of the system."""
+    return (time.time_ns() - TICK) // 10**9
+
+
+def may_have_changed(found, again, began):
+    """Whether a file may have been changed, and changed back, or have had another in its place, between two looks from that second on.
+
+    Each change of its rights or its name sets its last time, in some file systems to whole seconds."""
+    if found.st_ctime_ns != again.st_ctime_ns or found.st_ino != again.st_ino or found.st_dev != again.st_dev:
+        return True
+    return found.st_ctime_ns >= began * 10**9
 
 
 def names_of(file):
@@ -373,6 +394,8 @@ class Walker:
         self.report = Report()
         self.open = []
         self.lines, self.size, self.directories = [], 0, 0
+        # The second in which the mounts were looked at.
+        self.looked = 0
 
     def begin(self):
         """Begins at the top itself."""
@@ -459,6 +482,12 @@ class Walker:
             self.fail(folder.path, error)
             return
         depth = self.depth + len(folder.names) + 1
+        began = second()
+        if began > self.looked:
+            # A user may mount one at any time.
+            self.looked = began
+            with contextlib.suppress(OSError):
+                self.mounts = user_mounts()
         # Only where one of the names may not fit each has to be looked at.
         plain = depth <= MOST_COMPONENTS and not has_odd_byte(b"".join(names))
         longest = max(map(len, names), default=0)
@@ -473,7 +502,7 @@ class Walker:
                     raise Unfit(MOUNTED)
                 if not plain:
                     check_path(path, depth)
-                if self.read_file(name, path):
+                if self.read_file(name, path, began):
                     folder.subfolders.append(name)
             except Unfit as why:
                 self.report.leave(path, why)
@@ -481,7 +510,7 @@ class Walker:
                 self.fail(path, error)
         folder.subfolders.reverse()
 
-    def read_file(self, name, path):
+    def read_file(self, name, path, began):
         """Writes the line of what has that name in the folder where the process stands, or says that it is a folder."""
         found, link, names, acl = os.lstat(name), b"", b"", b""
         kind = KINDS.get(stat.S_IFMT(found.st_mode))
@@ -492,7 +521,7 @@ class Walker:
         if kind == b"l":
             link = link_of(name)
             check_link(link)
-        elif self.has_attributes(name):
+        elif self.has_attributes(name) or may_have_changed(found, os.lstat(name), began):
             found, names, acl = self.look(name)
             kind = KINDS.get(stat.S_IFMT(found.st_mode))
             if kind == b"d":
@@ -624,7 +653,7 @@ class Channel:
         return self.end.fileno()
 
     def send(self, message, descriptors=()):
-        data = pickle.dumps(message, pickle.HIGHEST_PROTOCOL)
+        data = pickle.dumps((message, len(descriptors)), pickle.HIGHEST_PROTOCOL)
         try:
             socket.send_fds(self.end, [len(data).to_bytes(8, "little")], descriptors)
             self.end.sendall(data)
@@ -644,7 +673,11 @@ class Channel:
             raise Ended from error
         if rest is None:
             raise Ended
-        return pickle.loads(data), descriptors
+        message, count = pickle.loads(data)
+        # The system leaves out, without a word, those for which this process may open no more files.
+        if len(descriptors) < count:
+            raise OSError(errno.EMFILE, os.strerror(errno.EMFILE))
+        return message, descriptors
 
 
 class Held:
@@ -845,11 +878,15 @@ def words():
     return given
 
 
-def allow_descriptors():
-    """A folder on the way to the deepest one takes a descriptor each."""
+def allow_descriptors(given):
+    """Opens the way for as many files as the system allows, and walks by no more processes than these are enough for.
+
+    A folder on the way to the deepest one takes a descriptor each, in the process that walks and in the one that it is given back to."""
     most = resource.getrlimit(resource.RLIMIT_NOFILE)[1]
     with contextlib.suppress(OSError, ValueError):
         resource.setrlimit(resource.RLIMIT_NOFILE, (most, most))
+    if most != resource.RLIM_INFINITY:
+        given.jobs = max(1, min(given.jobs, (most - MOST_WAITING) // (MOST_COMPONENTS + 1) - 2))
 
 
 def write_trace(top, given, report):
@@ -884,7 +921,7 @@ def main():
     signal.signal(signal.SIGINT, signal.SIG_DFL)
     hold_streams()
     given, report = words(), Report()
-    allow_descriptors()
+    allow_descriptors(given)
     top = begin(given)
     if top is None:
         return 2
