@@ -1,6 +1,6 @@
 //! Sums side by side in blocks, which lists of sums share.
 
-ghost use Rattle.std.specs.Prelude.{◌≡◌, ◌<◌, ◌≤◌, ◌++◌, ◌∷◌, [], length, map, take, drop, slice_index_or, true, false, All, IfOk, OnOk};
+ghost use Rattle.std.specs.Prelude.{◌≡◌, ◌<◌, ◌≤◌, ◌++◌, ◌∷◌, [], length, map, take, drop, slice_index_or, true, false, All, IsTrue, IfOk, OnOk};
 ghost use Rattle.std.specs.Arc.{arc_value};
 ghost use Rattle.gufi_sums.specs.Blocks.{lists_of, sum_at, sums_in, moved, both_moved, Stands, BothStand, Keep, AreWithin, AreMarked, StayMarked, AreKept};
 
@@ -19,6 +19,15 @@ const ENOUGH: usize = 256;
 pub(crate) struct Slot {
     block: u32,
     at: u32,
+}
+
+impl Slot {
+    /// Whether it is the same one.
+    pub(crate) fn is_at(self, other: Slot) -> bool
+        ensures { IsTrue result → self ≡ other }
+    {
+        self.block == other.block && self.at == other.at
+    }
 }
 
 /// Where the two sums of a directory are: of its own rows, and of the rows at and below it.
@@ -146,6 +155,17 @@ pub(crate) fn add_sum(
 {
     make_room(alloc, blocks, last)?;
     push_last(blocks.as_slice(), last, sum)
+}
+
+/// How many sums blocks have, and one for each block: an empty one takes memory too.
+pub(crate) fn kept_in(blocks: &[Arc<Block, Global>]) -> usize {
+    let mut kept = 0usize;
+    for block in blocks {
+        kept = kept
+            .saturating_add(block.as_slice().len())
+            .saturating_add(1);
+    }
+    kept
 }
 
 /// Blocks, shared once more, behind others.

@@ -1,8 +1,10 @@
 -- Directories by their places in bundles, also when bundles go on.
-use Rattle.std.proofs.Common.{◌≡◌, ◌∙◌, ℕ, ◌<◌, Bool, true, false, ltb, List, [], ◌∷◌, ◌++◌, length, take, drop, map, set, get_or, refl, sym, ap, subst, arith, length-set}
+use Rattle.std.proofs.Common.{◌≡◌, ◌∙◌, ℕ, ◌+◌, ◌<◌, Bool, true, false, ltb, List, [], ◌∷◌, ◌++◌, length, take, drop, map, get_or, Option, Some, None, refl, sym, ap, subst, arith}
 use Rattle.std.specs.Prelude.{All}
-use Rattle.std.proofs.lemmas.List.{get_or-map, get_or-set_other, get_or_append_left, get_or_push, length-append, length-map, map-append, map-set, take-map, drop-map}
-use Rattle.std.proofs.lemmas.Bool.{true≢false, ltb-true, ltb-false}
+use Rattle.std.proofs.lemmas.List.{append_assoc, get_or-map, get_or_append_left, get_or_past, get_or_push, length-append, length-map, map-append, take-map, take_more, drop-map}
+use Rattle.std.proofs.lemmas.Bool.{ltb-true, ltb-false}
+use Rattle.std.proofs.lemmas.Option.{none-some}
+use Rattle.std.specs.Option.{unwrap_or}
 use Rattle.std.specs.declared.sync.Arc.{Arc}
 use Rattle.std.specs.Arc.{arc_value}
 use Rattle.std.proofs.lemmas.List.Elements.{All-weaker}
@@ -10,7 +12,7 @@ use Rattle.std.specs.List.Sorted.{IsPermutation}
 use Rattle.std.proofs.lemmas.List.Sorted.{IsPermutation-map}
 use Rattle.gufi_tree.specs.declared.dirs.Place.{Place}
 use Rattle.gufi_tree.specs.Tree.{Directory}
-use Rattle.gufi_tree.specs.Bundled.{lists_of, directories_at, directory_at, no_directory, AreKept, Keep, Stands}
+use Rattle.gufi_tree.specs.Bundled.{lists_of, directories_at, directory_at, no_directory, renumbered, AreTaken, Keep, Share, Stands}
 use Rattle.gufi_tree.proofs.GoingOn.{map-same}
 
 -- the directory at a place of a list
@@ -32,6 +34,9 @@ module _ (lists after : List (List Directory)) (keep : Keep lists after) (places
   directories-push p d is =
       map-append (directory_at after) places (p ∷ []) ∙ ap (λ (l : List Directory). l ++ directory_at after p ∷ []) directories-kept ∙ ap (λ (x : Directory). directories_at lists places ++ x ∷ []) is
 
+pub Keep-refl : (lists : List (List Directory)) → Keep lists lists
+Keep-refl lists = record { stand = λ p h. h; same = λ p h. refl }
+
 pub Keep-trans : (lists mid after : List (List Directory)) → Keep lists mid → Keep mid after → Keep lists after
 Keep-trans lists mid after first second = record { stand = λ p h. second.stand p (first.stand p h); same = λ p h. second.same p (first.stand p h) ∙ first.same p h }
 
@@ -41,73 +46,95 @@ pub directories-permuted : (lists : List (List Directory)) (places after : List 
 directories-permuted lists places after seen view moved = subst (λ ds. IsPermutation ds (directories_at lists after)) view (IsPermutation-map (directory_at lists) places after moved)
 
 -- places put elsewhere put directories there
-pub directories-put : (lists : List (List Directory)) (places : List Place) (at end from : ℕ)
-    → directories_at lists (take at places ++ (drop from places ++ drop end (take from places)))
-    ≡ take at (directories_at lists places) ++ (drop from (directories_at lists places) ++ drop end (take from (directories_at lists places)))
-directories-put lists places at end from =
+pub directories-put : (lists : List (List Directory)) (places : List Place) (at from : ℕ)
+    → directories_at lists (take at places ++ (drop from places ++ drop at (take from places)))
+    ≡ take at (directories_at lists places) ++ (drop from (directories_at lists places) ++ drop at (take from (directories_at lists places)))
+directories-put lists places at from =
     let f = directory_at lists in
-    map-append f (take at places) (drop from places ++ drop end (take from places))
-    ∙ ap (λ (ds : List Directory). ds ++ map f (drop from places ++ drop end (take from places))) (sym (take-map f at places))
-    ∙ ap (λ (ds : List Directory). take at (map f places) ++ ds) (map-append f (drop from places) (drop end (take from places))
-    ∙ ap (λ (ds : List Directory). ds ++ map f (drop end (take from places))) (sym (drop-map f from places))
-    ∙ ap (λ (ds : List Directory). drop from (map f places) ++ ds) (sym (drop-map f end (take from places)) ∙ ap (drop end) (sym (take-map f from places))))
+    map-append f (take at places) (drop from places ++ drop at (take from places))
+    ∙ ap (λ (ds : List Directory). ds ++ map f (drop from places ++ drop at (take from places))) (sym (take-map f at places))
+    ∙ ap (λ (ds : List Directory). take at (map f places) ++ ds) (map-append f (drop from places) (drop at (take from places))
+    ∙ ap (λ (ds : List Directory). ds ++ map f (drop at (take from places))) (sym (drop-map f from places))
+    ∙ ap (λ (ds : List Directory). drop from (map f places) ++ ds) (sym (drop-map f at (take from places)) ∙ ap (drop at) (sym (take-map f from places))))
 
--- a bundle that isn't marked is replaced
-module _ {Z : Type 0} (marks : List Bool) (lists : List (List Directory)) (bundles after : List (Arc (List Directory) Z)) (n : ℕ) (bundle : Arc (List Directory) Z) where
-  pub replaced_kept : after ≡ set bundles n bundle → get_or marks n false ≡ false → AreKept marks lists (map arc_value bundles) → AreKept marks lists (map arc_value after)
-  replaced_kept is unmarked kept =
-      let e : map arc_value after ≡ set (map arc_value bundles) n (arc_value bundle) = ap (map arc_value) is ∙ map-set arc_value bundles n bundle in
-      subst (AreKept marks lists) (sym e) (record {
-        len = length-set (map arc_value bundles) n (arc_value bundle) ∙ kept.len;
-        each = λ k lt marked. get_or-set_other (map arc_value bundles) n k (arc_value bundle) [] (λ same. true≢false (sym marked ∙ ap (λ (i : ℕ). get_or marks i false) same ∙ unmarked)) ∙ kept.each k lt marked;
-      })
+-- one more number, which may be that of one more bundle
+module _ (numbers : List (Option ℕ)) (lists after next : List (List Directory)) (k : ℕ) (x : Option ℕ) (len : length numbers ≡ k) (lt : k < length lists) (taken : AreTaken numbers lists after)
+    (stay : (m : ℕ) → m < length after → (m < length next) × (get_or next m [] ≡ get_or after m [])) (last : (n : ℕ) → x ≡ Some n → (n < length next) × (get_or next n [] ≡ get_or lists k [])) where
+  taken_each : (j n : ℕ) → get_or (numbers ++ x ∷ []) j None ≡ Some n → (j < length lists) × (n < length next) × (get_or next n [] ≡ get_or lists j [])
+  taken_each j n is = by (ltb j k) refl where
+    at_end : (b : Bool) → ltb k j ≡ b → ltb j k ≡ false → (j < length lists) × (n < length next) × (get_or next n [] ≡ get_or lists j [])
+    at_end true e past =
+        let more = ltb-true k j e in
+        let size = length-append numbers (x ∷ []) in
+        absurd (none-some n (sym (get_or_past (numbers ++ x ∷ []) j None (omega arith)) ∙ is))
+    at_end false e past =
+        let less = ltb-false k j e in
+        let more = ltb-false j k past in
+        let at : k ≡ j = omega arith in
+        let here = last n (sym (get_or_push numbers x None j (len ∙ at)) ∙ is) in
+        (omega arith, here.0, here.1 ∙ ap (λ (i : ℕ). get_or lists i []) at)
 
--- where the bundles that places name are kept, each place has the directory that it had
-module _ (marks : List Bool) (lists after : List (List Directory)) (last : List Directory) (kept : AreKept marks lists after) where
-  same_bundle : (k : ℕ) → k < length (lists ++ last ∷ []) → get_or marks k false ≡ true → get_or (after ++ last ∷ []) k [] ≡ get_or (lists ++ last ∷ []) k []
-  same_bundle k lt marked = by (ltb k (length lists)) refl where
-    by : (b : Bool) → ltb k (length lists) ≡ b → get_or (after ++ last ∷ []) k [] ≡ get_or (lists ++ last ∷ []) k []
+    by : (b : Bool) → ltb j k ≡ b → (j < length lists) × (n < length next) × (get_or next n [] ≡ get_or lists j [])
     by true e =
-        let less = ltb-true k (length lists) e in
-        let size = kept.len in
-        get_or_append_left after (last ∷ []) [] k (omega arith) ∙ kept.each k less marked ∙ sym (get_or_append_left lists (last ∷ []) [] k less)
-    by false e =
-        let more = ltb-false k (length lists) e in
-        let size = length-append lists (last ∷ []) in
-        let at : k ≡ length lists = omega arith in
-        get_or_push after last [] k (kept.len ∙ sym at) ∙ sym (get_or_push lists last [] k (sym at))
+        let less = ltb-true j k e in
+        let t = taken.each j n (sym (get_or_append_left numbers (x ∷ []) None j (omega arith)) ∙ is) in
+        let now = stay n t.1 in
+        (t.0, now.0, now.1 ∙ t.2)
+    by false e = at_end (ltb k j) refl e
 
-  module _ (places : List Place) (all : All (Stands (lists ++ last ∷ [])) places) (named : All (λ (p : Place). get_or marks p.bundle false ≡ true) places) where
-    pub named_stand : All (Stands (after ++ last ∷ [])) places
-    named_stand = λ k d lt.
-        let here = all k d lt in
-        let same = ap (λ (l : List Directory). length l) (same_bundle (get_or places k d).bundle here.bundle (named k d lt)) in
-        let bundle = here.bundle in
-        let within = here.within in
-        let size = kept.len in
-        let before = length-append lists (last ∷ []) in
-        let now = length-append after (last ∷ []) in
-        record { bundle = omega arith; within = omega arith }
+  taken_next : AreTaken (numbers ++ x ∷ []) lists next
+  taken_next = record { each = taken_each }
 
-    pub named_same : directories_at (after ++ last ∷ []) places ≡ directories_at (lists ++ last ∷ []) places
-    named_same = map-same (directory_at (after ++ last ∷ [])) (directory_at (lists ++ last ∷ [])) places (λ k d lt.
-        ap (λ (l : List Directory). get_or l (get_or places k d).head no_directory) (same_bundle (get_or places k d).bundle (all k d lt).bundle (named k d lt)))
+module _ {Z : Type 0} (numbers : List (Option ℕ)) (bundles taken : List (Arc (List Directory) Z)) (k : ℕ) (len : length numbers ≡ k) (lt : k < length bundles)
+    (are : AreTaken numbers (map arc_value bundles) (map arc_value taken)) where
+  within : k < length (map arc_value bundles)
+  within = let same = length-map bundles arc_value in omega arith
 
--- the same of a part's bundles as they were handed out and written back
-module _ {Z : Type 0} (marks given : List Bool) (bundles shown after written : List (Arc (List Directory) Z)) (last : List Directory) (places named : List Place)
-    (same_marks : given ≡ marks) (same_bundles : shown ≡ bundles) (same_written : written ≡ after) (same_places : named ≡ places)
-    (kept : AreKept given (map arc_value shown) (map arc_value after)) (all : All (Stands (lists_of bundles last)) places) (marked : All (λ (p : Place). get_or marks p.bundle false ≡ true) named) where
-  all_kept : AreKept marks (map arc_value bundles) (map arc_value written)
-  all_kept =
-      subst (λ (m : List Bool). AreKept m (map arc_value bundles) (map arc_value written)) same_marks
-      (subst (λ (bs : List (Arc (List Directory) Z)). AreKept given (map arc_value bs) (map arc_value written)) same_bundles
-      (subst (λ (bs : List (Arc (List Directory) Z)). AreKept given (map arc_value shown) (map arc_value bs)) (sym same_written) kept))
+  pub taken_none : AreTaken (numbers ++ None ∷ []) (map arc_value bundles) (map arc_value taken)
+  taken_none = taken_next numbers (map arc_value bundles) (map arc_value taken) (map arc_value taken) k None len within are (λ m h. (h, refl)) (λ n is. absurd (none-some n is))
 
-  all_marked : All (λ (p : Place). get_or marks p.bundle false ≡ true) places
-  all_marked = subst (λ (ps : List Place). All (λ (p : Place). get_or marks p.bundle false ≡ true) ps) same_places marked
+  pub taken_more : (bundle again : Arc (List Directory) Z) (n : ℕ) → n ≡ length taken → bundle ≡ get_or bundles k bundle → arc_value again ≡ arc_value bundle
+      → AreTaken (numbers ++ Some n ∷ []) (map arc_value bundles) (map arc_value (taken ++ again ∷ []))
+  taken_more bundle again n at is same =
+      let after = map arc_value taken in
+      let size : length after ≡ length taken = length-map taken arc_value in
+      let grown = length-append after (arc_value again ∷ []) in
+      rw (map-append arc_value taken (again ∷ []))
+      (taken_next numbers (map arc_value bundles) after (after ++ arc_value again ∷ []) k (Some n) len within are
+      (λ m h. (omega arith, get_or_append_left after (arc_value again ∷ []) [] m h))
+      (λ m e. let here : n ≡ m = ap (λ (o : Option ℕ). unwrap_or o 0) e in
+      (omega arith, get_or_push after (arc_value again) [] m (omega arith) ∙ same ∙ ap arc_value is ∙ sym (get_or-map arc_value bundles k bundle [] lt))))
 
-  pub let_go-stand : All (Stands (lists_of written last)) places
-  let_go-stand = named_stand marks (map arc_value bundles) (map arc_value written) last all_kept places all all_marked
+-- bundles that are taken over are shared, whatever the last ones are
+pub taken_share : (numbers : List (Option ℕ)) (lists after : List (List Directory)) (last more : List Directory) → AreTaken numbers lists after → Share numbers (lists ++ last ∷ []) (after ++ more ∷ [])
+taken_share numbers lists after last more taken = record {
+  stand = λ place n is here.
+      let same : get_or (after ++ more ∷ []) n [] ≡ get_or (lists ++ last ∷ []) place.bundle [] = bundle_same place n is in
+      let len = ap (λ (ds : List Directory). length ds) same in
+      let within = here.within in
+      let t = (taken.each place.bundle n is).1 in
+      let size = length-append after (more ∷ []) in
+      record { bundle = omega arith; within = omega arith };
+  same = λ place n is here. ap (λ (ds : List Directory). get_or ds place.head no_directory) (bundle_same place n is);
+} where
+  bundle_same : (place : Place) (n : ℕ) → get_or numbers place.bundle None ≡ Some n → get_or (after ++ more ∷ []) n [] ≡ get_or (lists ++ last ∷ []) place.bundle []
+  bundle_same place n is =
+      let t = taken.each place.bundle n is in
+      get_or_append_left after (more ∷ []) [] n t.1 ∙ t.2 ∙ sym (get_or_append_left lists (last ∷ []) [] place.bundle t.0)
 
-  pub let_go-same : directories_at (lists_of written last) places ≡ directories_at (lists_of bundles last) places
-  let_go-same = named_same marks (map arc_value bundles) (map arc_value written) last all_kept places all all_marked
+pub share-kept : (numbers : List (Option ℕ)) (lists mid after : List (List Directory)) → Share numbers lists mid → Keep mid after → Share numbers lists after
+share-kept numbers lists mid after share keep = record {
+  stand = λ place n is here. keep.stand (renumbered n place) (share.stand place n is here);
+  same = λ place n is here. keep.same (renumbered n place) (share.stand place n is here) ∙ share.same place n is here;
+}
+
+-- the next one of some places, wherever its directory stands then
+pub place_pushed : (first from now after : List (List Directory)) (start places some : List Place) (k : ℕ) (p q : Place) → k < length some → p ≡ get_or some k p → Keep now after → All (Stands now) places
+    → directories_at now places ≡ directories_at first start ++ directories_at from (take k some) → directory_at after q ≡ directory_at from p
+    → directories_at after (places ++ q ∷ []) ≡ directories_at first start ++ directories_at from (take (k + 1) some)
+place_pushed first from now after start places some k p q lt at keep all so_far is =
+    directories-push now after keep places all q (directory_at from p) is
+    ∙ ap (λ (ds : List Directory). ds ++ directory_at from p ∷ []) so_far
+    ∙ append_assoc (directories_at first start) (directories_at from (take k some)) (directory_at from p ∷ [])
+    ∙ ap (λ (ds : List Directory). directories_at first start ++ ds)
+    (sym (map-append (directory_at from) (take k some) (p ∷ [])) ∙ ap (directories_at from) (ap (λ (e : Place). take k some ++ e ∷ []) at ∙ sym (take_more some k p lt)))

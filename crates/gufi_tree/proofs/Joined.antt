@@ -2,7 +2,7 @@
 use Rattle.std.proofs.Common.{◌≡◌, ◌∙◌, ℕ, ◌+◌, ◌≤◌, ◌<◌, true, List, [], ◌∷◌, ◌++◌, length, take, drop, map, flat_map, get_or, sym, ap, arith}
 use Rattle.std.proofs.Math.Seq.{take-append_seam, drop-append_seam}
 use Rattle.std.proofs.lemmas.Bool.{and_from}
-use Rattle.std.proofs.lemmas.List.{append_assoc, length-append, map-append, take-append-le, take_more}
+use Rattle.std.proofs.lemmas.List.{append_assoc, length-append, length-take-le, map-append, take-append-le, take_more}
 use Rattle.std.proofs.lemmas.List.Folds.{list_all-append}
 use Rattle.std.specs.List.{list_all}
 use Rattle.gufi_base.specs.Names.{is_name}
@@ -40,6 +40,17 @@ put_back ds more at end within =
     ap (λ (xs : List Directory). xs ++ (drop (length ds) (ds ++ more) ++ drop end (take (length ds) (ds ++ more)))) (take-append-le at ds more within)
     ∙ ap (λ (xs : List Directory). take at ds ++ (xs ++ drop end (take (length ds) (ds ++ more)))) (drop-append_seam ds more)
     ∙ ap (λ (xs : List Directory). take at ds ++ (more ++ drop end xs)) (take-append_seam ds more)
+
+-- the same, where what it replaces was left out before
+pub put_between : (ds more : List Directory) (at end : ℕ) → at ≤ length ds → let rest = take at ds ++ drop end ds in
+    take at (rest ++ more) ++ (drop (length rest) (rest ++ more) ++ drop at (take (length rest) (rest ++ more))) ≡ take at ds ++ (more ++ drop end ds)
+put_between ds more at end within =
+    let rest = take at ds ++ drop end ds in
+    let size : length (take at ds) ≡ at = length-take-le at ds within in
+    let both = length-append (take at ds) (drop end ds) in
+    put_back rest more at at (omega arith)
+    ∙ ap (λ (xs : List Directory). xs ++ (more ++ drop at rest)) (ap (λ (n : ℕ). take n rest) (sym size) ∙ take-append_seam (take at ds) (drop end ds))
+    ∙ ap (λ (xs : List Directory). take at ds ++ (more ++ xs)) (ap (λ (n : ℕ). drop n rest) (sym size) ∙ drop-append_seam (take at ds) (drop end ds))
 
 -- a directory has a row at least
 pub no_more_dirs : (ds : List Directory) → length ds ≤ length (flat_map own_rows ds)

@@ -1,5 +1,5 @@
 -- Directories by their places in bundles.
-use Rattle.std.specs.Prelude.{◌≡◌, ℕ, ◌<◌, Bool, true, false, pos, List, [], ◌∷◌, ◌++◌, length, map, slice_index_or}
+use Rattle.std.specs.Prelude.{◌≡◌, ℕ, ◌<◌, pos, List, [], ◌∷◌, ◌++◌, length, map, slice_index_or, Option, Some, None}
 use Rattle.std.specs.declared.sync.Arc.{Arc}
 use Rattle.std.specs.Arc.{arc_value}
 use Rattle.gufi_base.specs.declared.record.Kind.TheVariants.{Dir}
@@ -39,7 +39,14 @@ pub record Keep (lists after : List (List Directory)) : Type 0 where
   pub stand : (place : Place) → Stands lists place → Stands after place
   pub same : (place : Place) → Stands lists place → directory_at after place ≡ directory_at lists place
 
--- the bundles that are marked have the directories that they had
-pub record AreKept (marks : List Bool) (lists after : List (List Directory)) : Type 0 where
-  pub len : length after ≡ length lists
-  pub each : (k : ℕ) → k < length lists → slice_index_or marks k false ≡ true → slice_index_or after k [] ≡ slice_index_or lists k []
+-- bundles that were taken over: each has its number, by that which it had
+pub record AreTaken (numbers : List (Option ℕ)) (lists after : List (List Directory)) : Type 0 where
+  pub each : (k n : ℕ) → slice_index_or numbers k None ≡ Some n → (k < length lists) × (n < length after) × (slice_index_or after n [] ≡ slice_index_or lists k [])
+
+abbrev pub renumbered : ℕ → Place → Place
+renumbered n place = record { bundle = n; head = place.head }
+
+-- where a place's bundle has a number, the directory stands under it too
+pub record Share (numbers : List (Option ℕ)) (lists after : List (List Directory)) : Type 0 where
+  pub stand : (place : Place) (n : ℕ) → slice_index_or numbers place.bundle None ≡ Some n → Stands lists place → Stands after (renumbered n place)
+  pub same : (place : Place) (n : ℕ) → slice_index_or numbers place.bundle None ≡ Some n → Stands lists place → directory_at after (renumbered n place) ≡ directory_at lists place

@@ -1,17 +1,18 @@
 //! Directories as they are kept: by their places in bundles, which lists of directories share.
 
-ghost use Rattle.std.specs.Prelude.{◌≡◌, ◌<◌, ◌≤◌, take, drop, ◌++◌, ◌∷◌, [], length, map, slice_index_or, true, false, All, IfOk, OnOk};
+ghost use Rattle.std.specs.Prelude.{◌≡◌, ◌<◌, ◌≤◌, take, drop, ◌++◌, ◌∷◌, [], length, map, slice_index_or, All, IfOk, OnOk, OnErr};
 ghost use Rattle.std.specs.Arc.{arc_value};
 ghost use Rattle.std.specs.List.Sorted.{IsPermutation};
 ghost use Rattle.gufi_tree.specs.Tree.{Directory};
 ghost use Rattle.gufi_tree.specs.Stored.{directory_of};
-ghost use Rattle.gufi_tree.specs.Bundled.{lists_of, directory_at, AreKept, Keep, Stands};
+ghost use Rattle.gufi_tree.specs.Bundled.{lists_of, directories_at, directory_at, AreTaken, Keep, Stands};
 ghost use Rattle.gufi_tree.specs.Bundles.{IsShort};
 ghost use Rattle.gufi_tree.specs.Packs.{entries_of};
 
 use crate::borrowed::DirRef;
 use crate::bundle::Bundle;
 use crate::likely::move_to;
+use crate::outside::{Taken, push_again, rows_left, take_over};
 use crate::pending::Pending;
 use crate::tree::{Entry, Stored};
 use gufi_base::{PathRef, RecRef, text_cmp, u32_of};
@@ -29,8 +30,8 @@ const USUAL: usize = 2 * ENOUGH;
 /// The number of a bundle, and which of its directories.
 #[derive(Clone, Copy)]
 pub(crate) struct Place {
-    bundle: u32,
-    head: u32,
+    pub(crate) bundle: u32,
+    pub(crate) head: u32,
 }
 
 /// Directories, each with its entries. Contracts see their list.
@@ -56,7 +57,11 @@ impl Model for Dirs {
 
 /// The bundle of a number; the last one's is that behind the others.
 #[inline]
-fn bundle_at<'a>(bundles: &'a [Arc<Bundle, Global>], last: &'a Bundle, number: u32) -> &'a Bundle
+pub(crate) fn bundle_at<'a>(
+    bundles: &'a [Arc<Bundle, Global>],
+    last: &'a Bundle,
+    number: u32,
+) -> &'a Bundle
     requires { number < length (lists_of bundles.now last.now) }
     ensures { result.now ≡ slice_index_or (lists_of bundles.now last.now) number [] }
 {
@@ -138,6 +143,24 @@ fn push_last(
     Ok(Place { bundle, head })
 }
 
+/// Packs a directory behind the others, and begins the last bundle anew where it has enough then: so a tree that shares them copies few rows.
+pub(crate) fn pack(
+    alloc: Global,
+    bundles: &mut Vec<Arc<Bundle, Global>>,
+    last: &mut Bundle,
+    path: &PathRef<'_>,
+    rec: &RecRef<'_>,
+    entries: &Pending,
+) -> Result<Place, AllocError>
+    ensures keep { Keep (lists_of bundles.old.items last.old) (lists_of bundles.new.items last.new) }
+    ensures stands { IfOk result (Stands (lists_of bundles.new.items last.new)) }
+    ensures directory { IfOk result (λ place. directory_at (lists_of bundles.new.items last.new) place ≡ record { path = path.now; rec = rec.now; entries = entries_of entries.now }) }
+{
+    let place = push_last(bundles.as_slice(), last, path, rec, entries)?;
+    make_room(alloc, bundles, last)?;
+    Ok(place)
+}
+
 /// Packs entries behind others.
 fn push_entries(pending: &mut Pending, entries: &[Entry]) -> Result<(), AllocError>
     ensures { OnOk result (entries_of pending.new ≡ entries_of pending.old ++ entries.now) }
@@ -148,54 +171,72 @@ fn push_entries(pending: &mut Pending, entries: &[Entry]) -> Result<(), AllocErr
     Ok(())
 }
 
-/// Places, of which those from a number on are put in the place of those between two others.
+/// Places, of which those from a number on are put before those from another on.
 fn places_put(
     alloc: Global,
     places: &[Place],
     at: usize,
-    end: usize,
     from: usize,
 ) -> Result<Vec<Place>, AllocError>
-    requires order { (at ≤ end) × (end ≤ from) }
+    requires order { at ≤ from }
     requires within { from ≤ length places.now }
-    ensures { IfOk result (λ put. put.items ≡ take at places.now ++ (drop from places.now ++ drop end (take from places.now))) }
+    ensures { IfOk result (λ put. put.items ≡ take at places.now ++ (drop from places.now ++ drop at (take from places.now))) }
 {
     let mut put = Vec::with_capacity(alloc, places.len())?;
     put.extend_from_slice(&places[..at])?;
     put.extend_from_slice(&places[from..])?;
-    put.extend_from_slice(&places[end..from])?;
+    put.extend_from_slice(&places[at..from])?;
     Ok(put)
 }
 
-/// Which of so many bundles places name.
-fn named_bundles(alloc: Global, places: &[Place], count: usize) -> Result<Vec<bool>, AllocError>
-    requires { All (λ place. place.bundle < count) places.now }
-    ensures len { IfOk result (λ marks. length marks.items ≡ count) }
-    ensures marked { IfOk result (λ marks. All (λ place. slice_index_or marks.items place.bundle false ≡ true) places.now) }
-{
-    let mut marks = vec![in alloc; false; count]?;
-    for place in places {
-        marks[place.bundle as usize] = true;
-    }
-    Ok(marks)
-}
-
-/// Puts an empty bundle in the place of each one that isn't marked.
-fn empty_others(
+/// The directories at some places of bundles and then at others, with room for so many more. They stand in bundles that were taken over, or
+/// are copied.
+fn gather(
     alloc: Global,
-    bundles: &mut [Arc<Bundle, Global>],
-    marks: &[bool],
-) -> Result<(), AllocError>
-    requires { length bundles.old ≤ length marks.now }
-    ensures { AreKept marks.now (map arc_value bundles.old) (map arc_value bundles.new) }
+    from: &[Arc<Bundle, Global>],
+    from_last: &Bundle,
+    front: &[Place],
+    back: &[Place],
+    taken: Taken,
+    more: usize,
+) -> Result<Dirs, AllocError>
+    requires front { All (Stands (lists_of from.now from_last.now)) front.now }
+    requires back { All (Stands (lists_of from.now from_last.now)) back.now }
+    requires taken { AreTaken taken.numbers.items (map arc_value from.now) (map arc_value taken.bundles.items) }
+    ensures { IfOk result (λ dirs. dirs ≡ directories_at (lists_of from.now from_last.now) front.now ++ directories_at (lists_of from.now from_last.now) back.now) }
 {
-    let empty = Arc::new(alloc, Bundle::new(alloc))?;
-    for number in 0..bundles.len() {
-        if !marks[number] {
-            bundles[number] = Arc::try_clone(&empty)?;
-        }
-    }
-    Ok(())
+    let Taken {
+        mut bundles,
+        numbers,
+    } = taken;
+    let mut last = Bundle::new(alloc);
+    let room = front.len().saturating_add(back.len()).saturating_add(more);
+    let mut places = Vec::with_capacity(alloc, room)?;
+    push_again(
+        alloc,
+        from,
+        from_last,
+        numbers.as_slice(),
+        front,
+        &mut bundles,
+        &mut last,
+        &mut places,
+    )?;
+    push_again(
+        alloc,
+        from,
+        from_last,
+        numbers.as_slice(),
+        back,
+        &mut bundles,
+        &mut last,
+        &mut places,
+    )?;
+    Ok(Dirs {
+        bundles,
+        last,
+        places,
+    })
 }
 
 /// How many bytes the longest path has in bundles, as it is kept, and so many at least.
@@ -211,7 +252,7 @@ fn longest_of(bundles: &[Arc<Bundle, Global>], least: u16) -> u16
 }
 
 /// The directory at a place, where there is one.
-fn found_at<'a>(
+pub(crate) fn found_at<'a>(
     bundles: &'a [Arc<Bundle, Global>],
     last: &'a Bundle,
     place: Place,
@@ -282,10 +323,10 @@ impl Dirs {
         rec: &RecRef<'_>,
         entries: &Pending,
     ) -> Result<(), AllocError>
-        ensures { OnOk result (self.new ≡ self.old ++ record { path = path.now; rec = rec.now; entries = entries_of entries.now } ∷ []) }
+        ensures closed { OnOk result (self.new ≡ self.old ++ record { path = path.now; rec = rec.now; entries = entries_of entries.now } ∷ []) }
+        ensures unchanged { OnErr result (self.new ≡ self.old) }
     {
-        make_room(alloc, &mut self.bundles, &mut self.last)?;
-        let place = push_last(self.bundles.as_slice(), &mut self.last, path, rec, entries)?;
+        let place = pack(alloc, &mut self.bundles, &mut self.last, path, rec, entries)?;
         self.places.push(place)?;
         Ok(())
     }
@@ -293,7 +334,8 @@ impl Dirs {
     /// Adds a directory behind the others. What doesn't fit in a bundle is answered as want of memory: a path or a link of more than
     /// 65,535 bytes, or 4 GiB of names.
     pub fn push(&mut self, alloc: Global, dir: Stored) -> Result<(), AllocError>
-        ensures { OnOk result (self.new ≡ self.old ++ directory_of dir ∷ []) }
+        ensures pushed { OnOk result (self.new ≡ self.old ++ directory_of dir ∷ []) }
+        ensures unchanged { OnErr result (self.new ≡ self.old) }
     {
         let mut entries = Pending::with_room(alloc, dir.entries.len())?;
         push_entries(&mut entries, dir.entries.as_slice())?;
@@ -316,28 +358,50 @@ impl Dirs {
         })
     }
 
-    /// Puts the directories from a place on, up to the last, in the place of those between two others.
+    /// The directories but for those between two places, with room for so many more.
+    ///
+    /// A bundle is shared where at least half of its rows stay, and else what stays of it is copied, as is that of the last one: so at most
+    /// twice the rows of the directories are kept, of which those of other lists are shared. Linear in the directories.
+    pub(crate) fn outside(
+        &self,
+        alloc: Global,
+        at: usize,
+        end: usize,
+        more: usize,
+    ) -> Result<Dirs, AllocError>
+        requires order { at ≤ end }
+        requires within { end ≤ length self.now }
+        ensures { IfOk result (λ rest. rest ≡ take at self.now ++ drop end self.now) }
+    {
+        let bundles = self.bundles.as_slice();
+        let last = &self.last;
+        let places = self.places.as_slice();
+        let left = rows_left(alloc, bundles, last, places, at, end)?;
+        let taken = take_over(alloc, bundles, left.as_slice())?;
+        gather(
+            alloc,
+            bundles,
+            last,
+            &places[..at],
+            &places[end..],
+            taken,
+            more,
+        )
+    }
+
+    /// Puts the directories from a place on, up to the last, before those from another on.
     pub(crate) fn put_in_place(
         &mut self,
         alloc: Global,
         at: usize,
-        end: usize,
         from: usize,
     ) -> Result<(), AllocError>
-        requires order { (at ≤ end) × (end ≤ from) }
+        requires order { at ≤ from }
         requires within { from ≤ length self.old }
-        ensures { OnOk result (self.new ≡ take at self.old ++ (drop from self.old ++ drop end (take from self.old))) }
+        ensures { OnOk result (self.new ≡ take at self.old ++ (drop from self.old ++ drop at (take from self.old))) }
     {
-        self.places = places_put(alloc, self.places.as_slice(), at, end, from)?;
+        self.places = places_put(alloc, self.places.as_slice(), at, from)?;
         Ok(())
-    }
-
-    /// Lets go of the bundles that no place names any more; their numbers stay. Linear in the directories.
-    pub(crate) fn let_go(&mut self, alloc: Global) -> Result<(), AllocError>
-        ensures { self.new ≡ self.old }
-    {
-        let marks = named_bundles(alloc, self.places.as_slice(), self.bundles.len() + 1)?;
-        empty_others(alloc, self.bundles.as_mut_slice(), marks.as_slice())
     }
 
     /// Moves each directory to its place, where each has another.

@@ -34,7 +34,10 @@ fn join_paths(text: &mut Vec<u8>, path: &PathRef<'_>, below: &PathRef<'_>) -> Re
 }
 
 /// Adds the entries of a directory.
-fn push_entries(pending: &mut Pending, entries: &EntriesRef<'_>) -> Result<(), AllocError>
+pub(crate) fn push_entries(
+    pending: &mut Pending,
+    entries: &EntriesRef<'_>,
+) -> Result<(), AllocError>
     ensures { OnOk result (entries_of pending.new ≡ entries_of pending.old ++ entries.now) }
 {
     for place in 0..entries.len() {
@@ -94,10 +97,10 @@ fn graft_dirs(
     ensures { IfOk result (λ grafted. grafted ≡ take at dirs.now ++ (map (put_below (path_at dirs.now at)) part.now ++ drop end dirs.now)) }
 {
     let path = dirs.at(at).path();
-    let mut grafted = dirs.again(alloc)?;
+    let mut grafted = dirs.outside(alloc, at, end, part.len())?;
+    let outside = grafted.len();
     push_all_below(alloc, &mut grafted, &path, part)?;
-    grafted.put_in_place(alloc, at, end, dirs.len())?;
-    grafted.let_go(alloc)?;
+    grafted.put_in_place(alloc, at, outside)?;
     Ok(grafted)
 }
 

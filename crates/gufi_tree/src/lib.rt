@@ -1,6 +1,8 @@
 //! The tree of an index: directories in path order, each with its record and its entries.
 //!
 //! Contracts see a tree as the list of its directories in path order; a `DirId` is a place in it.
+//! What is packed has no `&Path` or `&Rec` to lend: `PathRef`, `RecRef`, `EntriesRef` and `DirRef` are seen as what they stand for.
+//! Entries are sorted while at hand and copied when their directory is closed, so no row stands in a bundle that no directory has.
 //! It stands on `gufi_base` and `gufi_access`; the trace reader and all queries stand on it.
 #![tactic(auto)]
 
@@ -17,6 +19,7 @@ mod lines;
 mod link;
 mod names;
 mod ordered;
+mod outside;
 mod packing;
 mod pending;
 mod place;

@@ -19,7 +19,7 @@ returns c =
     ∙ ap (λ (q : Components). p ++ q) c.path.ensures in
     let es : entries_of c.push_entries.new.pending ≡ (c.args.dir.now).entries =
     c.in_ok-push_entries.ensures ∙ ap (λ (ps : List Placed). entries_of ps ++ c.entries.result) c.clear.ensures ∙ c.entries.ensures in
-    c.in_ok-close.ensures
+    c.in_ok-close.ensures.closed
     ∙ ap (λ (q : Components). c.args.dirs.now ++ record { path = q; rec = c.rec.result; entries = entries_of c.push_entries.new.pending } ∷ []) path
     ∙ ap (λ (rec : Rec). c.args.dirs.now ++ record { path = p ++ (c.args.dir.now).path; rec = rec; entries = entries_of c.push_entries.new.pending } ∷ []) c.rec.ensures
     ∙ ap (λ (es : List Entry). c.args.dirs.now ++ record { path = p ++ (c.args.dir.now).path; rec = (c.args.dir.now).rec; entries = es } ∷ []) es

@@ -13,12 +13,12 @@ invariant_of-self c =
     let all = c.self.invariant in
     rw (c.in_ok-self-inside.ensures, c.as_slice.ensures.value)
     (All-append (Stands lists) _ _ (All-take (Stands lists) c.args.at places all)
-    (All-append (Stands lists) _ _ (All-drop (Stands lists) c.args.from places all) (All-drop (Stands lists) c.args.end _ (All-take (Stands lists) c.args.from places all))))
+    (All-append (Stands lists) _ _ (All-drop (Stands lists) c.args.from places all) (All-drop (Stands lists) c.args.at _ (All-take (Stands lists) c.args.from places all))))
 
 pub returns : goal.returns
 returns c =
     let lists = lists_of c.self.inside.bundles.items c.self.inside.last in
     ap (directories_at lists) c.in_ok-self-inside.ensures
-    ∙ ap (λ (ps : List Place). directories_at lists (take c.args.at ps ++ (drop c.args.from ps ++ drop c.args.end (take c.args.from ps)))) c.as_slice.ensures.value
-    ∙ directories-put lists c.self.inside.places.items c.args.at c.args.end c.args.from
-    ∙ ap (λ (ds : List Directory). take c.args.at ds ++ (drop c.args.from ds ++ drop c.args.end (take c.args.from ds))) c.self.view_is
+    ∙ ap (λ (ps : List Place). directories_at lists (take c.args.at ps ++ (drop c.args.from ps ++ drop c.args.at (take c.args.from ps)))) c.as_slice.ensures.value
+    ∙ directories-put lists c.self.inside.places.items c.args.at c.args.from
+    ∙ ap (λ (ds : List Directory). take c.args.at ds ++ (drop c.args.from ds ++ drop c.args.at (take c.args.from ds))) c.self.view_is

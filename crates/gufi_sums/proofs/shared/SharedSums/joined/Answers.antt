@@ -2,7 +2,7 @@ use Rattle.std.proofs.Common.{◌≡◌, ◌∙◌, ◌++◌, take, drop, refl, 
 use Rattle.gufi_sums.specs.SumLists.{SumLists}
 use Rattle.gufi_sums.specs.Blocks.{lists_of, sums_in}
 use Rattle.gufi_sums.proofs.Slots.{splice_is, splice_stands, lists_joined, lists_behind}
-use Rattle.gufi_sums.proofs.shared.SharedSums.spliced.Goals as goal
+use Rattle.gufi_sums.proofs.shared.SharedSums.joined.Goals as goal
 
 pub used_blocks-requires : goal.used_blocks-requires
 used_blocks-requires c =
