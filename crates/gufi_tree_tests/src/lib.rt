@@ -5,6 +5,8 @@
 #![tactic(auto)]
 
 #[cfg(test)]
+mod hidden_tests;
+#[cfg(test)]
 mod lines;
 #[cfg(test)]
 mod page_tests;

@@ -22,13 +22,13 @@ use std::thread::Threads;
 
 /// Counts tasks and stores.
 #[derive(Drop)]
-struct Counting {
-    tasks: AtomicU64,
-    stores: AtomicU64,
+pub(crate) struct Counting {
+    pub(crate) tasks: AtomicU64,
+    pub(crate) stores: AtomicU64,
 }
 
 impl Counting {
-    fn none() -> Counting {
+    pub(crate) fn none() -> Counting {
         Counting {
             tasks: AtomicU64::new(0),
             stores: AtomicU64::new(0),

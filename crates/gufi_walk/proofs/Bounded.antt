@@ -30,7 +30,7 @@ use Rattle.gufi_roll.proofs.Tops.{prefix_trans}
 use Rattle.gufi_snap.specs.Pieces.{front, piece, tree_sum}
 use Rattle.gufi_walk.specs.Answer.{shown}
 use Rattle.gufi_walk.specs.Shown.{shown-path}
-use Rattle.gufi_walk.specs.Walk.{kid_ids, meets, lies_within, no_deeper, not_passed, next_ids, is_whole, task_dirs, shown_piece}
+use Rattle.gufi_walk.specs.Walk.{kid_ids, meets, lies_within, no_deeper, not_passed, next_ids, is_ruled_out, task_dirs, shown_piece}
 use Rattle.gufi_walk.proofs.Showing.{shown-total}
 use Rattle.gufi_walk.proofs.Pieces.{Has-map}
 use Rattle.gufi_walk.proofs.Passed.{IsOfParts, IsTest, piece_passed}
@@ -38,15 +38,15 @@ use Rattle.gufi_walk.proofs.Walked.{All-append, All-front, All-reverse, filter-a
 
 -- ---- depths
 
-deeper : (deepest : Option ℕ) (n m : ℕ) → is_within deepest n ≡ false → n ≤ m → is_within deepest m ≡ false
+pub deeper : (deepest : Option ℕ) (n m : ℕ) → is_within deepest n ≡ false → n ≤ m → is_within deepest m ≡ false
 deeper None n m e le = absurd (true≢false e)
 deeper (Some most) n m e le = lt-leb m most (omega (arith, leb-false n most e))
 
-below_bound : (deepest : Option ℕ) (n m : ℕ) → goes_below deepest n ≡ false → n < m → is_within deepest m ≡ false
+pub below_bound : (deepest : Option ℕ) (n m : ℕ) → goes_below deepest n ≡ false → n < m → is_within deepest m ≡ false
 below_bound None n m e lt = absurd (true≢false e)
 below_bound (Some most) n m e lt = lt-leb m most (omega (arith, ltb-false n most e))
 
-next_within : (deepest : Option ℕ) (n m : ℕ) → goes_below deepest n ≡ true → m ≤ n + 1 → is_within deepest m ≡ true
+pub next_within : (deepest : Option ℕ) (n m : ℕ) → goes_below deepest n ≡ true → m ≤ n + 1 → is_within deepest m ≡ true
 next_within None n m e le = refl
 next_within (Some most) n m e le = le-leb m most (omega (arith, ltb-true n most e))
 
@@ -56,7 +56,7 @@ start_within None above n le = refl
 start_within (Some most) above n le = le-leb (n - above) most (omega arith)
 
 -- those that lie no deeper are those that lie within the bound
-no_deeper-is : (deepest : Option ℕ) (above : ℕ) (paths : List Components) → no_deeper deepest above paths ≡ filter (lies_within deepest above) paths
+pub no_deeper-is : (deepest : Option ℕ) (above : ℕ) (paths : List Components) → no_deeper deepest above paths ≡ filter (lies_within deepest above) paths
 no_deeper-is None above paths = sym (filter-all paths)
 no_deeper-is (Some most) above paths = refl
 
@@ -156,9 +156,9 @@ module _ (tree : List Directory) (limit : ℕ) where
     fronts_below top (id ∷ ids) all = All-append (λ p. is_prefix top p ≡ true) (front tree who (path_at tree id.0) limit) (fronts_at tree who limit ids) (front_below top (path_at tree id.0) all.0) (fronts_below top ids all.1)
 
     -- where all rows at and below a directory are passed over, the pieces of its task are
-    pub task_passed : (skips : Summary → Bool) → IsOfParts skips → (grain : ℕ) (path : Components) → skips (tree_sum tree path) ≡ true
-        → AllByRecursion (λ p. skips (total (piece tree p limit)) ≡ true) (task_dirs skips tree who limit grain path)
-    task_passed skips parts grain path passed = by (is_whole skips tree grain path) where
+    pub task_passed : (skips : Summary → Bool) → IsOfParts skips → (takes_all : Components → Bool) (path : Components) → skips (tree_sum tree path) ≡ true
+        → AllByRecursion (λ p. skips (total (piece tree p limit)) ≡ true) (task_dirs takes_all tree who limit path)
+    task_passed skips parts takes_all path passed = by (takes_all path) where
       by : (b : Bool) → AllByRecursion (λ p. skips (total (piece tree p limit)) ≡ true) (cond b (front tree who path limit) (path ∷ []))
       by true =
           All-weaken (λ p. is_prefix path p ≡ true) (λ p. skips (total (piece tree p limit)) ≡ true) (λ p leads. piece_passed skips parts tree limit path p leads passed)
@@ -166,8 +166,8 @@ module _ (tree : List Directory) (limit : ℕ) where
       by false = (piece_passed skips parts tree limit path path (own_prefix path) passed, tt)
 
     -- the directories of a task that lies too deep do as well
-    pub task_too_deep : (skips : Summary → Bool) (deepest : Option ℕ) (above grain : ℕ) (path : Components) → lies_within deepest above path ≡ false → AllByRecursion (λ p. lies_within deepest above p ≡ false) (task_dirs skips tree who limit grain path)
-    task_too_deep skips deepest above grain path deep = by (is_whole skips tree grain path) where
+    pub task_too_deep : (deepest : Option ℕ) (above : ℕ) (takes_all : Components → Bool) (path : Components) → lies_within deepest above path ≡ false → AllByRecursion (λ p. lies_within deepest above p ≡ false) (task_dirs takes_all tree who limit path)
+    task_too_deep deepest above takes_all path deep = by (takes_all path) where
       by : (b : Bool) → AllByRecursion (λ p. lies_within deepest above p ≡ false) (cond b (front tree who path limit) (path ∷ []))
       by true =
           All-weaken (λ (p : Components). length path ≤ length p) (λ p. lies_within deepest above p ≡ false) (λ p le. deeper deepest (length path - above) (length p - above) deep (omega arith))
@@ -298,10 +298,10 @@ module _ (tree : List Directory) (limit : ℕ) where
               )
 
           pub walk_next : (more : List DirId) → more ≡ rest ++ reverse (next_ids skips deepest above tree who (path_at tree id.0) limit) → (all : List Components) × IsNext skips deepest above start done id asks all more
-          walk_next more e = by (goes_below deepest (length (path_at tree id.0) - above)) (skips (tree_sum tree (path_at tree id.0))) refl refl e where
-            by : (a b : Bool) → goes_below deepest (length (path_at tree id.0) - above) ≡ a → skips (tree_sum tree (path_at tree id.0)) ≡ b
+          walk_next more e = by (goes_below deepest (length (path_at tree id.0) - above)) (is_ruled_out skips tree who (path_at tree id.0)) refl refl e where
+            by : (a b : Bool) → goes_below deepest (length (path_at tree id.0) - above) ≡ a → is_ruled_out skips tree who (path_at tree id.0) ≡ b
                 → more ≡ rest ++ reverse (cond (a && not b) (kid_ids tree who (path_at tree id.0) limit) []) → (all : List Components) × IsNext skips deepest above start done id asks all more
-            by true true on passed e = stop (left_passed passed) more e
+            by true true on out e = stop (left_passed (and_parts _ _ out).1) more e
             by true false on open_ e = go_on on more e
             by false b off any e = stop (left_deep off) more e
 

@@ -5,6 +5,7 @@ pub mod Isolation
 pub mod Joins
 pub mod Passed
 pub mod Pieces
+pub mod Private
 pub mod StartRow
 pub mod Tasks
 pub mod Walked

@@ -1,6 +1,6 @@
 -- What a test of sums passes over: with all rows at and below a directory, each piece there.
 use Rattle.std.proofs.Common.{◌≡◌, ℕ, ◌<◌, ◌≤◌, Bool, true, false, cond, List, [], ◌∷◌, ◌++◌, length, refl, sym, ap, ◌∙◌, subst, arith, length-append}
-use Rattle.std.specs.Prelude.{not, Option, Some}
+use Rattle.std.specs.Prelude.{not, ◌&&◌, Option, Some}
 use Rattle.std.specs.List.{filter}
 use Rattle.std.specs.List.Sorted.{IsPermutation}
 use Rattle.std.proofs.lemmas.Bool.{false≢true, and_parts}
@@ -29,7 +29,7 @@ use Rattle.gufi_walk.proofs.Walked.{none_met, at_place}
 -- ---- pieces among the rows at and below a directory
 
 -- of what passes a wider test, those that pass a narrower one are all that pass it
-filter-wider : {X : Type 0} (wide narrow : X → Bool) → ((x : X) → narrow x ≡ true → wide x ≡ true) → (xs : List X) → filter narrow (filter wide xs) ≡ filter narrow xs
+pub filter-wider : {X : Type 0} (wide narrow : X → Bool) → ((x : X) → narrow x ≡ true → wide x ≡ true) → (xs : List X) → filter narrow (filter wide xs) ≡ filter narrow xs
 filter-wider wide narrow implied [] = refl
 filter-wider {X} wide narrow implied (x ∷ xs) = by (wide x) (narrow x) refl refl (filter-wider wide narrow implied xs) where
   by : (a b : Bool) → wide x ≡ a → narrow x ≡ b → filter narrow (filter wide xs) ≡ filter narrow xs
@@ -111,6 +111,11 @@ own_not_passed skips parts tree limit path passed is not_ = not_ ∙ by (skips (
   by : (b : Bool) → skips (tree_sum tree path) ≡ b → false ≡ b
   by true e = absurd (false≢true (sym not_ ∙ is ∙ piece_passed skips parts tree limit path path (own_prefix path) e))
   by false e = refl
+
+-- what isn't passed over isn't ruled out, whoever asks
+pub not_ruled_out : (sees passed skipped : Bool) → passed ≡ skipped → passed ≡ false → passed ≡ (sees && skipped)
+not_ruled_out true passed skipped is not_ = is
+not_ruled_out false passed skipped is not_ = not_
 
 -- what meets the question lies within the bound
 abbrev pub Bounds : Option ℕ → (Row → ℕ → Bool) → Type 0

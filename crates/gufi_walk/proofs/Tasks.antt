@@ -25,7 +25,6 @@ use Rattle.gufi_tree.proofs.Flat.{lists_at-own, is_prefix-rest}
 use Rattle.gufi_tree.proofs.Kids.{IsLater, kids_later}
 use Rattle.gufi_tree.proofs.Linked.{path_at-get}
 use Rattle.gufi_tree.proofs.Searched.{in_order}
-use Rattle.gufi_sums.specs.declared.summary.Summary.{Summary}
 use Rattle.gufi_roll.specs.CanRoll.{can_roll}
 use Rattle.gufi_snap.proofs.Pieces.{all_rows-as_many}
 use Rattle.gufi_snap.specs.Pieces.{front, piece, kids}
@@ -35,7 +34,7 @@ use Rattle.gufi_tree.specs.Listed.{is_listed}
 use Rattle.gufi_base.specs.Rows.{home}
 use Rattle.gufi_base.proofs.Permutations.{IsPermutation-flat_map}
 use Rattle.gufi_walk.specs.Answer.{answer}
-use Rattle.gufi_walk.specs.Walk.{meets, lists_at, open_ids, kid_ids, is_whole, task_dirs, task_kids, open_places, shown_piece, task_rows}
+use Rattle.gufi_walk.specs.Walk.{meets, lists_at, open_ids, kid_ids, task_dirs, task_kids, open_places, shown_piece, task_rows}
 use Rattle.gufi_walk.proofs.Passed.{listed_few}
 use Rattle.gufi_walk.proofs.Pieces.{Has-map, front-step}
 use Rattle.gufi_walk.proofs.Weights.{weigh_alike, sum_by-map, sum_by-flat}
@@ -97,7 +96,7 @@ module _ (tree : List Directory) (who : Principal) (shape : HasTreeShape tree) w
   pub place_listed : (start : Components) (k : ℕ) → Contains (open_places tree who start) k → lists_at tree who (path_at tree k) ≡ true
   place_listed start k c = listed_open start (dir_id k) (place_open start k c)
 
-  module _ (skips : Summary → Bool) (limit grain : ℕ) where
+  module _ (takes_all : Components → Bool) (limit : ℕ) where
     -- a kid, as a subdirectory
     record IsKid (k x : ℕ) : Type 0 where
       id : DirId
@@ -105,8 +104,8 @@ module _ (tree : List Directory) (who : Principal) (shape : HasTreeShape tree) w
       among : Has (child_ids tree (path_at tree k)) id
       open_ : Has (kid_ids tree who (path_at tree k) limit) id
 
-    kid_of : (k x : ℕ) → Contains (task_kids skips tree who limit grain k) x → IsKid k x
-    kid_of k x c = small (is_whole skips tree grain (path_at tree k)) (contains_has _ x c) where
+    kid_of : (k x : ℕ) → Contains (task_kids takes_all tree who limit k) x → IsKid k x
+    kid_of k x c = small (takes_all (path_at tree k)) (contains_has _ x c) where
       rolled : (b : Bool) (id : DirId) → Has (cond b [] (open_ids tree who (path_at tree k))) id → Has (child_ids tree (path_at tree k)) id
       rolled true id h = absurd h
       rolled false id h = (Has-filter (λ id. lists_at tree who (path_at tree id.0)) (child_ids tree (path_at tree k)) id h).0
@@ -117,7 +116,7 @@ module _ (tree : List Directory) (who : Principal) (shape : HasTreeShape tree) w
           let w = Has-map (λ (id : DirId). id.0) (kid_ids tree who (path_at tree k) limit) x h in
           record { id = w.0; is = w.2; among = rolled (can_roll tree limit (path_at tree k)) w.0 w.1; open_ = w.1 }
 
-    kid_child : (k x : ℕ) → k < length tree → Contains (task_kids skips tree who limit grain k) x → is_child_of (path_at tree k) (path_at tree x) ≡ true
+    kid_child : (k x : ℕ) → k < length tree → Contains (task_kids takes_all tree who limit k) x → is_child_of (path_at tree k) (path_at tree x) ≡ true
     kid_child k x within c =
         let w = kid_of k x c in
         let path : Components = path_at tree k in
@@ -125,7 +124,7 @@ module _ (tree : List Directory) (who : Principal) (shape : HasTreeShape tree) w
         (ids_children tree who shape limit path 0 tree (λ j y lt e. let z : 0 + j ≡ j = omega arith in ap (path_at tree) z ∙ path_at-get tree j y lt ∙ ap (λ (d : Directory). d.path) (sym e))) w.among in
         ap (λ i. is_child_of path (path_at tree i)) (sym w.is) ∙ child
 
-    kid_later : (k x : ℕ) → k < length tree → Contains (task_kids skips tree who limit grain k) x → k < x
+    kid_later : (k x : ℕ) → k < length tree → Contains (task_kids takes_all tree who limit k) x → k < x
     kid_later k x within c =
         let w = kid_of k x c in
         let l = All-Has (IsLater tree k) (child_ids tree (path_at tree k)) w.id (kids_later tree shape k within) w.among in
@@ -133,7 +132,7 @@ module _ (tree : List Directory) (who : Principal) (shape : HasTreeShape tree) w
         let e = w.is in
         omega arith
 
-    kid_open : (start : Components) (k x : ℕ) → Contains (open_places tree who start) k → Contains (task_kids skips tree who limit grain k) x → Contains (open_places tree who start) x
+    kid_open : (start : Components) (k x : ℕ) → Contains (open_places tree who start) k → Contains (task_kids takes_all tree who limit k) x → Contains (open_places tree who start) x
     kid_open start k x may c =
         let w = kid_of k x c in
         let o = place_open start k may in
@@ -187,8 +186,8 @@ module _ (tree : List Directory) (who : Principal) (shape : HasTreeShape tree) w
         subst (λ (l : List ℕ). count_of l x ≤ 1) (sym (places_next test L from d ds))
         (once_more x from (places test L (from + 1) ds) (test d) (L (dir_id from)) (none_before test L x (from + 1) ds) (once_from test L x (from + 1) ds))
 
-    kids_once : (k x : ℕ) → count_of (task_kids skips tree who limit grain k) x ≤ 1
-    kids_once k x = small (is_whole skips tree grain (path_at tree k)) where
+    kids_once : (k x : ℕ) → count_of (task_kids takes_all tree who limit k) x ≤ 1
+    kids_once k x = small (takes_all (path_at tree k)) where
       rolled : (b : Bool) → count_of (map (λ (id : DirId). id.0) (cond b [] (open_ids tree who (path_at tree k)))) x ≤ 1
       rolled true = omega arith
       rolled false = once_from (λ dir. is_child_of (path_at tree k) dir.path) (λ id. lists_at tree who (path_at tree id.0)) x 0 tree
@@ -226,10 +225,10 @@ module _ (tree : List Directory) (who : Principal) (shape : HasTreeShape tree) w
           | inr (inr behind) ↦ absurd (apart j k (in_order tree shape.order j k x behind within) (sym p))
         ]
 
-    pub walk_shape : (start : ℕ) → start < length tree → lists_at tree who (path_at tree start) ≡ true → IsShape (open_places tree who (path_at tree start)) (start ∷ []) (task_kids skips tree who limit grain)
+    pub walk_shape : (start : ℕ) → start < length tree → lists_at tree who (path_at tree start) ≡ true → IsShape (open_places tree who (path_at tree start)) (start ∷ []) (task_kids takes_all tree who limit)
     walk_shape start within on = record {
       first_given = All-cons (Contains (open_places tree who (path_at tree start))) start [] (open_place (path_at tree start) (dir_id start) (IsOpen-start tree who shape limit start within on)) (All-nil _);
-      kids_given = λ task may j d lt. kid_open (path_at tree start) task _ may (Contains-get_or (task_kids skips tree who limit grain task) j d lt);
+      kids_given = λ task may j d lt. kid_open (path_at tree start) task _ may (Contains-get_or (task_kids takes_all tree who limit task) j d lt);
       greater = λ task kid may has. kid_later task kid (place_open (path_at tree start) task may).within has;
       first_once = λ x. ⊎_elim
           (λ (yes : (eqb start x ≡ true) × (start ≡ x)). let z = one_yes x start yes.0 in omega (arith, sum_by-cons (one x) start []))
@@ -255,14 +254,14 @@ module _ (tree : List Directory) (who : Principal) (shape : HasTreeShape tree) w
     -- ---- the front, by tasks
 
     abbrev here_dirs : ℕ → List Components
-    here_dirs k = task_dirs skips tree who limit grain (path_at tree k)
+    here_dirs k = task_dirs takes_all tree who limit (path_at tree k)
 
     abbrev fronts_of : ℕ → List Components
     fronts_of k = front tree who (path_at tree k) limit
 
     task_weighs : (h : Components → ℕ) (start : Components) (k : ℕ) → IsOpen tree who start (dir_id k)
-        → sum_by h (fronts_of k) ≡ sum_by h (here_dirs k) + sum_by (λ t. sum_by h (fronts_of t)) (task_kids skips tree who limit grain k)
-    task_weighs h start k o = by (is_whole skips tree grain (path_at tree k)) where
+        → sum_by h (fronts_of k) ≡ sum_by h (here_dirs k) + sum_by (λ t. sum_by h (fronts_of t)) (task_kids takes_all tree who limit k)
+    task_weighs h start k o = by (takes_all (path_at tree k)) where
       path : Components
       path = path_at tree k
 
@@ -284,7 +283,7 @@ module _ (tree : List Directory) (who : Principal) (shape : HasTreeShape tree) w
       by false = omega (arith, whole, sum_by-cons h path [])
 
     tasks_weigh : (h : Components → ℕ) (start : Components) (tasks : List ℕ) → All (Contains (open_places tree who start)) tasks
-        → sum_by (λ t. sum_by h (fronts_of t)) tasks ≡ sum_by h (flat_map here_dirs tasks) + kids_weigh (task_kids skips tree who limit grain) (λ t. sum_by h (fronts_of t)) tasks
+        → sum_by (λ t. sum_by h (fronts_of t)) tasks ≡ sum_by h (flat_map here_dirs tasks) + kids_weigh (task_kids takes_all tree who limit) (λ t. sum_by h (fronts_of t)) tasks
     tasks_weigh h start [] all = refl
     tasks_weigh h start (t ∷ ts) all =
         let may = All-head (Contains (open_places tree who start)) t ts all in
@@ -294,11 +293,11 @@ module _ (tree : List Directory) (who : Principal) (shape : HasTreeShape tree) w
           arith,
           sum_by-cons (λ t. sum_by h (fronts_of t)) t ts,
           sum_by-append h (here_dirs t) (flat_map here_dirs ts),
-          sum_by-cons (λ k. sum_by (λ t. sum_by h (fronts_of t)) (task_kids skips tree who limit grain k)) t ts,
+          sum_by-cons (λ k. sum_by (λ t. sum_by h (fronts_of t)) (task_kids takes_all tree who limit k)) t ts,
         )
 
     -- The directories that all tasks take are the front of the start.
-    pub tasks_front : (start : ℕ) (tasks : List ℕ) → All (Contains (open_places tree who (path_at tree start))) tasks → IsBalanced (start ∷ []) (task_kids skips tree who limit grain) tasks
+    pub tasks_front : (start : ℕ) (tasks : List ℕ) → All (Contains (open_places tree who (path_at tree start))) tasks → IsBalanced (start ∷ []) (task_kids takes_all tree who limit) tasks
         → IsPermutation (front tree who (path_at tree start) limit) (flat_map here_dirs tasks)
     tasks_front start tasks may balanced = weigh_alike path_eq path_eq-Decides _ _ (λ h.
         let b = balanced (λ t. sum_by h (fronts_of t)) in
@@ -306,13 +305,13 @@ module _ (tree : List Directory) (who : Principal) (shape : HasTreeShape tree) w
         omega (arith, sum_by-cons (λ t. sum_by h (fronts_of t)) start []))
 
 -- the rows of all tasks
-pub tasks_rows : (skips : Summary → Bool) (tree : List Directory) (who : Principal) (limit grain : ℕ) (met : Row → Bool) (tasks : List ℕ)
-    → flat_map (task_rows skips tree who limit grain met) tasks ≡ filter met (flat_map (shown_piece tree who limit) (flat_map (λ k. task_dirs skips tree who limit grain (path_at tree k)) tasks))
-tasks_rows skips tree who limit grain met [] = refl
-tasks_rows skips tree who limit grain met (t ∷ ts) =
+pub tasks_rows : (takes_all : Components → Bool) (tree : List Directory) (who : Principal) (limit : ℕ) (met : Row → Bool) (tasks : List ℕ)
+    → flat_map (task_rows takes_all tree who limit met) tasks ≡ filter met (flat_map (shown_piece tree who limit) (flat_map (λ k. task_dirs takes_all tree who limit (path_at tree k)) tasks))
+tasks_rows takes_all tree who limit met [] = refl
+tasks_rows takes_all tree who limit met (t ∷ ts) =
     let P : Components → List Row = shown_piece tree who limit in
-    let D : ℕ → List Components = λ k. task_dirs skips tree who limit grain (path_at tree k) in
-    ap (λ l. filter met (flat_map P (D t)) ++ l) (tasks_rows skips tree who limit grain met ts)
+    let D : ℕ → List Components = λ k. task_dirs takes_all tree who limit (path_at tree k) in
+    ap (λ l. filter met (flat_map P (D t)) ++ l) (tasks_rows takes_all tree who limit met ts)
     ∙ sym (ap (filter met) (flat_map-append P (D t) (flat_map D ts)) ∙ filter-append met (flat_map P (D t)) (flat_map P (flat_map D ts)))
 
 -- one place more
@@ -338,29 +337,29 @@ task_few tree who shape limit path top true =
     omega (arith, length_permutation _ _ (listed_at_top tree who shape limit path top), listed_few tree path who, filtered_fewer (λ row. is_prefix path (home row)) (all_rows tree), all_rows-as_many tree)
 task_few tree who shape limit path top false = omega (arith, ap length (append-nil (piece tree path limit)), piece_few tree path limit, all_rows-as_many tree)
 
-module _ (tree : List Directory) (who : Principal) (shape : HasTreeShape tree) (skips : Summary → Bool) (limit grain start : ℕ) (within : start < length tree) (on : lists_at tree who (path_at tree start) ≡ true)
-    (tasks : List ℕ) (may : All (Contains (open_places tree who (path_at tree start))) tasks) (balanced : IsBalanced (start ∷ []) (task_kids skips tree who limit grain) tasks) where
+module _ (tree : List Directory) (who : Principal) (shape : HasTreeShape tree) (takes_all : Components → Bool) (limit start : ℕ) (within : start < length tree) (on : lists_at tree who (path_at tree start) ≡ true)
+    (tasks : List ℕ) (may : All (Contains (open_places tree who (path_at tree start))) tasks) (balanced : IsBalanced (start ∷ []) (task_kids takes_all tree who limit) tasks) where
   all_dirs : List Components
-  all_dirs = flat_map (λ k. task_dirs skips tree who limit grain (path_at tree k)) tasks
+  all_dirs = flat_map (λ k. task_dirs takes_all tree who limit (path_at tree k)) tasks
 
   -- the rows of all tasks are the answer
-  pub tasks_answer : (asks : Row → ℕ → Bool) → IsPermutation (flat_map (task_rows skips tree who limit grain (meets asks (length (path_at tree start)))) tasks) (answer tree who (path_at tree start) asks)
+  pub tasks_answer : (asks : Row → ℕ → Bool) → IsPermutation (flat_map (task_rows takes_all tree who limit (meets asks (length (path_at tree start)))) tasks) (answer tree who (path_at tree start) asks)
   unfolding all_dirs
   tasks_answer asks =
-      subst (λ l. IsPermutation l (answer tree who (path_at tree start) asks)) (sym (tasks_rows skips tree who limit grain (meets asks (length (path_at tree start))) tasks))
-      (answer-by_pieces tree who shape limit (path_at tree start) (IsOpenTop-at tree who shape start within on) all_dirs (tasks_front tree who shape skips limit grain start tasks may balanced) asks)
+      subst (λ l. IsPermutation l (answer tree who (path_at tree start) asks)) (sym (tasks_rows takes_all tree who limit (meets asks (length (path_at tree start))) tasks))
+      (answer-by_pieces tree who shape limit (path_at tree start) (IsOpenTop-at tree who shape start within on) all_dirs (tasks_front tree who shape takes_all limit start tasks may balanced) asks)
 
   -- and no more than all rows
-  pub tasks_few : (met : Row → Bool) → length (flat_map (task_rows skips tree who limit grain met) tasks) ≤ length (all_rows tree)
+  pub tasks_few : (met : Row → Bool) → length (flat_map (task_rows takes_all tree who limit met) tasks) ≤ length (all_rows tree)
   unfolding all_dirs
   tasks_few met =
       let P : Components → List Row = λ p. piece tree p limit in
       omega (
         arith,
-        ap length (tasks_rows skips tree who limit grain met tasks),
+        ap length (tasks_rows takes_all tree who limit met tasks),
         filtered_fewer met (flat_map (shown_piece tree who limit) all_dirs),
         shown_as_many tree who limit all_dirs,
-        length_permutation _ _ (IsPermutation-flat_map P _ _ (tasks_front tree who shape skips limit grain start tasks may balanced)),
+        length_permutation _ _ (IsPermutation-flat_map P _ _ (tasks_front tree who shape takes_all limit start tasks may balanced)),
         length_permutation _ _ (listed_at_top tree who shape limit (path_at tree start) (IsOpenTop-at tree who shape start within on)),
         filtered_fewer (λ row. is_listed tree who (path_at tree start) (home row)) (all_rows tree),
       )

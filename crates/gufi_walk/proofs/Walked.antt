@@ -244,7 +244,7 @@ module _ (tree : List Directory) (who : Principal) (shape : HasTreeShape tree) w
     }
 
     -- the places of the kids, and the kids
-    kids_at : (path : Components) → map (λ id. path_at tree id.0) (kid_ids tree who path limit) ≡ kids tree who path limit
+    pub kids_at : (path : Components) → map (λ id. path_at tree id.0) (kid_ids tree who path limit) ≡ kids tree who path limit
     kids_at path = by (can_roll tree limit path) where
       open_ : map (λ id. path_at tree id.0) (open_ids tree who path) ≡ map (λ dir. dir.path) (filter (may_list who) (subdirs tree path))
       open_ =

@@ -1,5 +1,5 @@
 -- Where a walk goes on from a directory, by places.
-use Rattle.std.specs.Prelude.{ℕ, ◌-◌, ◌&&◌, ◌||◌, not, nat_le, Bool, List, [], ◌∷◌, filter, map, length, Option, Some, None, if◌then◌else◌}
+use Rattle.std.specs.Prelude.{ℕ, ◌==◌, ◌-◌, ◌&&◌, ◌||◌, not, nat_le, Bool, List, [], ◌∷◌, filter, map, length, Option, Some, None, if◌then◌else◌}
 use Rattle.std.specs.List.{list_any, flat_map, range_with_len}
 use Rattle.gufi_base.specs.declared.record.Row.{Row}
 use Rattle.gufi_base.specs.Paths.{Components, path_eq, is_prefix}
@@ -47,22 +47,31 @@ not_passed skips tree limit paths = filter (λ path. not (skips (total (piece tr
 abbrev pub front_met : (Summary → Bool) → Option ℕ → List Directory → Principal → Components → ℕ → List Components
 front_met skips deepest tree who start limit = not_passed skips tree limit (front_within deepest tree who start limit)
 
--- where a walk goes on that goes no deeper than a bound, nor below what a test of sums passes over
+-- this user may list every directory
+abbrev pub sees_all : Principal → Bool
+sees_all who = who.uid == 0
+
+-- the test passes over all rows at and below the directory, by a sum that counts no row which this user can't list
+abbrev pub is_ruled_out : (Summary → Bool) → List Directory → Principal → Components → Bool
+is_ruled_out skips tree who path = sees_all who && skips (tree_sum tree path)
+
+-- where a walk goes on that goes no deeper than a bound, nor below what is ruled out
 abbrev pub next_ids : (Summary → Bool) → Option ℕ → ℕ → List Directory → Principal → Components → ℕ → List DirId
 next_ids skips deepest above tree who path limit =
-    if goes_below deepest (length path - above) && not (skips (tree_sum tree path)) then kid_ids tree who path limit else []
+    if goes_below deepest (length path - above) && not (is_ruled_out skips tree who path) then kid_ids tree who path limit else []
 
--- at most so many directories are at and below it, or the test passes over them all: then its task takes them all, and has no kids
-abbrev pub is_whole : (Summary → Bool) → List Directory → ℕ → Components → Bool
-is_whole skips tree grain path = nat_le (tree_sum tree path).dirs grain || skips (tree_sum tree path)
+-- at most so many directories are at and below it, or what is below lies too deep, or they are all ruled out: then its task takes them all, and has no kids
+abbrev pub is_whole : (Summary → Bool) → Option ℕ → ℕ → List Directory → Principal → ℕ → Components → Bool
+is_whole skips deepest above tree who grain path =
+    nat_le (tree_sum tree path).dirs grain || not (goes_below deepest (length path - above)) || is_ruled_out skips tree who path
 
--- the members of the front that one task takes
-abbrev pub task_dirs : (Summary → Bool) → List Directory → Principal → ℕ → ℕ → Components → List Components
-task_dirs skips tree who limit grain path = if is_whole skips tree grain path then front tree who path limit else path ∷ []
+-- the members of the front that one task takes, where some take all that is at and below their directory
+abbrev pub task_dirs : (Components → Bool) → List Directory → Principal → ℕ → Components → List Components
+task_dirs takes_all tree who limit path = if takes_all path then front tree who path limit else path ∷ []
 
 -- the tasks that a task brings forth
-abbrev pub task_kids : (Summary → Bool) → List Directory → Principal → ℕ → ℕ → ℕ → List ℕ
-task_kids skips tree who limit grain k = if is_whole skips tree grain (path_at tree k) then [] else map (λ id. id.0) (kid_ids tree who (path_at tree k) limit)
+abbrev pub task_kids : (Components → Bool) → List Directory → Principal → ℕ → ℕ → List ℕ
+task_kids takes_all tree who limit k = if takes_all (path_at tree k) then [] else map (λ id. id.0) (kid_ids tree who (path_at tree k) limit)
 
 -- the directories at or below the start that may be listed: all that can be tasks
 abbrev pub open_places : List Directory → Principal → Components → List ℕ
@@ -73,8 +82,8 @@ abbrev pub shown_piece : List Directory → Principal → ℕ → Components →
 shown_piece tree who limit path = map (shown who) (piece tree path limit)
 
 -- the rows that one task adds
-abbrev pub task_rows : (Summary → Bool) → List Directory → Principal → ℕ → ℕ → (Row → Bool) → ℕ → List Row
-task_rows skips tree who limit grain met k = filter met (flat_map (shown_piece tree who limit) (task_dirs skips tree who limit grain (path_at tree k)))
+abbrev pub task_rows : (Components → Bool) → List Directory → Principal → ℕ → (Row → Bool) → ℕ → List Row
+task_rows takes_all tree who limit met k = filter met (flat_map (shown_piece tree who limit) (task_dirs takes_all tree who limit (path_at tree k)))
 
 -- the row meets the question at its depth
 abbrev pub meets : (Row → ℕ → Bool) → ℕ → Row → Bool

@@ -11,7 +11,7 @@ ghost use Rattle.gufi_sums.specs.Depths.{goes_below};
 ghost use Rattle.gufi_sums.specs.Total.{IsTotal, total};
 ghost use Rattle.gufi_snap.specs.Pieces.{front, piece, tree_sum};
 ghost use Rattle.gufi_walk.specs.Answer.{answer, refusal_of};
-ghost use Rattle.gufi_walk.specs.Walk.{lists_at, open_ids, kid_ids, next_ids, lies_within, no_deeper, not_passed, front_met, meets, shown_piece};
+ghost use Rattle.gufi_walk.specs.Walk.{lists_at, open_ids, kid_ids, next_ids, lies_within, no_deeper, not_passed, front_met, sees_all, is_ruled_out, meets, shown_piece};
 
 use crate::refusal::Refusal;
 use crate::shown::Shown;
@@ -136,14 +136,31 @@ pub(crate) fn visit<T: Tester, Y: Yield, S: Skip, G: Gate, L: Ledger>(
     Ok(false)
 }
 
-/// Whether the test passes over all that is at and below a directory, where it is known whether it passes over its piece.
+/// Whether a principal may list every directory: only then may he be answered by sums of all that lies below one.
+pub(crate) fn sees_all(who: &Principal) -> bool
+    ensures { result ≡ sees_all who.now }
+{
+    who.uid == 0
+}
+
+/// Whether all that is at and below a directory is ruled out, where it is known whether its piece is passed over.
 ///
-/// It looks at a sum only where the piece is passed over: else not all of it is.
-fn passes_below<S: Skip>(snap: &Snapshot, id: DirId, skip: &S, passed: bool) -> bool
+/// It looks at a sum only where the piece is passed over: else not all of it is. Where the principal may not list all that a sum
+/// counts it looks at none, so that no row that he can't list decides where he walks.
+fn rules_out_below<S: Skip>(
+    snap: &Snapshot,
+    who: &Principal,
+    id: DirId,
+    skip: &S,
+    passed: bool,
+) -> bool
     requires id { id.0 < length snap.now.tree }
     requires passed { passed ≡ S.skips skip.now (total (piece snap.now.tree (path_at snap.now.tree id.0) snap.now.limit)) }
-    ensures { result ≡ S.skips skip.now (tree_sum snap.now.tree (path_at snap.now.tree id.0)) }
+    ensures { result ≡ is_ruled_out (S.skips skip.now) snap.now.tree who.now (path_at snap.now.tree id.0) }
 {
+    if !sees_all(who) {
+        return false;
+    }
     passed && skip.none_match(&snap.tree_sum(id))
 }
 
@@ -169,7 +186,7 @@ pub(crate) fn lies_within<S: Skip>(snap: &Snapshot, id: DirId, skip: &S, above: 
 }
 
 /// Whether a row one level below a directory may.
-fn goes_below<S: Skip>(snap: &Snapshot, id: DirId, skip: &S, above: u32) -> bool
+pub(crate) fn goes_below<S: Skip>(snap: &Snapshot, id: DirId, skip: &S, above: u32) -> bool
     requires id { id.0 < length snap.now.tree }
     requires above { above ≤ length (path_at snap.now.tree id.0) }
     ensures { result ≡ goes_below (S.deepest skip.now) (length (path_at snap.now.tree id.0) - above) }
@@ -181,7 +198,7 @@ fn goes_below<S: Skip>(snap: &Snapshot, id: DirId, skip: &S, above: u32) -> bool
 }
 
 /// Puts the directories where a walk goes on on the list, the last one first, but none that lies too deep for a row that meets
-/// the query, and none below a directory where the sum of all rows shows that none does.
+/// the query, and none below a directory that is ruled out.
 fn push_next<S: Skip>(
     todo: &mut Vec<DirId>,
     snap: &Snapshot,
@@ -196,7 +213,7 @@ fn push_next<S: Skip>(
     requires passed { passed ≡ S.skips skip.now (total (piece snap.now.tree (path_at snap.now.tree id.0) snap.now.limit)) }
     ensures { OnOk result (todo.new.items ≡ todo.old.items ++ reverse (next_ids (S.skips skip.now) (S.deepest skip.now) above snap.now.tree who.now (path_at snap.now.tree id.0) snap.now.limit)) }
 {
-    if goes_below(snap, id, skip, above) && !passes_below(snap, id, skip, passed) {
+    if goes_below(snap, id, skip, above) && !rules_out_below(snap, who, id, skip, passed) {
         push_kids(todo, snap, who, id)?;
     }
     Ok(())
@@ -210,7 +227,7 @@ fn tell<G: Gate>(gate: &G, id: DirId, first: DirId) {
 }
 
 /// Adds the rows of the pieces at and below a directory as they are shown, those that meet the question so. It takes the directories in path order, but none that
-/// lies too deep for a row that meets the query, and none below a directory where the sum of all rows shows that none does.
+/// lies too deep for a row that meets the query, and none below a directory that is ruled out.
 pub(crate) fn add_rows_below<T: Tester, Y: Yield, S: Skip, G: Gate, L: Ledger>(
     alloc: Global,
     snap: &Snapshot,
@@ -287,9 +304,9 @@ fn answer_from<P: Pred, Y: Yield, S: Skip, L: Ledger>(
 /// The rows that the principal gets who walks from the start and that meet the question, or the refusal of the start.
 ///
 /// It takes the directories in path order. Cost: one step for each piece of the front whose directory lies no deeper than a row
-/// that meets the query may and whose sum isn't passed over; nothing is looked at below a directory whose rows, all in all, are
-/// passed over, and of such a directory two sums at most. Where no sum is to be asked none is looked at. A start that is refused
-/// costs no step.
+/// that meets the query may and whose sum isn't passed over. For uid 0 nothing is looked at below a directory whose rows, all in
+/// all, are passed over, and of such a directory two sums at most; for others no sum of what they may be denied is looked at. Where
+/// no sum is to be asked none is. A start that is refused costs no step.
 pub fn answer_alone<P: Pred, Y: Yield, S: Skip, L: Ledger>(
     alloc: Global,
     snap: &Snapshot,

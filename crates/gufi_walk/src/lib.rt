@@ -2,6 +2,8 @@
 //!
 //! The answer is a filter of all rows of the tree as they are shown, in path order; refusals are those of resolving the start. One thread
 //! gives it, counting its steps, or as many walkers as are asked for, who share the directories as tasks.
+//! A task is a directory of the front; where few are at and below it, it takes them all. What is shown of a row is the walk's rule,
+//! not the question's.
 //! It stands on snapshots and on the pool that runs the tasks; the calls of the program stand on it.
 #![tactic(auto)]
 
@@ -18,7 +20,7 @@ mod total;
 mod walkers;
 
 pub use descent::answer_alone;
-pub use laws::{answers_are_private, folds_hold_the_answer};
+pub use laws::{answers_are_private, folds_hold_the_answer, walks_are_private};
 pub use refusal::Refusal;
 pub use reply::{
     PathLines, answer_lines, answer_list, answer_paths, answer_rows, answer_sum, put_refusal,

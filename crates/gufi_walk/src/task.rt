@@ -5,11 +5,11 @@ ghost use Rattle.std.specs.List.{flat_map};
 ghost use Rattle.gufi_base.specs.declared.record.Row.{Row};
 ghost use Rattle.gufi_tree.specs.Places.{path_at};
 ghost use Rattle.gufi_snap.specs.Pieces.{piece, tree_sum};
-ghost use Rattle.gufi_walk.specs.Walk.{lists_at, kid_ids, meets, is_whole, task_dirs, task_kids, task_rows, open_places};
+ghost use Rattle.gufi_walk.specs.Walk.{lists_at, kid_ids, meets, is_ruled_out, is_whole, task_dirs, task_kids, task_rows, open_places};
 ghost use Rattle.gufi_walk.specs.Chunks.{Hold, chunks_in};
 
 use crate::chunk::Chunk;
-use crate::descent::{add_rows_below, lies_within, may_be_listed, visit};
+use crate::descent::{add_rows_below, goes_below, lies_within, may_be_listed, sees_all, visit};
 use crate::piece::WalkPiece;
 use gufi_access::Principal;
 use gufi_base::{Memory, Pred, Steps, Yield};
@@ -101,28 +101,37 @@ impl<P: Pred, Y: Yield, S: Skip> Walk<'_, P, Y, S> {
         tree.dirs_below(id)
     }
 
-    /// Whether the test passes over all that is at and below a directory. Where no sum is to be asked it looks at none.
-    fn passes_below(&self, id: DirId) -> bool
+    /// Whether all that is at and below a directory is ruled out. Where no sum is to be asked, or the principal may not list all
+    /// that it counts, it looks at none.
+    fn rules_out_below(&self, id: DirId) -> bool
         requires { id.0 < length self.now.snap.now.tree }
-        ensures { result ≡ S.skips self.now.skip.now (tree_sum self.now.snap.now.tree (path_at self.now.snap.now.tree id.0)) }
+        ensures { result ≡ is_ruled_out (S.skips self.now.skip.now) self.now.snap.now.tree self.now.who.now (path_at self.now.snap.now.tree id.0) }
     {
         // The tree's shape tells that the sum counts the directory.
         let _tree = self.snap.tree();
+        if !sees_all(self.who) {
+            return false;
+        }
         self.skip.asks_sums() && self.skip.none_match(&self.snap.tree_sum(id))
     }
 
-    /// Whether a task takes all directories at and below its own: where they are few, or passed over.
+    /// Whether a task takes all directories at and below its own: where they are few, or ruled out, or those below lie too deep. So
+    /// no directory that lies too deep is a task, however many there are.
     fn is_whole(&self, id: DirId) -> bool
-        requires { id.0 < length self.now.snap.now.tree }
-        ensures { result ≡ is_whole (S.skips self.now.skip.now) self.now.snap.now.tree self.now.grain (path_at self.now.snap.now.tree id.0) }
+        requires id { id.0 < length self.now.snap.now.tree }
+        requires above { self.now.above ≤ length (path_at self.now.snap.now.tree id.0) }
+        ensures { result ≡ is_whole (S.skips self.now.skip.now) (S.deepest self.now.skip.now) self.now.above self.now.snap.now.tree self.now.who.now self.now.grain (path_at self.now.snap.now.tree id.0) }
     {
-        u64::from(self.dirs_below(id)) <= self.grain || self.passes_below(id)
+        u64::from(self.dirs_below(id)) <= self.grain
+            || !goes_below(self.snap, id, self.skip, self.above)
+            || self.rules_out_below(id)
     }
 
     /// How many directories stand from a task's first to its last, those that may not be listed among them. It looks at a sum only
     /// where the question asks for sums.
     fn reach(&self, id: DirId) -> u32
-        requires { id.0 < length self.now.snap.now.tree }
+        requires id { id.0 < length self.now.snap.now.tree }
+        requires above { self.now.above ≤ length (path_at self.now.snap.now.tree id.0) }
     {
         if self.is_whole(id) || self.snap.rolled(id) {
             self.dirs_below(id)
@@ -135,7 +144,7 @@ impl<P: Pred, Y: Yield, S: Skip> Walk<'_, P, Y, S> {
     fn most_rows(&self, id: DirId) -> u64
         requires given { Contains (open_places self.now.snap.now.tree self.now.who.now (path_at self.now.snap.now.tree self.now.start.0)) id.0 }
         ensures rows { length (flat_map (λ path. piece self.now.snap.now.tree path self.now.snap.now.limit)
-            (task_dirs (S.skips self.now.skip.now) self.now.snap.now.tree self.now.who.now self.now.snap.now.limit self.now.grain (path_at self.now.snap.now.tree id.0))) ≤ result }
+            (task_dirs (is_whole (S.skips self.now.skip.now) (S.deepest self.now.skip.now) self.now.above self.now.snap.now.tree self.now.who.now self.now.grain) self.now.snap.now.tree self.now.who.now self.now.snap.now.limit (path_at self.now.snap.now.tree id.0))) ≤ result }
         ensures few { result < 2 ^ 40 }
     {
         // Its clauses tell that the directory of a task may be listed, and how many rows a tree has.
@@ -159,10 +168,10 @@ impl<P: Pred, Y: Yield, S: Skip> Walk<'_, P, Y, S> {
         requires given { Contains (open_places self.now.snap.now.tree self.now.who.now (path_at self.now.snap.now.tree self.now.start.0)) id.0 }
         requires tester { P.Tester.meets tester.old ≡ P.sat self.now.pred.now }
         requires room { Y.count out.old + length (flat_map (λ path. piece self.now.snap.now.tree path self.now.snap.now.limit)
-            (task_dirs (S.skips self.now.skip.now) self.now.snap.now.tree self.now.who.now self.now.snap.now.limit self.now.grain (path_at self.now.snap.now.tree id.0))) < 2 ^ 40 }
+            (task_dirs (is_whole (S.skips self.now.skip.now) (S.deepest self.now.skip.now) self.now.above self.now.snap.now.tree self.now.who.now self.now.grain) self.now.snap.now.tree self.now.who.now self.now.snap.now.limit (path_at self.now.snap.now.tree id.0))) < 2 ^ 40 }
         requires rows { (rows : List Row) × Y.stands_for out.old rows }
         ensures rows { OnOk result ((rows : List Row) → Y.stands_for out.old rows →
-            Y.stands_for out.new (rows ++ task_rows (S.skips self.now.skip.now) self.now.snap.now.tree self.now.who.now self.now.snap.now.limit self.now.grain (meets (P.sat self.now.pred.now) self.now.above) id.0)) }
+            Y.stands_for out.new (rows ++ task_rows (is_whole (S.skips self.now.skip.now) (S.deepest self.now.skip.now) self.now.above self.now.snap.now.tree self.now.who.now self.now.grain) self.now.snap.now.tree self.now.who.now self.now.snap.now.limit (meets (P.sat self.now.pred.now) self.now.above) id.0)) }
         ensures tester { OnOk result (P.Tester.meets tester.new ≡ P.Tester.meets tester.old) }
     {
         // The tree's shape tells how deep the directory of a task lies.
@@ -170,7 +179,7 @@ impl<P: Pred, Y: Yield, S: Skip> Walk<'_, P, Y, S> {
         if !lies_within(self.snap, id, self.skip, self.above) {
             return Ok(());
         }
-        if self.passes_below(id) {
+        if self.rules_out_below(id) {
             return Ok(());
         }
         let mut steps = Steps::<L>::new(blank);
@@ -211,8 +220,9 @@ impl<P: Pred, Y: Yield, S: Skip> Walk<'_, P, Y, S> {
 
     /// Adds the tasks that a task brings forth.
     fn push_kids(&self, kids: &mut Vec<u32>, id: DirId) -> Result<(), AllocError>
-        requires { id.0 < length self.now.snap.now.tree }
-        ensures { OnOk result (kids.new.items ≡ kids.old.items ++ task_kids (S.skips self.now.skip.now) self.now.snap.now.tree self.now.who.now self.now.snap.now.limit self.now.grain id.0) }
+        requires id { id.0 < length self.now.snap.now.tree }
+        requires above { self.now.above ≤ length (path_at self.now.snap.now.tree id.0) }
+        ensures { OnOk result (kids.new.items ≡ kids.old.items ++ task_kids (is_whole (S.skips self.now.skip.now) (S.deepest self.now.skip.now) self.now.above self.now.snap.now.tree self.now.who.now self.now.grain) self.now.snap.now.tree self.now.who.now self.now.snap.now.limit id.0) }
     {
         if !self.is_whole(id) {
             push_places(kids, self.snap, self.who, id)?;
@@ -229,9 +239,9 @@ where
 
     ghost given = { λ w. open_places w.snap.now.tree w.who.now (path_at w.snap.now.tree w.start.0) };
 
-    ghost kids_of = { λ w task. task_kids (S.skips w.skip.now) w.snap.now.tree w.who.now w.snap.now.limit w.grain task };
+    ghost kids_of = { λ w task. task_kids (is_whole (S.skips w.skip.now) (S.deepest w.skip.now) w.above w.snap.now.tree w.who.now w.grain) w.snap.now.tree w.who.now w.snap.now.limit task };
 
-    ghost stands = { λ w piece ran. Hold Y.stands_for (chunks_in piece) (flat_map (task_rows (S.skips w.skip.now) w.snap.now.tree w.who.now w.snap.now.limit w.grain (meets (P.sat w.pred.now) w.above)) ran)
+    ghost stands = { λ w piece ran. Hold Y.stands_for (chunks_in piece) (flat_map (task_rows (is_whole (S.skips w.skip.now) (S.deepest w.skip.now) w.above w.snap.now.tree w.who.now w.grain) w.snap.now.tree w.who.now w.snap.now.limit (meets (P.sat w.pred.now) w.above)) ran)
         × (P.Tester.meets piece.tester ≡ P.sat w.pred.now) };
 
     fn fresh(&self, alloc: Global) -> Result<WalkPiece<Y, P::Tester>, Memory> {

@@ -17,4 +17,4 @@ returns-clause-rows g c =
     let within = (place_open tree w.who.now shape (path_at tree w.start.0) c.args.id.0 c.requires.given).within in
     let top = IsOpenTop-at tree w.who.now shape c.args.id.0 within (place_listed tree w.who.now shape (path_at tree w.start.0) c.args.id.0 c.requires.given) in
     let few : length (flat_map own_rows tree) < 2 ^ 32 = subst (λ (ds : List Directory). length (flat_map own_rows ds) < 2 ^ 32) c.tree.ensures.tree c.dirs-count.ensures.rows in
-    omega (arith, few, task_few tree w.who.now shape w.snap.now.limit path top (is_whole (g.S.Skip.skips w.skip.now) tree w.grain path))
+    omega (arith, few, task_few tree w.who.now shape w.snap.now.limit path top (is_whole (g.S.Skip.skips w.skip.now) (g.S.Skip.deepest w.skip.now) w.above tree w.who.now w.grain path))
