@@ -7,7 +7,8 @@ ghost use Rattle.gufi_base.specs.Paths.{path_eq};
 ghost use Rattle.gufi_cache.specs.Keys.{key_of, same_key, same_principal, key_input};
 ghost use Rattle.gufi_cache.specs.SameKeys.{same_key-Decides};
 
-use gufi_access::{GroupList, Principal};
+use crate::principal::SharedPrincipal;
+use gufi_access::Principal;
 use gufi_base::{Bytes, Memory, Path, path_cmp, same_bytes};
 use std::alloc::Global;
 use std::hash::{Hash, Hasher};
@@ -18,28 +19,24 @@ use std::hash::{Hash, Hasher};
 #[derive(Drop)]
 pub struct CacheKey {
     pub number: u64,
-    pub who: Principal,
+    pub who: SharedPrincipal,
     pub start: Path,
     pub ask: Bytes,
 }
 
-/// The key of an ask, in memory of its own. At most three allocations.
+/// The key of an ask, in memory of its own but for the principal, which it shares. At most two allocations.
 pub fn cache_key(
     alloc: Global,
     number: u64,
-    who: &Principal,
+    who: &SharedPrincipal,
     start: &Path,
     ask: &[u8],
 ) -> Result<CacheKey, Memory>
     ensures { IfOk result (λ key. key ≡ key_of number who.now start.now ask.now) }
 {
-    let groups = Vec::from_slice(alloc, who.groups.as_slice())?;
+    let who = who.share()?;
     let start = start.copy(alloc)?;
     let ask = Bytes::from_slice(alloc, ask)?;
-    let who = Principal {
-        uid: who.uid,
-        groups: GroupList::of(groups),
-    };
     Ok(CacheKey {
         number,
         who,
@@ -65,7 +62,7 @@ fn same_parts(a: &CacheKey, b: &CacheKey) -> bool
     ensures { result ≡ same_key a.now b.now }
 {
     a.number == b.number
-        && same_principal(&a.who, &b.who)
+        && same_principal(a.who.get(), b.who.get())
         && same_path(&a.start, &b.start)
         && same_bytes(a.ask.as_slice(), b.ask.as_slice())
 }
@@ -101,7 +98,7 @@ impl Hash for CacheKey {
 
     fn hash<H: Hasher>(&self, state: &mut H) {
         state.write_u64(self.number);
-        state.write_u32(self.who.uid);
+        state.write_u32(self.who.get().uid);
         self.start.text().hash(state);
         self.ask.as_slice().hash(state);
     }

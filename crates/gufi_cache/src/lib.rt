@@ -7,10 +7,12 @@
 mod ask;
 mod cache;
 mod key;
+mod principal;
 
 pub use ask::ask_bytes;
 pub use cache::Cache;
 pub use key::{CacheKey, cache_key};
+pub use principal::SharedPrincipal;
 
 #[cfg(test)]
 mod tests;

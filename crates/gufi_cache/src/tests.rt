@@ -18,7 +18,7 @@ fn key_of(alloc: Global, number: u64, uid: u32) -> Result<CacheKey, Fail> {
     Ok(cache_key(
         alloc,
         number,
-        &Principal { uid, groups },
+        &SharedPrincipal::of(alloc, Principal { uid, groups })?,
         &start,
         ask.as_slice(),
     )?)

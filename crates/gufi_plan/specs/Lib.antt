@@ -3,3 +3,4 @@ pub mod Asks
 pub mod Faults
 pub mod Settings
 pub mod Phases
+pub mod Known

@@ -10,6 +10,7 @@ ghost use Rattle.gufi_plan.specs.Asks.{AsksTell};
 
 use crate::act::{PlannedAct, SessionPlan};
 use crate::fault::error_at;
+use crate::principals::Principals;
 use crate::reading::{Setup, planned_act};
 use gufi_base::Items;
 use gufi_script::{Script, ScriptError};
@@ -51,10 +52,34 @@ impl Phases {
     }
 }
 
-/// The phases of a script, with a principal for each user and a query for the words of each ask.
+/// The phases of a script.
+fn plan_acts(
+    alloc: Global,
+    script: Script,
+    setup: &Setup<'_>,
+    principals: &mut Principals<'_>,
+) -> Result<SessionPlan, ScriptError>
+    requires script { IsTrue (is_script script) }
+    requires users { principals.old ≡ setup.now.users.now }
+    ensures { GivesUnless ScriptError.Memory result (plan (setting_of setup.entry.now) script) }
+{
+    let mut phases = Phases {
+        done: Vec::new(alloc),
+        current: Vec::new(alloc),
+    };
+    'acts: for (line, act) in script.acts.into_vec() {
+        match planned_act(alloc, setup, principals, act) {
+            Ok(planned) => phases.add(alloc, planned)?,
+            Err(fault) => return Err(error_at(line, fault)),
+        }
+    }
+    Ok(phases.ended()?)
+}
+
+/// The phases of a script, with a principal for each USER word and a query for the words of each ask.
 ///
 /// Users and queries are judged in line order, the user of a line before its query. A damaged query is one kind of fault,
-/// `Query`, whatever is wrong with it.
+/// `Query`, whatever is wrong with it. Asks with equal USER words share one principal.
 pub fn plan_session(
     alloc: Global,
     script: Script,
@@ -63,15 +88,6 @@ pub fn plan_session(
     requires { IsTrue (is_script script) }
     ensures { GivesUnless ScriptError.Memory result (plan (setting_of setup.entry.now) script) }
 {
-    let mut phases = Phases {
-        done: Vec::new(alloc),
-        current: Vec::new(alloc),
-    };
-    'acts: for (line, act) in script.acts.into_vec() {
-        match planned_act(alloc, setup, act) {
-            Ok(planned) => phases.add(alloc, planned)?,
-            Err(fault) => return Err(error_at(line, fault)),
-        }
-    }
-    Ok(phases.ended()?)
+    let mut principals = Principals::of(alloc, setup.users);
+    plan_acts(alloc, script, setup, &mut principals)
 }

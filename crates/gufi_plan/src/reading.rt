@@ -11,6 +11,7 @@ ghost use Rattle.gufi_plan.specs.Asks.{AreShort, HasShortWords};
 use crate::act::PlannedAct;
 use crate::ask::ask_of;
 use crate::fault::ActFault;
+use crate::principals::Principals;
 use crate::search::{Query, Search, SharedSearch};
 use gufi_base::{Bytes, Path};
 use gufi_find::read_find;
@@ -83,15 +84,18 @@ fn query_of(
 fn search_of(
     alloc: Global,
     setup: &Setup<'_>,
+    principals: &mut Principals<'_>,
     user: &[u8],
     start: Path,
     form: Form,
     words: &[Bytes],
 ) -> Result<SharedSearch, ActFault>
+    requires { principals.old ≡ setup.now.users.now }
     ensures search { GivesUnless ActFault.Memory result (result_map_err ActFault.Kind (search_of (setting_of setup.entry.now) user.now start form words.now)) }
     ensures short { OnOk result (AreShort words.now) }
+    ensures users { principals.new ≡ principals.old }
 {
-    let Some(who) = setup.users.principal(alloc, user)? else {
+    let Some(who) = principals.principal(alloc, user)? else {
         return Err(ActFault::Kind(ScriptKind::User));
     };
     let query = query_of(alloc, setup, form, words)?;
@@ -113,10 +117,13 @@ fn search_of(
 pub(crate) fn planned_act(
     alloc: Global,
     setup: &Setup<'_>,
+    principals: &mut Principals<'_>,
     act: Act,
 ) -> Result<Option<PlannedAct>, ActFault>
+    requires { principals.old ≡ setup.now.users.now }
     ensures planned { GivesUnless ActFault.Memory result (result_map_err ActFault.Kind (planned_act (setting_of setup.entry.now) act)) }
     ensures short { OnOk result (HasShortWords act) }
+    ensures users { principals.new ≡ principals.old }
 {
     match act {
         Act::Publish { limit, file } => Ok(Some(PlannedAct::Publish {
@@ -137,7 +144,8 @@ pub(crate) fn planned_act(
             form,
             words,
         } => {
-            let search = search_of(alloc, setup, user.as_slice(), path, form, words.as_slice())?;
+            let (user, words) = (user.as_slice(), words.as_slice());
+            let search = search_of(alloc, setup, principals, user, path, form, words)?;
             Ok(Some(PlannedAct::Ask { lane, search }))
         }
         Act::Barrier => Ok(None),

@@ -1,8 +1,8 @@
 //! What an ask searches for.
 ghost use Rattle.std.specs.Prelude.{◌≡◌, IfOk};
 
-use gufi_access::Principal;
 use gufi_base::{Bytes, Memory, Path};
+use gufi_cache::SharedPrincipal;
 use gufi_find::FindExpr;
 use gufi_select::Select;
 use std::marker::Model;
@@ -22,7 +22,7 @@ pub enum Query {
 /// Who searches, from where on, and for what.
 #[derive(Drop)]
 pub struct Search {
-    pub who: Principal,
+    pub who: SharedPrincipal,
     pub start: Path,
     pub query: Query,
     /// The bytes of the ask's form and words, by which a lane keeps the reply.

@@ -9,7 +9,7 @@ ghost use Rattle.gufi_phases.specs.Loads.{total_size};
 
 use gufi_access::{GroupList, Principal};
 use gufi_base::{Memory, Path, Text};
-use gufi_cache::{CacheKey, cache_key};
+use gufi_cache::{CacheKey, SharedPrincipal, cache_key};
 use gufi_io::{MemShelf, MemSink, NoGate, ReadError, Shelf, names_differ, read_all};
 use gufi_phases::{Act, Command, End, Ended, Load, LoadFault, Made, Stop, Wanted, run_session};
 use std::alloc::Global;
@@ -71,6 +71,7 @@ impl Wanted<u64> for Which {
             uid: 0,
             groups: GroupList::of(Vec::new(alloc)),
         };
+        let nobody = SharedPrincipal::of(alloc, nobody)?;
         let root = Path::root(alloc)?;
         Ok(cache_key(alloc, number, &nobody, &root, &[self.mark])?)
     }

@@ -3,15 +3,16 @@ use Rattle.std.proofs.lemmas.Grind.{common_steps}
 use Rattle.gufi_plan.specs.Settings.{setting_of}
 use Rattle.gufi_plan.proofs.PlanLemmas.{plan_first, few_first, plan_more, plan_stops, plan_ends}
 use Rattle.gufi_plan.proofs.AskLemmas.{WordsShort, plan_tells, short_more, short_ends}
-use Rattle.gufi_plan.proofs.planning.plan_session.Goals as goal
+use Rattle.gufi_plan.proofs.planning.plan_acts.Goals as goal
 
 pub acts-init : goal.acts-init
 acts-init c =
     let rest : c.into_iter-line-iterator.result.rest.items ≡ c.args.script = (first_of (search rules, grind (arith, common_steps))) in
     record {
       whole = plan_first (setting_of c.args.setup.now) c.new.result.items c.new-2.result.items c.into_iter-line-iterator.result.rest.items c.args.script c.new.ensures.items c.new-2.ensures.items rest;
-      few = few_first c.new.result.items c.new-2.result.items c.into_iter-line-iterator.result.rest.items c.args.script c.new.ensures.items c.new-2.ensures.items rest c.requires;
+      few = few_first c.new.result.items c.new-2.result.items c.into_iter-line-iterator.result.rest.items c.args.script c.new.ensures.items c.new-2.ensures.items rest c.requires.script;
       short = subst WordsShort rest;
+      users = c.requires.users;
     }
 
 pub acts-preserved : goal.acts-preserved
@@ -23,6 +24,7 @@ acts-preserved c =
           l.line-iterator.rest.items c.next.new.self.rest.items c.in-Ok.planned rest c.in-Ok.ensures.planned added.phases) ∙ l.invariant.whole;
       few = omega (arith, added.few, l.invariant.few, ap length rest);
       short = short_more c.next.new.self.rest.items l.line-iterator.rest.items c.args.script c.in-Some.line c.in-Some.act rest c.in-Ok.ensures.short l.invariant.short;
+      users = c.planned_act.ensures.users ∙ l.invariant.users;
     }
 
 pub returns-in-Err : goal.returns-in-Err
