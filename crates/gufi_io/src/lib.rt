@@ -3,6 +3,7 @@
 //! Contracts see a shelf as the bytes that each name holds and the bytes left of the file in hand, and a sink as the
 //! bytes taken, each where it tells them. Both count their faults: a failure comes only where a count rose.
 //! In memory they tell everything and fail where they are told to; the real ones tell nothing.
+//! Counters stay at 2^64 - 1, and a call without a number fails for no list.
 //! It stands on no crate of the index; walkers, sessions and the top call stand on it.
 #![tactic(auto)]
 

@@ -1,13 +1,16 @@
 -- How far a run has come over the files that a shelf tells, and what is meant by numbers where it tells none.
-use Rattle.std.proofs.Common.{◌≡◌, ℕ, ◌+◌, ◌<◌, ◌≤◌, true, false, List, [], ◌∷◌, ◌++◌, length, map, take, drop, get_or, length-append, append_assoc, append-nil, le_refl, take_all, refl, sym, ap, ◌∙◌, subst, arith, drop_of_length-le}
-use Rattle.std.specs.Prelude.{Option, Some, None, Result, Ok, Err, IfOk, OnOk, option_map}
+use Rattle.std.proofs.Common.{◌≡◌, ℕ, ◌+◌, ◌<◌, ◌≤◌, true, false, List, [], ◌∷◌, ◌++◌, length, map, take, drop, get_or, length-append, append_assoc, append-nil, le_refl, take_all, refl, sym, ap, ◌∙◌, subst, arith, drop_of_length-le, inl, inr}
+use Rattle.std.specs.Prelude.{Bool, slice_index_or, Option, Some, None, Result, Ok, Err, Vec, IfOk, OnOk, IsTrue, option_map}
+use Rattle.std.specs.declared.alloc.Global.{Global}
 use Rattle.std.specs.Arc.{arc_value}
 use Rattle.std.proofs.Math.Logic.{∥∥₁_map}
 use Rattle.std.proofs.lemmas.Bool.{false≢true}
-use Rattle.std.proofs.lemmas.List.{drop_more}
+use Rattle.std.proofs.lemmas.List.{drop_more, get_or-map}
 use Rattle.std.specs.Io.KnownBytes.{Appends}
 use Rattle.std.proofs.KnownBytes.{Appends-trans}
 use Rattle.gufi_io.specs.Files.{Files, TakesFront}
+use Rattle.gufi_io.specs.declared.shelf.Shelf.{Ghosts as ShelfOf}
+use Rattle.gufi_io.specs.declared.sink.Sink.{Ghosts as SinkOf}
 use Rattle.gufi_phases.specs.declared.act.Act.{Act}
 use Rattle.gufi_phases.specs.declared.load.Stop.{Stop}
 use Rattle.gufi_phases.specs.declared.load.LoadFault.{LoadFault}
@@ -19,8 +22,11 @@ use Rattle.gufi_phases.specs.Phases.{EachMeans, item_at, made, last_of_acts, com
 use Rattle.gufi_phases.specs.Sessions.{all_made, IsSession, Answered, acts_of, questions_of, hits_over}
 use Rattle.gufi_phases.specs.Replies.{AreAlike}
 use Rattle.gufi_phases.specs.Keeping.{Keeping, keeping_none, keeping_behind, hits_in}
+use Rattle.gufi_phases.specs.declared.answer.Row.{Row}
+use Rattle.gufi_phases.specs.declared.session.End.{End}
+use Rattle.gufi_phases.specs.declared.session.End.TheVariants as ends
 use Rattle.gufi_phases.specs.Lanes.{AreReady, HasMeant, IsTold, KeepAs}
-use Rattle.gufi_phases.specs.Loads.{phases_over, stop_over, total_size, with_loaded, stop_behind, LoadsAs, EndsWith, TakesText, end_of}
+use Rattle.gufi_phases.specs.Loads.{phases_over, stop_over, total_size, with_loaded, stop_behind, LoadsAs, FailsOnlyIf, EndsWith, TakesText, end_of, EndHasCause, Ran, IsCutOff, CutHasCause}
 use Rattle.gufi_phases.proofs.Keepings.{keeping_so_far, AreKept, kept_more, long_more, ready_next}
 use Rattle.gufi_phases.proofs.Sessions.{IsReached, none_done, answered, phase_more, this_phase, this_whole, this_list, each_of_all}
 
@@ -56,6 +62,42 @@ pub takes_fault : (out out' : Option (List ℕ)) (text : List ℕ) (fault : Load
 takes_fault out out' text (load.Stopped stop) taken = taken
 takes_fault out out' text load.ReadFault taken = taken
 takes_fault out out' text load.Memory taken = taken
+
+-- ---- where a phase isn't written
+
+module _ {C Q : Type 0} (rows : List Row) (lines : List (Vec ℕ Global)) (acts : List (Act C Q)) (numbers numbers' : List ℕ) where
+  module _ {P T : Type 0} {outcome : C → Option T → Result T (List ℕ)} {line : C → ℕ → Result ℕ (List ℕ) → List ℕ} {reply : Q → ℕ → ℕ → Option T → List ℕ} (loaded : P → Files → Result (List (Act C Q)) Stop) (reads : P → Bool) (told : Option Files) (plan : List P) (before out out' : Option (List ℕ)) (text : List ℕ) where
+    -- the phases so far are answered, and with this one where it is told
+    pub cut_ends : (end : End) → IsCutOff rows lines acts numbers numbers' out out' end → Appends before out text
+        → ((files : Files) → told ≡ Some files → Answered outcome line reply (phases_over loaded files plan) false numbers text)
+        → ((own : List ℕ) (hits : ℕ) (begin : List ℕ) → IsTold rows lines acts own hits begin → numbers' ≡ numbers ++ own → (files : Files) → told ≡ Some files → Answered outcome line reply (phases_over loaded files plan) false numbers' (text ++ begin))
+        → Ran outcome line reply loaded reads told plan end numbers' before out'
+    cut_ends ends.Done cut taken here behind = absurd cut
+    cut_ends (ends.Stopped stop) cut taken here behind = absurd cut
+    cut_ends ends.ReadFault cut taken here behind = absurd cut
+    cut_ends ends.WriteFault cut taken here behind = record {
+      text = text ++ cut.1;
+      answer = λ files is. behind cut.3.0 cut.0 cut.1 cut.3.1 cut.3.2 files is;
+      taken = takes_more before out out' text cut.1 taken cut.2;
+    }
+    cut_ends ends.Memory (inl same) taken here behind = record {
+      text = text;
+      answer = λ files is. subst (λ x. Answered outcome line reply (phases_over loaded files plan) false x text) (sym same.0) (here files is);
+      taken = subst (λ x. Appends before x text) (sym same.1) taken;
+    }
+    cut_ends ends.Memory (inr wrote) taken here behind = record {
+      text = text ++ wrote.1.0;
+      answer = λ files is. behind wrote.1.2.0 wrote.0 wrote.1.0 wrote.1.2.1 wrote.1.2.2 files is;
+      taken = Appends-trans before out out' text wrote.1.0 taken wrote.1.1;
+    }
+
+  pub cut_cause : {F K : Type 0} (shelf : ShelfOf F) (old new : F) (sink : SinkOf K) (first out out' : K) (end : End) → IsCutOff rows lines acts numbers numbers' (sink.taken out) (sink.taken out') end
+      → sink.faults first ≤ sink.faults out → CutHasCause (sink.faults out) (sink.faults out') end → EndHasCause shelf old new sink first out' end
+  cut_cause shelf old new sink first out out' ends.Done cut later cause = absurd cut
+  cut_cause shelf old new sink first out out' (ends.Stopped stop) cut later cause = absurd cut
+  cut_cause shelf old new sink first out out' ends.ReadFault cut later cause = absurd cut
+  cut_cause shelf old new sink first out out' ends.WriteFault cut later cause = omega arith
+  cut_cause shelf old new sink first out out' ends.Memory cut later cause = tt
 
 -- ---- what is meant by numbers
 
@@ -122,15 +164,21 @@ module _ {T C Q : Type 0} (outcome : C → Option T → Result T (List ℕ)) (li
     session = subst (λ x. IsSession outcome line reply [] None 1 1 x numbers text) (sym (take_all (length phases) phases (le_refl (length phases)) ∙ (is ∙ append-nil done))) session;
   }
 
+  answered_first : (phases done rest : List (List (Act C Q))) (numbers text : List ℕ) → phases ≡ done ++ rest → IsSession outcome line reply [] None 1 1 done numbers text
+      → (part : Answered outcome line reply phases false numbers text) × (part.count ≡ length done)
+  answered_first phases done rest numbers text is session =
+      let long : length phases ≡ length done + length rest = ap length is ∙ length-append done rest in (
+        record {
+          count = length done;
+          within = omega arith;
+          all = λ whole. absurd (false≢true whole);
+          session = subst (λ x. IsSession outcome line reply [] None 1 1 x numbers text) (sym (ap (λ l. take (length done) l) is ∙ take_front done rest)) session;
+        },
+        refl,
+      )
+
   answered_front : (phases done rest : List (List (Act C Q))) (numbers text : List ℕ) → phases ≡ done ++ rest → IsSession outcome line reply [] None 1 1 done numbers text → Answered outcome line reply phases false numbers text
-  answered_front phases done rest numbers text is session =
-      let long : length phases ≡ length done + length rest = ap length is ∙ length-append done rest in
-      record {
-        count = length done;
-        within = omega arith;
-        all = λ whole. absurd (false≢true whole);
-        session = subst (λ x. IsSession outcome line reply [] None 1 1 x numbers text) (sym (ap (λ l. take (length done) l) is ∙ take_front done rest)) session;
-      }
+  answered_front phases done rest numbers text is session = (answered_first phases done rest numbers text is session).0
 
   pub answered_none : (phases : List (List (Act C Q))) (numbers : List ℕ) → numbers ≡ [] → Answered outcome line reply phases false numbers []
   unfolding IsSession
@@ -144,6 +192,7 @@ module _
     pub pubs : List T
     pub done : List (List (Act C Q))
     pub counted : count ≡ length pubs
+    pub many : length done ≡ at
     pub parts : phases_over loaded files plan ≡ done ++ phases_over loaded files (drop at plan)
     pub stop : stop_over loaded files plan ≡ stop_over loaded files (drop at plan)
     pub reached : IsReached outcome line reply means (phases_over loaded files plan) done (phases_over loaded files (drop at plan)) pubs last k i numbers text
@@ -157,6 +206,7 @@ module _
     pubs = [];
     done = [];
     counted = c;
+    many = refl;
     parts = refl;
     stop = refl;
     reached = none_done outcome line reply means (phases_over loaded files plan) numbers [] none refl are;
@@ -190,15 +240,23 @@ module _
       (is.kept has).hits_are ∙ ap (λ l. hits_in key body (all_made outcome None (phases_over loaded files plan)) (λ lane. keeping_none capacity) numbers (acts_of l)) all
 
   module _ (p : P) (inside : at < length plan) (here : p ≡ get_or plan at p) where
+    -- where reading the files of the next phase failed
+    over_read : (reads : P → Bool) → ((n : ℕ) → HasMeant means (all_made outcome None (phases_over loaded files plan)) n) → reads p ≡ true
+        → (part : Answered outcome line reply (phases_over loaded files plan) false numbers text) × IsTrue (slice_index_or (map reads plan) part.count false)
+    over_read reads has may =
+        let part = answered_first outcome line reply (phases_over loaded files plan) is.done (phases_over loaded files (drop at plan)) numbers text is.parts (over_session has) in
+        let this : get_or (map reads plan) at false ≡ true = get_or-map reads plan at p false inside ∙ (ap reads (sym here) ∙ may) in
+        (part.0, subst (λ n. get_or (map reads plan) n false ≡ true) (sym (part.1 ∙ is.many)) this)
+
     -- where the next phase isn't loaded
-    pub fault_ends : ((n : ℕ) → HasMeant means (all_made outcome None (phases_over loaded files plan)) n) → (fault : LoadFault) → LoadsAs (loaded p files) (Err fault)
-        → EndsWith outcome line reply (phases_over loaded files plan) (stop_over loaded files plan) (end_of fault) numbers text
-    fault_ends has (load.Stopped stop) loads = (
+    pub fault_ends : (reads : P → Bool) → ((n : ℕ) → HasMeant means (all_made outcome None (phases_over loaded files plan)) n) → (fault : LoadFault) → LoadsAs (loaded p files) (Err fault) → FailsOnlyIf (reads p) fault
+        → EndsWith outcome line reply (phases_over loaded files plan) (stop_over loaded files plan) (map reads plan) (end_of fault) numbers text
+    fault_ends reads has (load.Stopped stop) loads may = (
       is.stop ∙ (stop_here loaded files plan at p inside here ∙ ap (λ r. stop_behind r (stop_over loaded files (drop (at + 1) plan))) loads),
       over_whole has (phases_here loaded files plan at p inside here ∙ ap (λ r. with_loaded r (phases_over loaded files (drop (at + 1) plan))) loads),
     )
-    fault_ends has load.ReadFault loads = over_front has
-    fault_ends has load.Memory loads = over_front has
+    fault_ends reads has load.ReadFault loads may = over_read reads has may
+    fault_ends reads has load.Memory loads may = over_front has
 
     module _ (acts : List (Act C Q)) (loads : loaded p files ≡ Ok acts) where
       -- its acts stand before those of the rest
@@ -245,6 +303,7 @@ module _
             pubs = now;
             done = is.done ++ acts ∷ [];
             counted = long;
+            many = (let before = is.many in let e = length-append is.done (acts ∷ []) in omega arith);
             parts = parts_here ∙ sym (append_assoc is.done (acts ∷ []) rest);
             stop = is.stop ∙ (stop_here loaded files plan at p inside here ∙ ap (λ r. stop_behind r (stop_over loaded files (drop (at + 1) plan))) loads);
             reached = phase_more outcome line reply means all is.done acts rest is.pubs last k i numbers text own begin reached_here fits
@@ -264,9 +323,9 @@ module _
           → (every : List T) → ((n : ℕ) → n ≤ high → HasMeant means every n)
           → (hits ≡ hits_in key body every before numbers acts) × KeepAs (keeping_behind key body every before numbers acts) (map (λ row. row.lane) p.rows.items ++ p.idle.items)))
           → (own : List ℕ) (more : ℕ) (begin : List ℕ) → IsTold phase.rows.items phase.lines.items acts own more begin
-          → (k' i' : ℕ) (numbers' : List ℕ) (new : List Lane) → k' ≡ k + command_count acts → i' ≡ i + ask_count acts → numbers' ≡ numbers ++ own → new ≡ map (λ row. row.lane) phase.rows.items ++ phase.idle.items
-          → IsOver outcome line reply key body capacity means loaded files plan (at + 1) high (option_map arc_value phase.last) k' i' numbers' (text ++ begin) (hits + more) new
-      over_ran key_numbers alike r phase high ok highs lasts fit told keeps own added begin mixed k' i' numbers' new ks ies ns ls =
+          → (latest : Option T) (k' i' : ℕ) (numbers' : List ℕ) (new : List Lane) → latest ≡ option_map arc_value phase.last → k' ≡ k + command_count acts → i' ≡ i + ask_count acts → numbers' ≡ numbers ++ own → new ≡ map (λ row. row.lane) phase.rows.items ++ phase.idle.items
+          → IsOver outcome line reply key body capacity means loaded files plan (at + 1) high latest k' i' numbers' (text ++ begin) (hits + more) new
+      over_ran key_numbers alike r phase high ok highs lasts fit told keeps own added begin mixed latest k' i' numbers' new latest_is ks ies ns ls =
           let all = phases_over loaded files plan in let rest = phases_over loaded files (drop (at + 1) plan) in let now = is.pubs ++ made outcome last acts in
           let counted : high ≡ count + length (made outcome last acts) = subst (λ r. OnOk r (high ≡ count + length (made outcome last acts))) ok highs in
           let long : high ≡ length now = (let same = is.counted in let e = length-append is.pubs (made outcome last acts) in omega arith) in
@@ -283,7 +342,7 @@ module _
           (subst (λ r. IfOk r (λ p. (numbers : List ℕ) (hits : ℕ) (text : List ℕ) → IsTold p.rows.items p.lines.items acts numbers hits text → NumbersFit count high (lanes acts) numbers)) ok fit own added begin mixed)
           (λ has. text_at has now (λ n below. this_list outcome line reply means all is.done acts rest is.pubs last k i numbers text reached_here has n (subst (λ m. n ≤ m) long below)) (questions_of (acts_of all)) (ready_here key_numbers alike))
           (λ has. kept_at has (all_made outcome None all) (λ n below. has n)) in
-          let next : option_map arc_value phase.last ≡ last_of_acts outcome last acts = subst (λ r. IfOk r (λ p. option_map arc_value p.last ≡ last_of_acts outcome last acts)) ok lasts in
+          let next : latest ≡ last_of_acts outcome last acts = latest_is ∙ subst (λ r. IfOk r (λ p. option_map arc_value p.last ≡ last_of_acts outcome last acts)) ok lasts in
           let Over = λ (l : Option T) (k i : ℕ) (numbers : List ℕ) (by : List Lane). IsOver outcome line reply key body capacity means loaded files plan (at + 1) high l k i numbers (text ++ begin) (hits + added) by in
           subst (λ x. Over x k' i' numbers' new) (sym next)
           (subst (λ x. Over (last_of_acts outcome last acts) x i' numbers' new) (sym ks)

@@ -1,5 +1,5 @@
 -- What a plan comes to over the files of a shelf, and how a run of it ends.
-use Rattle.std.specs.Prelude.{◌≡◌, ℕ, ◌+◌, ⊤, List, [], ◌∷◌, true, false, Option, Some, None, Result, Ok, Err, Vec}
+use Rattle.std.specs.Prelude.{◌≡◌, ℕ, ◌+◌, ⊤, List, [], ◌∷◌, ◌++◌, ◌⊎◌, map, slice_index_or, Bool, true, false, IsTrue, Option, Some, None, Result, Ok, Err, Vec}
 use Rattle.std.specs.declared.alloc.Global.{Global}
 use Rattle.std.specs.Io.KnownBytes.{Appends}
 use Rattle.gufi_io.specs.Causes.{Rose}
@@ -7,6 +7,8 @@ use Rattle.gufi_io.specs.Files.{Files, TakesFront}
 use Rattle.gufi_io.specs.declared.shelf.Shelf.{Ghosts as ShelfOf}
 use Rattle.gufi_io.specs.declared.sink.Sink.{Ghosts as SinkOf}
 use Rattle.gufi_phases.specs.declared.act.Act.{Act}
+use Rattle.gufi_phases.specs.declared.answer.Row.{Row}
+use Rattle.gufi_phases.specs.Lanes.{IsTold}
 use Rattle.gufi_phases.specs.Sessions.{Answered}
 use Rattle.gufi_phases.specs.declared.load.Stop.{Stop}
 use Rattle.gufi_phases.specs.declared.load.Stop.TheVariants as stops
@@ -65,6 +67,16 @@ module _ {F : Type 0} (shelf : ShelfOf F) (old new : F) where
   EndHasCause sink out out' ends.WriteFault = Rose (sink.faults out) (sink.faults out')
   EndHasCause sink out out' ends.Memory = ⊤
 
+-- reading fails only where there may be a file to read
+abbrev pub FailsOnlyIf : Bool → LoadFault → Type 0
+FailsOnlyIf reads load.ReadFault = IsTrue reads
+FailsOnlyIf reads fault = ⊤
+
+-- where a phase isn't written, a write fault comes only where its count rose
+abbrev pub CutHasCause : ℕ → ℕ → End → Type 0
+CutHasCause faults faults' ends.WriteFault = Rose faults faults'
+CutHasCause faults faults' end = ⊤
+
 -- how a phase that isn't loaded ends a session
 abbrev pub end_of : LoadFault → End
 end_of (load.Stopped stop) = ends.Stopped stop
@@ -78,16 +90,33 @@ abbrev pub TakesText : End → Option (List ℕ) → Option (List ℕ) → List 
 TakesText ends.WriteFault out out' text = TakesFront out out' text
 TakesText end out out' text = Appends out out' text
 
-module _ {T C Q : Type 0} (outcome : C → Option T → Result T (List ℕ)) (line : C → ℕ → Result ℕ (List ℕ) → List ℕ) (reply : Q → ℕ → ℕ → Option T → List ℕ) where
-  -- Where nothing failed, all phases are answered, up to that at which the files end the session; else some of the first.
-  abbrev pub EndsWith : List (List (Act C Q)) → Option Stop → End → List ℕ → List ℕ → Type 0
-  EndsWith phases stop ends.Done numbers text = (stop ≡ None) × Answered outcome line reply phases true numbers text
-  EndsWith phases stop (ends.Stopped why) numbers text = (stop ≡ Some why) × Answered outcome line reply phases true numbers text
-  EndsWith phases stop end numbers text = Answered outcome line reply phases false numbers text
+module _ {C Q : Type 0} (rows : List Row) (lines : List (Vec ℕ Global)) (acts : List (Act C Q)) (numbers numbers' : List ℕ) (out out' : Option (List ℕ)) where
+  -- the acts are told by the rows and lines, and the numbers of their asks stand behind the others
+  abbrev pub AddsTold : ℕ → List ℕ → Type 0
+  AddsTold hits text = (own : List ℕ) × IsTold rows lines acts own hits text × (numbers' ≡ numbers ++ own)
 
-module _ {P T C Q : Type 0} (outcome : C → Option T → Result T (List ℕ)) (line : C → ℕ → Result ℕ (List ℕ) → List ℕ) (reply : Q → ℕ → ℕ → Option T → List ℕ) (loaded : P → Files → Result (List (Act C Q)) Stop) where
+  -- the text of the acts was taken
+  abbrev pub IsWritten : ℕ → Type 0
+  IsWritten hits = (text : List ℕ) × Appends out out' text × AddsTold hits text
+
+  -- Where a write failed a front of the text was taken, and where memory was wanting nothing or all.
+  abbrev pub IsCutOff : End → Type 0
+  IsCutOff ends.WriteFault = (hits : ℕ) × (text : List ℕ) × TakesFront out out' text × AddsTold hits text
+  IsCutOff ends.Memory = ((numbers' ≡ numbers) × (out' ≡ out)) ⊎ ((hits : ℕ) × IsWritten hits)
+  IsCutOff end = ⊥
+
+module _ {T C Q : Type 0} (outcome : C → Option T → Result T (List ℕ)) (line : C → ℕ → Result ℕ (List ℕ) → List ℕ) (reply : Q → ℕ → ℕ → Option T → List ℕ) where
+  -- Where nothing failed, all phases are answered, up to that at which the files end the session. Where reading failed, those before
+  -- one that may read a file are; else some of the first. `reads` says of each phase of the plan whether it may.
+  abbrev pub EndsWith : List (List (Act C Q)) → Option Stop → List Bool → End → List ℕ → List ℕ → Type 0
+  EndsWith phases stop reads ends.Done numbers text = (stop ≡ None) × Answered outcome line reply phases true numbers text
+  EndsWith phases stop reads (ends.Stopped why) numbers text = (stop ≡ Some why) × Answered outcome line reply phases true numbers text
+  EndsWith phases stop reads ends.ReadFault numbers text = (part : Answered outcome line reply phases false numbers text) × IsTrue (slice_index_or reads part.count false)
+  EndsWith phases stop reads end numbers text = Answered outcome line reply phases false numbers text
+
+module _ {P T C Q : Type 0} (outcome : C → Option T → Result T (List ℕ)) (line : C → ℕ → Result ℕ (List ℕ) → List ℕ) (reply : Q → ℕ → ℕ → Option T → List ℕ) (loaded : P → Files → Result (List (Act C Q)) Stop) (reads : P → Bool) where
   -- A run over what a shelf tells: the output took its text, and where the files are told it is that of the phases over them.
   pub record Ran (told : Option Files) (plan : List P) (end : End) (numbers : List ℕ) (out out' : Option (List ℕ)) : Type 0 where
     pub text : List ℕ
-    pub answer : (files : Files) → told ≡ Some files → EndsWith outcome line reply (phases_over loaded files plan) (stop_over loaded files plan) end numbers text
+    pub answer : (files : Files) → told ≡ Some files → EndsWith outcome line reply (phases_over loaded files plan) (stop_over loaded files plan) (map reads plan) end numbers text
     pub taken : TakesText end out out' text

@@ -1,9 +1,9 @@
 //! Phases that are loaded from a shelf.
-ghost use Rattle.std.specs.Prelude.{◌≡◌, ℕ, List, Option, Some, Result, length, IfOk, IfErr};
+ghost use Rattle.std.specs.Prelude.{◌≡◌, ℕ, Bool, true, List, Option, Some, Result, length, IfOk, IfErr};
 ghost use Rattle.gufi_io.specs.Files.{Files};
 ghost use Rattle.gufi_io.specs.Kept.{Keeps};
 ghost use Rattle.gufi_phases.specs.declared.act.Act.{Act};
-ghost use Rattle.gufi_phases.specs.Loads.{LoadsAs, LoadFaultHasCause};
+ghost use Rattle.gufi_phases.specs.Loads.{LoadsAs, FailsOnlyIf, LoadFaultHasCause};
 
 use crate::act::Act;
 use gufi_base::Text;
@@ -47,10 +47,14 @@ pub trait Load<C: Drop, Q: Drop, F: Shelf> {
     /// How many acts it has.
     ghost size: { Self → ℕ };
 
+    /// Whether it may read a file.
+    ghost reads: { Self → Bool } = { λ _. true };
+
     /// Reads the files, and makes the acts that are carried out.
     fn load(&self, alloc: Global, shelf: &mut F) -> Result<Vec<Act<C, Q>>, LoadFault>
         ensures told { (files : Files) → F.files shelf.old ≡ Some files → LoadsAs (loaded self.now files) result }
         ensures size { IfOk result (λ acts. length acts.items ≡ size self.now) }
+        ensures reads { IfErr result (FailsOnlyIf (reads self.now)) }
         ensures cause { IfErr result (LoadFaultHasCause F.Shelf shelf.old shelf.new) }
         ensures kept { Keeps F.Shelf shelf.old shelf.new };
 }

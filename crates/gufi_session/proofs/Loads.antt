@@ -1,7 +1,8 @@
 -- What comes of reading the files of a phase in order, where the shelf tells them.
-use Rattle.std.proofs.Common.{◌≡◌, ℕ, ◌+◌, ◌<◌, ◌≤◌, Bool, List, [], ◌∷◌, ◌++◌, length, take, drop, map, get_or, length-append, refl, sym, ap, ◌∙◌, subst, arith}
-use Rattle.std.specs.Prelude.{Option, Some, None, Result, Ok, Err}
+use Rattle.std.proofs.Common.{◌≡◌, ℕ, ◌+◌, ◌<◌, ◌≤◌, Bool, true, List, [], ◌∷◌, ◌++◌, length, take, drop, map, get_or, length-append, refl, sym, ap, ◌∙◌, subst, arith}
+use Rattle.std.specs.Prelude.{Option, Some, None, is_some, Result, Ok, Err}
 use Rattle.std.proofs.lemmas.Bool.{le-ltb, lt-ltb}
+use Rattle.std.proofs.lemmas.List.Folds.{list_any_at}
 use Rattle.std.proofs.lemmas.List.{drop_more, take_more, drop_all, take_all, map-append}
 use Rattle.gufi_base.specs.Limits.{max_trace}
 use Rattle.gufi_base.specs.Basics.{◌>>=◌, ◌>>◌, refuse}
@@ -10,9 +11,9 @@ use Rattle.gufi_phases.specs.declared.load.Stop.{Stop}
 use Rattle.gufi_phases.specs.declared.load.Stop.TheVariants.{NoFile, TooLong}
 use Rattle.gufi_phases.specs.declared.load.LoadFault.{LoadFault}
 use Rattle.gufi_phases.specs.declared.load.LoadFault.TheVariants.{Stopped, ReadFault, Memory}
-use Rattle.gufi_phases.specs.Loads.{LoadsAs}
+use Rattle.gufi_phases.specs.Loads.{LoadsAs, FailsOnlyIf}
 use Rattle.gufi_plan.specs.declared.act.PlannedAct.{PlannedAct}
-use Rattle.gufi_session.specs.Run.{with_file, after_act, named_file, phase_bytes}
+use Rattle.gufi_session.specs.Run.{with_file, after_act, named_file, reads_files, phase_bytes}
 use Rattle.gufi_session.specs.Loaded.{LoadedAct, loaded, loaded_phase, load_phase}
 use Rattle.gufi_session.specs.Loading.{IsStopOf}
 
@@ -90,3 +91,15 @@ one_stops files phase at before act acts fault inside here is stops =
     let whole : phase_bytes files 0 phase ≡ (after_act files before (named_file act) >>= later) = is.counted ∙ rest_here files phase at before act inside here in
     subst (λ r. LoadsAs (r >>= all) (Err fault)) (sym whole)
     (stop_loads ((after_act files before (named_file act) >>= later) >>= all) fault (stops_on (after_act files before (named_file act) >>= later) all fault (stops_on (after_act files before (named_file act)) later fault stops)))
+
+-- ---- where reading fails
+
+pub may_fail : (fault : LoadFault) → FailsOnlyIf true fault
+may_fail (Stopped stop) = tt
+may_fail ReadFault = refl
+may_fail Memory = tt
+
+pub one_fails : (phase : List PlannedAct) (at : ℕ) (act : PlannedAct) (fault : LoadFault) → at < length phase → act ≡ get_or phase at act → FailsOnlyIf (is_some (named_file act)) fault → FailsOnlyIf (reads_files phase) fault
+one_fails phase at act (Stopped stop) inside here may = tt
+one_fails phase at act ReadFault inside here may = list_any_at (λ a. is_some (named_file a)) phase at act inside (ap (λ a. is_some (named_file a)) (sym here) ∙ may)
+one_fails phase at act Memory inside here may = tt

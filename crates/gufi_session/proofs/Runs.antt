@@ -1,6 +1,6 @@
 -- A run of phases that are loaded from the files is the run of the plan.
-use Rattle.std.proofs.Common.{◌≡◌, ℕ, ◌+◌, ◌≤◌, Bool, true, false, List, [], ◌∷◌, length, take, map, refl, sym, ap, ◌∙◌, subst}
-use Rattle.std.specs.Prelude.{Option, Some, None, Result, Ok, Err, IsTrue}
+use Rattle.std.proofs.Common.{◌≡◌, ℕ, zero, suc, ◌+◌, ◌≤◌, Bool, true, false, List, [], ◌∷◌, length, take, map, refl, sym, ap, ◌∙◌, subst, arith}
+use Rattle.std.specs.Prelude.{slice_index_or, Option, Some, None, Result, Ok, Err, IsTrue}
 use Rattle.std.proofs.lemmas.List.{length-map, take-map}
 use Rattle.gufi_base.specs.Basics.{◌>>=◌}
 use Rattle.gufi_io.specs.Files.{Files}
@@ -11,9 +11,9 @@ use Rattle.gufi_phases.specs.Loads.{phases_over, stop_over, total_size, with_loa
 use Rattle.gufi_phases.specs.Sessions as sessions
 use Rattle.gufi_plan.specs.Plan.{Plan, act_count}
 use Rattle.gufi_plan.specs.declared.act.PlannedAct.{PlannedAct}
-use Rattle.gufi_session.specs.Run.{Run, run_of, run_behind, phase_bytes}
+use Rattle.gufi_session.specs.Run.{Run, run_of, run_behind, reads_files, phase_bytes}
 use Rattle.gufi_session.specs.Loaded.{LoadedAct, loaded_phase, load_phase, command_outcome, command_line, search_reply}
-use Rattle.gufi_session.specs.Ends.{Answered, SessionEndsWith, MayEndSession}
+use Rattle.gufi_session.specs.Ends.{Answered, SessionEndsWith, MayEndSession, MayBreakOff, reads_behind}
 use Rattle.gufi_session.proofs.Joined.{answered}
 
 pub total_counts : (plan : Plan) → total_size (λ (phase : List PlannedAct). length phase) plan ≡ act_count plan
@@ -43,19 +43,36 @@ unfolding stop_over load_phase run_of
 stop_same files [] = refl
 stop_same files (phase ∷ plan) = stops_behind files phase (stop_over load_phase files plan) (run_of files plan) (phase_bytes files 0 phase) (stop_same files plan)
 
+-- ---- the phases that name files
+
+reads_step : (phase : List PlannedAct) (rest : Run) (reads : List Bool) (bytes : Result ℕ Stop) (count : ℕ) → ((n : ℕ) → n ≤ length rest.plan → slice_index_or reads n false ≡ true → reads_behind rest.plan rest.stop n ≡ true)
+    → count ≤ length (run_behind phase rest bytes).plan → slice_index_or (reads_files phase ∷ reads) count false ≡ true → reads_behind (run_behind phase rest bytes).plan (run_behind phase rest bytes).stop count ≡ true
+unfolding reads_behind
+reads_step phase rest reads (Ok n) zero later within is = is
+reads_step phase rest reads (Ok n) (suc count) later within is = later count (omega arith) is
+reads_step phase rest reads (Err stop) zero later within is = refl
+reads_step phase rest reads (Err stop) (suc count) later within is = absurd (omega arith)
+
+reads_same : (files : Files) (plan : Plan) (count : ℕ) → count ≤ length (run_of files plan).plan → slice_index_or (map reads_files plan) count false ≡ true → reads_behind (run_of files plan).plan (run_of files plan).stop count ≡ true
+unfolding run_of reads_behind
+reads_same files [] zero within is = is
+reads_same files [] (suc count) within is = is
+reads_same files (phase ∷ plan) count within is = reads_step phase (run_of files plan) (map reads_files plan) (phase_bytes files 0 phase) count (reads_same files plan) within is
+
 -- ---- how they end
 
 abbrev AnsweredPhases : List (List LoadedAct) → Bool → List ℕ → List ℕ → Type 0
 AnsweredPhases phases whole numbers text = sessions.Answered command_outcome command_line search_reply phases whole numbers text
 
 -- where phases are answered, those of the plan are
-in_part : (files : Files) (plan : Plan) (whole : Bool) (numbers text : List ℕ) → AnsweredPhases (phases_over load_phase files plan) whole numbers text
-    → (count : ℕ) × (IsTrue whole → count ≡ length (run_of files plan).plan) × Answered files (run_of files plan) count numbers text
+in_part : (files : Files) (plan : Plan) (whole : Bool) (numbers text : List ℕ) (is : AnsweredPhases (phases_over load_phase files plan) whole numbers text)
+    → (count : ℕ) × (count ≡ is.count) × (IsTrue whole → count ≡ length (run_of files plan).plan) × Answered files (run_of files plan) count numbers text
 in_part files plan whole numbers text is =
     let run = run_of files plan in let same = phases_same files plan in
     let long : length (phases_over load_phase files plan) ≡ length run.plan = ap (λ l. length l) same ∙ length-map run.plan (loaded_phase files) in
     let front : take is.count (phases_over load_phase files plan) ≡ map (loaded_phase files) (take is.count run.plan) = ap (take is.count) same ∙ take-map (loaded_phase files) is.count run.plan in (
       is.count,
+      refl,
       λ all. is.all all ∙ long,
       answered files run is.count numbers text (subst (λ n. is.count ≤ n) long is.within) (subst (λ l. sessions.IsSession command_outcome command_line search_reply [] None 1 1 l numbers text) front is.session),
     )
@@ -63,16 +80,33 @@ in_part files plan whole numbers text is =
 in_whole : (files : Files) (plan : Plan) (numbers text : List ℕ) → AnsweredPhases (phases_over load_phase files plan) true numbers text
     → Answered files (run_of files plan) (length (run_of files plan).plan) numbers text
 in_whole files plan numbers text is =
-    let part = in_part files plan true numbers text is in subst (λ n. Answered files (run_of files plan) n numbers text) (part.1 refl) part.2
+    let part = in_part files plan true numbers text is in subst (λ n. Answered files (run_of files plan) n numbers text) (part.2 refl) part.3
 
 pub ends_same : (files : Files) (plan : Plan) (end : End) (numbers text : List ℕ)
-    → EndsWith command_outcome command_line search_reply (phases_over load_phase files plan) (stop_over load_phase files plan) end numbers text
+    → EndsWith command_outcome command_line search_reply (phases_over load_phase files plan) (stop_over load_phase files plan) (map reads_files plan) end numbers text
     → SessionEndsWith files (run_of files plan) end numbers text
 ends_same files plan ends.Done numbers text is = (sym (stop_same files plan) ∙ is.0, in_whole files plan numbers text is.1)
 ends_same files plan (ends.Stopped stop) numbers text is = (sym (stop_same files plan) ∙ is.0, in_whole files plan numbers text is.1)
-ends_same files plan ends.ReadFault numbers text is = let part = in_part files plan false numbers text is in (part.0, part.2)
-ends_same files plan ends.WriteFault numbers text is = let part = in_part files plan false numbers text is in (part.0, part.2)
-ends_same files plan ends.Memory numbers text is = let part = in_part files plan false numbers text is in (part.0, part.2)
+ends_same files plan ends.ReadFault numbers text is = let part = in_part files plan false numbers text is.0 in (part.0, part.3)
+ends_same files plan ends.WriteFault numbers text is = let part = in_part files plan false numbers text is in (part.0, part.3)
+ends_same files plan ends.Memory numbers text is = let part = in_part files plan false numbers text is in (part.0, part.3)
+
+-- where reading failed, before a phase that names a file
+breaks_same : (files : Files) (plan : Plan) (end : End) (numbers text : List ℕ)
+    → EndsWith command_outcome command_line search_reply (phases_over load_phase files plan) (stop_over load_phase files plan) (map reads_files plan) end numbers text
+    → MayBreakOff (Some files) plan end numbers text
+breaks_same files plan ends.Done numbers text is = tt
+breaks_same files plan (ends.Stopped stop) numbers text is = tt
+breaks_same files plan ends.ReadFault numbers text is =
+    let part = in_part files plan false numbers text is.0 in (part.0, part.3, reads_same files plan part.0 part.3.within (subst (λ n. slice_index_or (map reads_files plan) n false ≡ true) (sym part.1) is.1))
+breaks_same files plan ends.WriteFault numbers text is = tt
+breaks_same files plan ends.Memory numbers text is = tt
+
+pub may_break : (told : Option Files) (plan : Plan) (end : End) (numbers text : List ℕ)
+    → ((files : Files) → told ≡ Some files → EndsWith command_outcome command_line search_reply (phases_over load_phase files plan) (stop_over load_phase files plan) (map reads_files plan) end numbers text)
+    → MayBreakOff told plan end numbers text
+may_break None plan end numbers text is = tt
+may_break (Some files) plan end numbers text is = breaks_same files plan end numbers text (is files refl)
 
 pub may_end : (told : Option Files) (plan : Plan) (end : End) (numbers text : List ℕ) → ((files : Files) → told ≡ Some files → SessionEndsWith files (run_of files plan) end numbers text) → MayEndSession told plan end numbers text
 may_end None plan end numbers text is = tt

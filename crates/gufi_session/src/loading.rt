@@ -1,11 +1,12 @@
 //! The files of a phase.
-ghost use Rattle.std.specs.Prelude.{◌≡◌, ◌≤◌, ◌+◌, Some, length, IfOk, IfErr};
+ghost use Rattle.std.specs.Prelude.{◌≡◌, ◌≤◌, ◌+◌, Some, is_some, length, IfOk, IfErr};
 ghost use Rattle.gufi_base.specs.Limits.{max_trace};
 ghost use Rattle.gufi_io.specs.Files.{Files};
 ghost use Rattle.gufi_io.specs.Kept.{Keeps};
-ghost use Rattle.gufi_phases.specs.Loads.{LoadsAs, LoadFaultHasCause};
+ghost use Rattle.gufi_phases.specs.Loads.{LoadsAs, FailsOnlyIf, LoadFaultHasCause};
 ghost use Rattle.gufi_session.specs.Loaded.{load_phase};
 ghost use Rattle.gufi_session.specs.Loading.{ReadsAs, ActLoadsAs};
+ghost use Rattle.gufi_session.specs.Run.{named_file, reads_files};
 
 use crate::publishing::Publishing;
 use crate::reply::Asking;
@@ -67,6 +68,7 @@ fn load_act<F: Shelf>(
     requires { before ≤ max_trace }
     ensures told { (files : Files) → F.files shelf.old ≡ Some files → ActLoadsAs files before act.now result }
     ensures within { IfOk result (λ step. step.1 ≤ max_trace) }
+    ensures reads { IfErr result (FailsOnlyIf (is_some (named_file act.now))) }
     ensures cause { IfErr result (LoadFaultHasCause F.Shelf shelf.old shelf.new) }
     ensures kept { Keeps F.Shelf shelf.old shelf.new }
 {
@@ -122,6 +124,7 @@ fn load_acts<F: Shelf>(
 ) -> Result<Vec<Act<Publishing, Asking>>, LoadFault>
     ensures told { (files : Files) → F.files shelf.old ≡ Some files → LoadsAs (load_phase phase.now files) result }
     ensures size { IfOk result (λ acts. length acts.items ≡ length phase.now) }
+    ensures reads { IfErr result (FailsOnlyIf (reads_files phase.now)) }
     ensures cause { IfErr result (LoadFaultHasCause F.Shelf shelf.old shelf.new) }
     ensures kept { Keeps F.Shelf shelf.old shelf.new }
 {
@@ -146,10 +149,13 @@ fn load_acts<F: Shelf>(
 impl<F: Shelf> Load<Publishing, Asking, F> for Items<PlannedAct> {
     ghost use Rattle.std.specs.Prelude.{length};
     ghost use Rattle.gufi_session.specs.Loaded.{load_phase};
+    ghost use Rattle.gufi_session.specs.Run.{reads_files};
 
     ghost loaded = { load_phase };
 
     ghost size = { λ phase. length phase };
+
+    ghost reads = { reads_files };
 
     fn load(
         &self,

@@ -192,7 +192,7 @@ fn put_body<R: Threads + Wait + Sync, G: Gate + Sync>(
 ) -> Result<(), Memory>
     ensures { OnOk result (text.new.items ≡ text.old.items ++ reply_body search.now snap.now.tree) }
 {
-    let (who, start) = (&search.who, &search.start);
+    let (who, start) = (search.who.get(), &search.start);
     match &search.query {
         Query::Finds { find } => put_found(walkers, alloc, text, snap, who, start, find),
         Query::Totals { find } => put_total(walkers, alloc, text, snap, who, start, find),

@@ -1,11 +1,14 @@
 use Rattle.std.proofs.Common.{[], ◌∷◌, length, length-append, ap, ◌∙◌, arith}
-use Rattle.gufi_session.proofs.Loads.{one_loaded, all_loaded, one_stops}
+use Rattle.gufi_session.proofs.Loads.{one_loaded, all_loaded, one_stops, one_fails}
 use Rattle.gufi_session.proofs.loading.load_acts.Goals as goal
 
 pub returns-in-Err-clause-told : goal.returns-in-Err-clause-told
 returns-in-Err-clause-told g c =
     λ files is. one_stops files c.args.phase.now c.loop-act.act-index c.loop-act.before c.act-item.result c.loop-act.acts.items c.in-Err.fault c.loop-act-test.true c.act-item.is (c.loop-act.invariant.told files is)
     (c.in-Err.ensures.told files (c.loop-act.invariant.same ∙ is))
+
+pub returns-in-Err-clause-reads : goal.returns-in-Err-clause-reads
+returns-in-Err-clause-reads g c = one_fails c.args.phase.now c.loop-act.act-index c.act-item.result c.in-Err.fault c.loop-act-test.true c.act-item.is c.in-Err.ensures.reads
 
 pub returns-clause-told : goal.returns-clause-told
 returns-clause-told g c =

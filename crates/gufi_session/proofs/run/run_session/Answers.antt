@@ -3,9 +3,9 @@ use Rattle.std.proofs.Common.{◌≡◌, ◌<◌, ◌^◌, sym, ap, subst, arith
 use Rattle.gufi_plan.specs.Plan.{act_count}
 use Rattle.gufi_plan.specs.Asks.{AsksTell}
 use Rattle.gufi_plan.proofs.Sharing.{shared_sync}
-use Rattle.gufi_session.specs.Ends.{MayEndSession}
+use Rattle.gufi_session.specs.Ends.{MayEndSession, MayBreakOff}
 use Rattle.gufi_session.proofs.Alike.{loaded_alike}
-use Rattle.gufi_session.proofs.Runs.{total_counts, ends_same, may_end}
+use Rattle.gufi_session.proofs.Runs.{total_counts, ends_same, may_end, may_break}
 use Rattle.gufi_session.proofs.run.run_session.Goals as goal
 
 pub run_session-requires-sync-Q : goal.run_session-requires-sync-Q
@@ -29,5 +29,7 @@ returns-clause-ended g c =
       text = ran.text;
       answer = subst (λ p. MayEndSession (g.F.Shelf.files c.args.shelf.now) p c.run_session.result.end c.run_session.result.numbers.items ran.text) c.phases.ensures.phases
           (may_end _ _ _ _ _ (λ files is. ends_same files _ _ _ _ (ran.answer files is)));
+      broken = subst (λ p. MayBreakOff (g.F.Shelf.files c.args.shelf.now) p c.run_session.result.end c.run_session.result.numbers.items ran.text) c.phases.ensures.phases
+          (may_break _ _ _ _ _ ran.answer);
       taken = ran.taken;
     }
