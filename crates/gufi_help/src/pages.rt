@@ -107,7 +107,7 @@ macro_rules! completions {
 /// The program's own pages, of one table.
 pub const PAGES: Pages = Pages {
     usage: table!(usage),
-    version: "gufi 0.1.0\n",
+    version: "gufi 0.2.0\n",
     manual: table!(manual),
     completions: table!(completions),
     commands: &table!(command_pages),

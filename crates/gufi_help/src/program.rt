@@ -1,10 +1,12 @@
 //! One run of the program: a page, or what `gufi_top` makes of the words.
-ghost use Rattle.std.specs.Prelude.{◌≡◌, ◌≢◌, ◌⊎◌, [], None, IfSome, IsSome, IsTrue};
+ghost use Rattle.std.specs.Prelude.{◌≡◌, ◌≢◌, ◌≤◌, ◌⊎◌, [], None, IfErr, IfSome, IsSome, IsTrue};
 ghost use Rattle.std.specs.Io.KnownBytes.{Appends};
 ghost use Rattle.gufi_io.specs.Causes.{Rose};
 ghost use Rattle.gufi_words.specs.WordTexts.{texts};
-ghost use Rattle.gufi_top.specs.Verdict.{are_one_shot, may_refuse_words};
+ghost use Rattle.gufi_top.specs.Verdict.{are_one_shot, command_in, MayRefuseWords};
 ghost use Rattle.gufi_top.specs.Ends.{IsVerdictStatus, Ended, WriteFaulted, BrokenOff, TakesNote, read_fault_note, memory_note};
+ghost use Rattle.gufi_top.specs.Endings.{RefusalTells, TellsOneOf};
+ghost use Rattle.gufi_top.specs.Complete.{Completes};
 ghost use Rattle.gufi_help.specs.Pages.{page_of};
 ghost use Rattle.gufi_help.specs.Shown.{IsShown, CutShort};
 
@@ -60,8 +62,13 @@ pub fn run<R: Threads + Wait + Sync, F: Shelf, K: Sink, G: Gate + Sync>(
 
     // All that `gufi_run` promises, where no page is asked for.
     ensures ended { page_of pages.now (texts words.now) ≡ None → IsVerdictStatus result.status → Ended K.Sink (F.files shelf.old) (texts words.now) result out.old out.new notes.old notes.new }
-    ensures words { page_of pages.now (texts words.now) ≡ None → result.status ≡ 2 → IsTrue (may_refuse_words (texts words.now)) }
+    ensures complete { page_of pages.now (texts words.now) ≡ None → Completes F.Shelf K.Sink (texts words.now) result.status result.numbers.items shelf.old shelf.new out.old out.new notes.old notes.new }
+    ensures refused { page_of pages.now (texts words.now) ≡ None → IfErr (command_in (texts words.now)) (λ why. RefusalTells K.Sink why result.status notes.old notes.new
+        × (result.numbers.items ≡ []) × (shelf.new ≡ shelf.old) × (out.new ≡ out.old)) }
+    ensures words { page_of pages.now (texts words.now) ≡ None → result.status ≡ 2 → TellsOneOf K.Sink (MayRefuseWords (texts words.now)) notes.old notes.new }
+    ensures known { page_of pages.now (texts words.now) ≡ None → result.status ≤ 8 }
     ensures silent { page_of pages.now (texts words.now) ≡ None → IsTrue (are_one_shot (texts words.now)) → result.status ≢ 0 → result.status ≢ 4 → out.new ≡ out.old }
+    ensures same { page_of pages.now (texts words.now) ≡ None → F.files shelf.new ≡ F.files shelf.old }
     ensures absent { page_of pages.now (texts words.now) ≡ None → result.status ≡ 8 → Rose (F.absents shelf.old) (F.absents shelf.new) }
     ensures read_fault { page_of pages.now (texts words.now) ≡ None → result.status ≡ 3 → Rose (F.faults shelf.old) (F.faults shelf.new)
         × BrokenOff K.Sink (F.files shelf.old) (texts words.now) result out.old out.new notes.old notes.new read_fault_note }

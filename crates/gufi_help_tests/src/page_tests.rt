@@ -11,7 +11,7 @@ const RUNS: [&str; 13] = [
     "--help;;0;usage: gufi COMMAND;",
     "-h;;0;usage: gufi COMMAND;",
     "help;;0;usage: gufi COMMAND;",
-    "--version;;0;gufi 0.1.0\n;",
+    "--version;;0;gufi 0.2.0\n;",
     "find --help;;0;usage: gufi find ;",
     "session -h;;0;usage: gufi session ;",
     "--man;;0;.\\\" Made by: gufi --man\n;",

@@ -1,5 +1,5 @@
 -- Lemmas on how a run ends.
-use Rattle.std.proofs.Common.{◌≡◌, ◌≢◌, ◌⊎◌, ⊎_elim, ℕ, List, [], length, refl, sym, ◌∙◌, inl, inr, arith}
+use Rattle.std.proofs.Common.{◌≡◌, ◌≢◌, ◌≤◌, ◌⊎◌, ⊎_elim, ℕ, List, [], length, refl, sym, ◌∙◌, inl, inr, arith}
 use Rattle.std.specs.Prelude.{Option, Some, None, option_map, Result, Ok, Err, Vec}
 use Rattle.std.specs.declared.alloc.Global.{Global}
 use Rattle.std.specs.Io.KnownBytes.{Appends}
@@ -22,10 +22,10 @@ use Rattle.gufi_session.specs.Ends.{Answered, AnsweredInPart, SessionEnded, MayE
 use Rattle.gufi_session.specs.Hits.{session_hits}
 use Rattle.gufi_top.specs.Reasons.{Reason, stop_reason}
 use Rattle.gufi_top.specs.Verdict.{Verdict, writes, runs, run_over}
-use Rattle.gufi_top.specs.Calls.{GivesOver, OfWordsOnlyIf, IsPastWords, HaltHasCause}
+use Rattle.gufi_top.specs.Calls.{GivesOver, OfWordsOnlyBy, IsPastWords, HaltHasCause}
 use Rattle.gufi_top.specs.Views.{text_view}
 use Rattle.gufi_top.specs.Ends.{IsVerdictStatus, BreaksOff, MayBreakOff, MayBeCut, TakesNote, EndedBy, BrokenOffBy, TextEnds, WriteFaultedBy, hits_note, read_fault_note, memory_note}
-use Rattle.gufi_top.specs.Endings.{HasRun, HaltTells, DoneTells, EndTells}
+use Rattle.gufi_top.specs.Endings.{HasRun, HaltTells, TellsOneOf, DoneTells, EndTells}
 use Rattle.gufi_top.proofs.HitLemmas.{kept_told}
 use Rattle.gufi_top.specs.declared.halt.Output.{Output}
 use Rattle.gufi_top.specs.declared.halt.Halt.{Halt}
@@ -34,42 +34,50 @@ use Rattle.gufi_top.specs.declared.halt.Halt.TheVariants as halts
 -- ---- by its status
 
 module _ {F K : Type 0} {shelf : ShelfOf F} {sink : SinkOf K} {given : Option (Result Verdict Reason)} {status : ℕ} {numbers : List ℕ} {before after : F} {out out' notes notes' : K} where
-  as_ended : IsVerdictStatus status → (status ≡ 8 → Rose (shelf.absents before) (shelf.absents after)) → EndedBy sink given status numbers out out' notes notes'
+  as_ended : IsVerdictStatus status → status ≤ 8 → shelf.files after ≡ shelf.files before → (status ≡ 8 → Rose (shelf.absents before) (shelf.absents after)) → EndedBy sink given status numbers out out' notes notes'
       → HasRun shelf sink given status numbers before after out out' notes notes'
-  as_ended good absent ended = record {
+  as_ended good few same absent ended = record {
     ended = λ _. ended;
     absent = absent;
     read_fault = λ e. absurd (good.0 e);
     write_fault = λ e. absurd (good.1 e);
     memory = λ e. absurd (good.2 e);
+    known = few;
+    same = same;
   }
 
-  as_read_fault : status ≡ 3 → Rose (shelf.faults before) (shelf.faults after) → BrokenOffBy sink given numbers out out' notes notes' read_fault_note
+  as_read_fault : status ≡ 3 → shelf.files after ≡ shelf.files before → Rose (shelf.faults before) (shelf.faults after) → BrokenOffBy sink given numbers out out' notes notes' read_fault_note
       → HasRun shelf sink given status numbers before after out out' notes notes'
-  as_read_fault is rose broken = record {
+  as_read_fault is same rose broken = record {
     ended = λ good. absurd (good.0 is);
     absent = λ e. absurd (omega arith);
     read_fault = λ _. (rose, broken);
     write_fault = λ e. absurd (omega arith);
     memory = λ e. absurd (omega arith);
+    known = omega arith;
+    same = same;
   }
 
-  as_write_fault : status ≡ 4 → WriteFaultedBy sink given numbers out out' notes notes' → HasRun shelf sink given status numbers before after out out' notes notes'
-  as_write_fault is cut = record {
+  as_write_fault : status ≡ 4 → shelf.files after ≡ shelf.files before → WriteFaultedBy sink given numbers out out' notes notes' → HasRun shelf sink given status numbers before after out out' notes notes'
+  as_write_fault is same cut = record {
     ended = λ good. absurd (good.1 is);
     absent = λ e. absurd (omega arith);
     read_fault = λ e. absurd (omega arith);
     write_fault = λ _. cut;
     memory = λ e. absurd (omega arith);
+    known = omega arith;
+    same = same;
   }
 
-  as_memory : status ≡ 7 → BrokenOffBy sink given numbers out out' notes notes' memory_note → HasRun shelf sink given status numbers before after out out' notes notes'
-  as_memory is broken = record {
+  as_memory : status ≡ 7 → shelf.files after ≡ shelf.files before → BrokenOffBy sink given numbers out out' notes notes' memory_note → HasRun shelf sink given status numbers before after out out' notes notes'
+  as_memory is same broken = record {
     ended = λ good. absurd (good.2 is);
     absent = λ e. absurd (omega arith);
     read_fault = λ e. absurd (omega arith);
     write_fault = λ e. absurd (omega arith);
     memory = λ _. broken;
+    known = omega arith;
+    same = same;
   }
 
 -- what was read before changes nothing
@@ -81,6 +89,8 @@ run_later shelf sink kept run = record {
   read_fault = λ e. let fault = run.read_fault e in let rose = fault.0 in let more = kept.faults in (omega arith, fault.1);
   write_fault = run.write_fault;
   memory = run.memory;
+  known = run.known;
+  same = run.same ∙ kept.files;
 }
 
 -- ---- where nothing is written
@@ -111,12 +121,12 @@ module _ {F K : Type 0} (shelf : ShelfOf F) (sink : SinkOf K) (step : Files → 
       record { text = []; note = note.items; answer = rw given (refl, refl, refl, refl); taken = Appends-nil (sink.taken out); noted = rw given noted }
 
   pub halted_run : (told : Option Files) (halt : Halt) {status : ℕ} {numbers : List ℕ} {before after : F} {out notes notes' : K}
-      → GivesOver told text_view (Err halt) step → HaltHasCause shelf before after halt → HaltTells sink halt status notes notes' → numbers ≡ []
+      → GivesOver told text_view (Err halt) step → HaltHasCause shelf before after halt → shelf.files after ≡ shelf.files before → HaltTells sink halt status notes notes' → numbers ≡ []
       → HasRun shelf sink (option_map step told) status numbers before after out out notes notes'
-  halted_run told (halts.Refused reason note) given cause told_by none =
-      rw (told_by.0, none) (as_ended cause.0 cause.1 (refused told reason note _ _ _ given told_by.1))
-  halted_run told halts.ReadFault given cause told_by none = as_read_fault told_by.0 cause (broken_off sink _ _ _ _ _ _ none told_by.1)
-  halted_run told halts.Memory given cause told_by none = as_memory told_by.0 (broken_off sink _ _ _ _ _ _ none told_by.1)
+  halted_run told (halts.Refused reason note) given cause same told_by none =
+      rw (told_by.0, none) (as_ended cause.0.0 cause.0.1 same cause.1 (refused told reason note _ _ _ given told_by.1))
+  halted_run told halts.ReadFault given cause same told_by none = as_read_fault told_by.0 same cause (broken_off sink _ _ _ _ _ _ none told_by.1)
+  halted_run told halts.Memory given cause same told_by none = as_memory told_by.0 same (broken_off sink _ _ _ _ _ _ none told_by.1)
 
   -- ---- a text that was written
 
@@ -132,13 +142,13 @@ module _ {F K : Type 0} (shelf : ShelfOf F) (sink : SinkOf K) (step : Files → 
   cut (Some files) output given = rw given (refl, refl, refl)
 
   pub written_run : (told : Option Files) (output : Output) {status : ℕ} {numbers : List ℕ} {before after : F} {out out' notes notes' : K}
-      → GivesOver told text_view (Ok output) step → numbers ≡ [] → (status ≡ 0) ⊎ (status ≡ 4)
+      → GivesOver told text_view (Ok output) step → shelf.files after ≡ shelf.files before → numbers ≡ [] → (status ≡ 0) ⊎ (status ≡ 4)
       → (status ≡ 0 → Appends (sink.taken out) (sink.taken out') output.out.items × Appends (sink.taken notes) (sink.taken notes') output.notes.items)
       → (status ≡ 4 → TextEnds sink out out' notes notes' output.out.items output.notes.items)
       → HasRun shelf sink (option_map step told) status numbers before after out out' notes notes'
-  written_run told output given none which good fault = ⊎_elim
-      (λ is. let done = good is in rw (is, none) (as_ended (λ e. omega arith, λ e. omega arith, λ e. omega arith) (λ e. absurd (omega arith)) (whole told output _ _ _ _ given done.0 done.1)))
-      (λ is. rw none (as_write_fault is (record { text = output.out.items; report = output.notes.items; answer = cut told output given; ends = fault is })))
+  written_run told output given same none which good fault = ⊎_elim
+      (λ is. let done = good is in rw (is, none) (as_ended (λ e. omega arith, λ e. omega arith, λ e. omega arith) (omega arith) same (λ e. absurd (omega arith)) (whole told output _ _ _ _ given done.0 done.1)))
+      (λ is. rw none (as_write_fault is same (record { text = output.out.items; report = output.notes.items; answer = cut told output given; ends = fault is })))
       which
 
 -- ---- a session
@@ -175,6 +185,10 @@ stop_good : (stop : Stop) → IsVerdictStatus (stop_reason stop).status
 stop_good (stops.NoFile file) = (λ e. omega arith, λ e. omega arith, λ e. omega arith)
 stop_good (stops.TooLong file) = (λ e. omega arith, λ e. omega arith, λ e. omega arith)
 
+stop_few : (stop : Stop) → (stop_reason stop).status ≤ 8
+stop_few (stops.NoFile file) = omega arith
+stop_few (stops.TooLong file) = omega arith
+
 stop_absent : {F : Type 0} (shelf : ShelfOf F) (before after : F) (stop : Stop) → StopHasCause shelf before after stop → (stop_reason stop).status ≡ 8 → Rose (shelf.absents before) (shelf.absents after)
 stop_absent shelf before after (stops.NoFile file) cause e = cause
 stop_absent shelf before after (stops.TooLong file) cause e = absurd (omega arith)
@@ -204,39 +218,40 @@ module _ {F K : Type 0} (shelf : ShelfOf F) (sink : SinkOf K) where
   -- all phases are written, and then the note
   session_done : (told : Option Files) (plan : Plan) (cache hits : ℕ) {status : ℕ} {numbers : List ℕ} {before after : F} {out out' notes notes' : K}
       → SessionEnded told plan ends.Done numbers (sink.taken out) (sink.taken out') → AreHits told plan cache ends.Done hits numbers → DoneTells sink (hits_note cache hits (length numbers)) status notes notes'
-      → HasRun shelf sink (option_map (run_over cache plan) told) status numbers before after out out' notes notes'
-  session_done told plan cache hits e are (inl is) =
-      rw is.0 (as_ended (λ e. omega arith, λ e. omega arith, λ e. omega arith) (λ e. absurd (omega arith)) (done told plan cache hits _ _ _ _ _ e are is.1))
-  session_done told plan cache hits e are (inr (inl is)) = as_write_fault is.0 (record {
+      → shelf.files after ≡ shelf.files before → HasRun shelf sink (option_map (run_over cache plan) told) status numbers before after out out' notes notes'
+  session_done told plan cache hits e are (inl is) same =
+      rw is.0 (as_ended (λ e. omega arith, λ e. omega arith, λ e. omega arith) (omega arith) same (λ e. absurd (omega arith)) (done told plan cache hits _ _ _ _ _ e are is.1))
+  session_done told plan cache hits e are (inr (inl is)) same = as_write_fault is.0 same (record {
     text = e.text;
     report = hits_note cache hits (length _);
     answer = note_cut told plan cache hits _ e.text e.answer are;
     ends = record { cause = inr is.1; taken = took_all _ _ e.text e.taken; noted = inr (is.1, is.2) };
   })
-  session_done told plan cache hits e are (inr (inr is)) = as_memory is.0 (session_broken told plan cache ends.Done _ _ _ _ _ memory_note e e.taken is.1)
+  session_done told plan cache hits e are (inr (inr is)) same = as_memory is.0 same (session_broken told plan cache ends.Done _ _ _ _ _ memory_note e e.taken is.1)
 
   pub session_run : (told : Option Files) (plan : Plan) (cache hits : ℕ) (end : End) {status : ℕ} {numbers : List ℕ} {before after : F} {out out' notes notes' : K}
       → SessionEnded told plan end numbers (sink.taken out) (sink.taken out') → AreHits told plan cache end hits numbers → EndHasCause shelf before after sink out out' end
-      → EndTells sink (hits_note cache hits (length numbers)) end status notes notes' → HasRun shelf sink (option_map (run_over cache plan) told) status numbers before after out out' notes notes'
-  session_run told plan cache hits ends.Done e are cause tells = session_done told plan cache hits e are tells
-  session_run told plan cache hits (ends.Stopped stop) e are cause tells = ⊎_elim
-      (λ is. rw is.0 (as_ended (stop_good stop) (stop_absent shelf _ _ stop cause) (stopped told plan cache stop _ _ _ _ _ e is.1)))
-      (λ is. as_memory is.0 (session_broken told plan cache (ends.Stopped stop) _ _ _ _ _ memory_note e e.taken is.1))
+      → shelf.files after ≡ shelf.files before → EndTells sink (hits_note cache hits (length numbers)) end status notes notes' → HasRun shelf sink (option_map (run_over cache plan) told) status numbers before after out out' notes notes'
+  session_run told plan cache hits ends.Done e are cause same tells = session_done told plan cache hits e are tells same
+  session_run told plan cache hits (ends.Stopped stop) e are cause same tells = ⊎_elim
+      (λ is. rw is.0 (as_ended (stop_good stop) (stop_few stop) same (stop_absent shelf _ _ stop cause) (stopped told plan cache stop _ _ _ _ _ e is.1)))
+      (λ is. as_memory is.0 same (session_broken told plan cache (ends.Stopped stop) _ _ _ _ _ memory_note e e.taken is.1))
       tells
-  session_run told plan cache hits ends.ReadFault e are cause tells = as_read_fault tells.0 cause (session_broken told plan cache ends.ReadFault _ _ _ _ _ read_fault_note e e.taken tells.1)
-  session_run told plan cache hits ends.WriteFault e are cause tells = as_write_fault tells.0 (record {
+  session_run told plan cache hits ends.ReadFault e are cause same tells = as_read_fault tells.0 same cause (session_broken told plan cache ends.ReadFault _ _ _ _ _ read_fault_note e e.taken tells.1)
+  session_run told plan cache hits ends.WriteFault e are cause same tells = as_write_fault tells.0 same (record {
     text = e.text;
     report = [];
     answer = session_cut told plan cache _ e.text e.answer;
     ends = record { cause = inl cause; taken = e.taken; noted = inl tells.1 };
   })
-  session_run told plan cache hits ends.Memory e are cause tells = as_memory tells.0 (session_broken told plan cache ends.Memory _ _ _ _ _ memory_note e e.taken tells.1)
+  session_run told plan cache hits ends.Memory e are cause same tells = as_memory tells.0 same (session_broken told plan cache ends.Memory _ _ _ _ _ memory_note e e.taken tells.1)
 
 -- ---- the words
 
 module _ {K : Type 0} (sink : SinkOf K) where
-  pub halt_words : (P : Type 0) (halt : Halt) (status : ℕ) (notes notes' : K) → OfWordsOnlyIf P halt → HaltTells sink halt status notes notes' → status ≡ 2 → P
-  halt_words P (halts.Refused reason note) status notes notes' words tells is = words (sym tells.0 ∙ is)
+  pub halt_words : (P : Reason → Type 0) (halt : Halt) (status : ℕ) (notes notes' : K) → OfWordsOnlyBy P halt → HaltTells sink halt status notes notes' → status ≡ 2 → TellsOneOf sink P notes notes'
+  halt_words P (halts.Refused reason note) status notes notes' words tells is =
+      let two = sym tells.0 ∙ is in (record { status = reason; note = note.items }, words two, two, tells.1)
   halt_words P halts.ReadFault status notes notes' words tells is = absurd (let e = tells.0 in omega arith)
   halt_words P halts.Memory status notes notes' words tells is = absurd (let e = tells.0 in omega arith)
 

@@ -18,7 +18,7 @@ use Rattle.gufi_roll.specs.CanRoll.{roll_flags, roll_report, report_text}
 use Rattle.gufi_walk.specs.Answer.{refusal_of}
 use Rattle.gufi_walk.specs.declared.refusal.Refusal.{Refusal}
 use Rattle.gufi_top.specs.Reasons.{tree_within}
-use Rattle.gufi_top.specs.Asks.{ask_reply}
+use Rattle.gufi_ask.specs.Asks.{ask_reply}
 use Rattle.gufi_top.specs.Verdict.{total_for, summary_of, replied, summary_over, gen_verdict, command_over}
 use Rattle.gufi_top.specs.Laws.{GenIsNeverRefused}
 
@@ -52,7 +52,7 @@ module _ (read : GeneratedTracesAreRead) (listed : GeneratedRootsAreListed) wher
       (total_written tree (codes "0") (principal 0 []) (found (principal 0 []))) (total_written tree (codes "1001:101") (principal 1001 (101 ∷ [])) (found (principal 1001 (101 ∷ []))))
       (total_written tree (codes "1002") (principal 1002 []) (found (principal 1002 []))))
 
-  gen_written : (n delim : ℕ) (summary : Bool) → 1 ≤ n → n ≤ 200000 → may_delimit delim ≡ true → is_ok (gen_verdict n delim summary) ≡ true
+  pub gen_written : (n delim : ℕ) (summary : Bool) → 1 ≤ n → n ≤ 200000 → may_delimit delim ≡ true → is_ok (gen_verdict n delim summary) ≡ true
   gen_written n delim true some few may = summary_written n delim some few may
   gen_written n delim false some few may = refl
 

@@ -5,9 +5,10 @@ pub mod EndLemmas
 pub mod SessionLemmas
 pub mod StepLemmas
 pub mod SearchLemmas
-pub mod AskLemmas
+pub mod ReplyLemmas
 pub mod SummaryLemmas
 pub mod GenLemmas
 pub mod TraceImages
 pub mod ListedTexts
+pub mod CompleteLemmas
 pub mod HitLemmas

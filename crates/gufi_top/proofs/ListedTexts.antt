@@ -1,5 +1,5 @@
--- What `walk` and `find` write where nothing is refused.
-use Rattle.std.proofs.Common.{◌≡◌, true, List, [], ◌∷◌, refl, ap, ◌∙◌}
+-- What `walk`, `find` and the other asks write where nothing is refused.
+use Rattle.std.proofs.Common.{◌≡◌, ℕ, true, List, [], ◌∷◌, refl, ap, ◌∙◌}
 use Rattle.std.specs.Prelude.{Option, Result, Ok, ok_or, filter}
 use Rattle.gufi_base.specs.declared.record.Row.{Row}
 use Rattle.gufi_base.specs.Basics.{◌>>=◌, result_map_err}
@@ -14,13 +14,17 @@ use Rattle.gufi_users.specs.Entries.{UserTables}
 use Rattle.gufi_find.specs.Expressions.{Find}
 use Rattle.gufi_find.specs.declared.fault.FindError.{FindError}
 use Rattle.gufi_words.specs.declared.word.WordError.{WordError}
+use Rattle.gufi_words.specs.CommandWords.{read_words}
+use Rattle.gufi_words.specs.declared.command.Common.{Common}
 use Rattle.gufi_words.specs.declared.command.Command.{Command}
+use Rattle.gufi_io.specs.Files.{Files}
 use Rattle.gufi_walk.specs.Answer.{answer, listed_rows}
-use Rattle.gufi_top.specs.Asks.{Ask, walk_ask, find_ask, ask_holds, ask_text}
-use Rattle.gufi_top.specs.Reasons.{Reason, word_refused, words_reason, find_reason}
-use Rattle.gufi_top.specs.Verdict.{writes_only, replied, asked, asked_if, walk_over, user_in, asked_by, index_over, ask_over, find_asking, command_over, command_in, verdict}
+use Rattle.gufi_ask.specs.Asks.{Ask, walk_ask, find_ask, ask_holds, ask_text}
+use Rattle.gufi_top.specs.Reasons.{Reason, word_refused, words_reason, find_reason, trace_in}
+use Rattle.gufi_top.specs.Verdict.{Asking, writes_only, replied, asked, asked_if, walk_over, user_in, asked_by, index_over, ask_over, find_asking, command_over, command_in, verdict}
+use Rattle.gufi_top.specs.Complete.{AskIsAnswerable}
 use Rattle.gufi_top.specs.Laws.{WalkWritesTheListedRows, FindWritesTheListedRows}
-use Rattle.gufi_top.proofs.AskLemmas.{reply_found}
+use Rattle.gufi_ask.proofs.AskLemmas.{reply_found}
 use Rattle.gufi_top.proofs.GenLemmas.{none_refused}
 
 filter_all : (rows : List Row) → filter (λ row. true) rows ≡ rows
@@ -32,20 +36,47 @@ asked_found : (tree : List Directory) (who : Principal) (start : Components) (as
 unfolding asked
 asked_found tree who start ask found = ap replied (reply_found tree who start ask (none_refused (resolve tree who start) found))
 
+-- the words are a command
+pub verdict_of : (words : List (List ℕ)) (files : Files) (command : Command) → read_words words ≡ Ok command → verdict words files ≡ command_over command files
+unfolding verdict command_in
+verdict_of words files command are = ap (λ (r : Result Command WordError). result_map_err words_reason r >>= λ command. command_over command files) are
+
+-- what a walk writes, and an ask whose words may be refused
+pub walk_text : (trace : List ℕ) (who : Principal) (delim : ℕ) (files : Files) (tree : List Directory) → trace_in delim trace files ≡ Ok tree → is_found (resolve tree who []) ≡ true
+    → walk_over trace who delim files ≡ writes_only (ask_text walk_ask [] (answer tree who [] (ask_holds walk_ask)))
+unfolding walk_over
+walk_text trace who delim files tree means found =
+    ap (λ (r : Result (List Directory) Reason). r >>= λ t. asked t who [] walk_ask) means ∙ asked_found tree who [] walk_ask found
+
+pub asking_text : (common : Common) (asking : Asking) (files : Files) (can : AskIsAnswerable common asking files)
+    → ask_over common asking files ≡ writes_only (ask_text can.ask common.start (answer can.snap.tree can.who common.start (ask_holds can.ask)))
+unfolding ask_over index_over user_in
+asking_text common asking files can =
+    ap (λ (r : Result UserTables Reason). r >>= λ t. index_over common asking t files) can.users
+    ∙ ap (λ (r : Result Snap Reason). r >>= asked_by common asking can.tables) can.index
+    ∙ ap (λ (r : Option Principal). ok_or r (word_refused common.user_at) >>= λ w. asked_if can.snap.tree w common.start (asking can.tables)) can.user
+    ∙ ap (λ (r : Result Ask Reason). r >>= asked can.snap.tree can.who common.start) can.words
+    ∙ asked_found can.snap.tree can.who common.start can.ask can.found
+
 pub walk_writes : WalkWritesTheListedRows
-unfolding verdict command_in command_over walk_over answer
+unfolding command_over answer
 walk_writes words files trace uid gids delim tree are means found =
-    ap (λ (r : Result Command WordError). result_map_err words_reason r >>= λ command. command_over command files) are
-    ∙ ap (λ (r : Result (List Directory) Reason). r >>= λ t. asked t (principal uid gids) [] walk_ask) means
-    ∙ asked_found tree (principal uid gids) [] walk_ask found
+    verdict_of words files _ are
+    ∙ walk_text trace (principal uid gids) delim files tree means found
     ∙ ap (λ rows. writes_only (path_lines rows)) (filter_all (listed_rows tree (principal uid gids) []))
 
 pub find_writes : FindWritesTheListedRows
-unfolding verdict command_in command_over ask_over index_over user_in answer
+unfolding command_over answer
 find_writes words files common now tests tables snap who expression are users means named read found =
-    ap (λ (r : Result Command WordError). result_map_err words_reason r >>= λ command. command_over command files) are
-    ∙ ap (λ (r : Result UserTables Reason). r >>= λ t. index_over common (find_asking common.user_at now tests) t files) users
-    ∙ ap (λ (r : Result Snap Reason). r >>= asked_by common (find_asking common.user_at now tests) tables) means
-    ∙ ap (λ (r : Option Principal). ok_or r (word_refused common.user_at) >>= λ w. asked_if snap.tree w common.start (find_asking common.user_at now tests tables)) named
-    ∙ ap (λ (r : Result Find FindError). (result_map_err (find_reason common.user_at) r >>= λ e. Ok (find_ask e)) >>= asked snap.tree who common.start) read
-    ∙ asked_found snap.tree who common.start (find_ask expression) found
+    verdict_of words files _ are
+    ∙ asking_text common (find_asking common.user_at now tests) files (record {
+      tables = tables;
+      snap = snap;
+      who = who;
+      ask = find_ask expression;
+      users = users;
+      index = means;
+      user = named;
+      words = ap (λ (r : Result Find FindError). result_map_err (find_reason common.user_at) r >>= λ e. Ok (find_ask e)) read;
+      found = found;
+    })

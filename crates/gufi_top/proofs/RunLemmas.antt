@@ -1,6 +1,6 @@
 -- Lemmas on how a run goes.
-use Rattle.std.proofs.Common.{◌≡◌, ℕ, true, List, [], refl}
-use Rattle.std.specs.Prelude.{Option, Some, None, option_map, Result, Ok, Err, Vec}
+use Rattle.std.proofs.Common.{◌≡◌, ℕ, true, List, [], refl, ◌∙◌, inl, inr}
+use Rattle.std.specs.Prelude.{Option, Some, None, option_map, Result, Ok, Err, IfErr, Vec}
 use Rattle.std.specs.declared.alloc.Global.{Global}
 use Rattle.gufi_io.specs.Files.{Files}
 use Rattle.gufi_io.specs.declared.shelf.Shelf.{Ghosts as ShelfOf}
@@ -12,14 +12,14 @@ use Rattle.gufi_words.specs.declared.word.WordError.{WordError}
 use Rattle.gufi_words.specs.declared.word.WordError.TheVariants as word_errors
 use Rattle.gufi_tree.specs.Tree.{Directory}
 use Rattle.gufi_snap.specs.Snap.{Snap}
-use Rattle.gufi_top.specs.Asks.{walk_ask}
-use Rattle.gufi_top.specs.Reasons.{word_refused, words_reason, trace_in, index_in}
+use Rattle.gufi_ask.specs.Asks.{walk_ask}
+use Rattle.gufi_top.specs.Reasons.{Reason, word_refused, words_reason, trace_in, index_in}
 use Rattle.gufi_image.specs.Image.{image_text}
-use Rattle.gufi_top.specs.Verdict.{writes_only, asked, walk_over, trace2index_over, rolled_up, rollup_over, command_over, command_in, verdict, may_refuse, are_one_shot, is_one_shot, may_refuse_words}
-use Rattle.gufi_top.specs.Calls.{Gives, GivesOver, OfWordsOnlyIf}
+use Rattle.gufi_top.specs.Verdict.{writes_only, asked, walk_over, trace2index_over, rolled_up, rollup_over, command_over, command_in, verdict, MayRefuse, MayRefuseWords, are_one_shot, is_one_shot}
+use Rattle.gufi_top.specs.Calls.{Gives, GivesOver, IsOfBytes, IsOfWords, OfWordsOnlyBy}
 use Rattle.gufi_top.specs.Views.{text_view}
 use Rattle.gufi_top.specs.Ends.{told_verdict}
-use Rattle.gufi_top.specs.Endings.{HasRun}
+use Rattle.gufi_top.specs.Endings.{HasRun, HaltTells, RefusalTells, TellsOneOf}
 use Rattle.gufi_top.specs.declared.halt.Output.{Output}
 use Rattle.gufi_top.specs.declared.halt.Halt.{Halt}
 use Rattle.gufi_top.specs.declared.halt.Halt.TheVariants as halts
@@ -77,7 +77,7 @@ pub answer_err : (told : Option Files) (words : List (List ℕ)) (e : Halt)
 unfolding verdict
 answer_err told words e read = over_err told (λ c. c) text_view e (λ files. command_in words) (λ c files. command_over c files) (given_over {A = Command} told (λ c. c) (Err e) _ read)
 
-pub words_err : (words : List (List ℕ)) (e : Halt) → Gives {A = Command} (λ c. c) (Err e) (command_in words) → OfWordsOnlyIf (may_refuse_words words ≡ true) e
+pub words_err : (words : List (List ℕ)) (e : Halt) → Gives {A = Command} (λ c. c) (Err e) (command_in words) → OfWordsOnlyBy (MayRefuseWords words) e
 words_err words (halts.Refused status note) read = λ _. rw read refl
 words_err words halts.ReadFault read = tt
 words_err words halts.Memory read = tt
@@ -94,8 +94,25 @@ pub words_run : {F K : Type 0} (shelf : ShelfOf F) (sink : SinkOf K) (told : Opt
     → HasRun shelf sink (told_verdict told words) status numbers before after out out' notes notes'
 words_run shelf sink told words command read run = rw (command_told told words command read) run
 
-pub words_ok : (words : List (List ℕ)) (command : Command) → Gives {A = Command} (λ c. c) (Ok command) (command_in words) → may_refuse_words words ≡ may_refuse command
-words_ok words command read = rw read refl
+pub words_ok : {K : Type 0} (sink : SinkOf K) (words : List (List ℕ)) (command : Command) (notes notes' : K) → Gives {A = Command} (λ c. c) (Ok command) (command_in words)
+    → TellsOneOf sink (MayRefuse command) notes notes' → TellsOneOf sink (MayRefuseWords words) notes notes'
+words_ok sink words command notes notes' read told = rw read told
+
+-- words that are no command, and those that are one
+if_refused : (r : Result Command Reason) (P : Reason → Type 0) → ((why : Reason) → P why) → IfErr r P
+if_refused (Ok command) P each = tt
+if_refused (Err why) P each = each why
+
+pub refusal_told : {F K : Type 0} (sink : SinkOf K) (words : List (List ℕ)) (e : Halt) (status : ℕ) (numbers : List ℕ) (shelf : F) (out notes notes' : K)
+    → Gives {A = Command} (λ c. c) (Err e) (command_in words) → IsOfBytes e → IsOfWords e → HaltTells sink e status notes notes' → numbers ≡ []
+    → IfErr (command_in words) (λ why. RefusalTells sink why status notes notes' × (numbers ≡ []) × (shelf ≡ shelf) × (out ≡ out))
+refusal_told sink words (halts.Refused reason note) status numbers shelf out notes notes' read of_bytes two told none = rw read (inl (told.0 ∙ two, told.1), none, refl, refl)
+refusal_told sink words halts.ReadFault status numbers shelf out notes notes' read of_bytes two told none = absurd of_bytes
+refusal_told sink words halts.Memory status numbers shelf out notes notes' read of_bytes two told none =
+    if_refused (command_in words) (λ why. RefusalTells sink why status notes notes' × (numbers ≡ []) × (shelf ≡ shelf) × (out ≡ out)) (λ why. (inr told, none, refl, refl))
+
+pub none_refused : (words : List (List ℕ)) (command : Command) (P : Reason → Type 0) → Gives {A = Command} (λ c. c) (Ok command) (command_in words) → IfErr (command_in words) P
+none_refused words command P read = rw read tt
 
 pub one_shot_ok : (words : List (List ℕ)) (command : Command) → Gives {A = Command} (λ c. c) (Ok command) (command_in words) → are_one_shot words ≡ is_one_shot command
 one_shot_ok words command read = rw read refl

@@ -1,6 +1,6 @@
 -- Lemmas on commands with a USER and a START.
 use Rattle.std.proofs.Common.{List, refl}
-use Rattle.std.specs.Prelude.{Option, Result, Ok, Err}
+use Rattle.std.specs.Prelude.{Option, Result, Ok, Err, IfErr}
 use Rattle.gufi_io.specs.Files.{Files}
 use Rattle.gufi_base.specs.Basics.{◌>>=◌}
 use Rattle.gufi_access.specs.declared.class.Principal.{Principal}
@@ -9,13 +9,13 @@ use Rattle.gufi_snap.specs.Snap.{Snap}
 use Rattle.gufi_users.specs.Entries.{UserTables}
 use Rattle.gufi_words.specs.declared.command.Common.{Common}
 use Rattle.gufi_top.specs.Reasons.{Reason, tables_in, index_in}
-use Rattle.gufi_top.specs.Verdict.{Asking, asked, asked_if, user_in, asked_by, index_over, ask_over}
+use Rattle.gufi_top.specs.Verdict.{Asking, asked, asked_if, user_in, asked_by, index_over, ask_over, AskMayRefuse}
 use Rattle.gufi_find.specs.Expressions.{Find}
 use Rattle.gufi_select.specs.Columns.{Select}
 use Rattle.gufi_agg.specs.Aggs.{Agg}
 use Rattle.gufi_base.specs.Paths.{Components}
-use Rattle.gufi_top.specs.Asks.{Ask, find_ask, query_ask, agg_ask}
-use Rattle.gufi_top.specs.Calls.{Gives, GivesOver}
+use Rattle.gufi_ask.specs.Asks.{Ask, find_ask, query_ask, agg_ask}
+use Rattle.gufi_top.specs.Calls.{Gives, GivesOver, IsPastWords, OfWordsOnlyBy}
 use Rattle.gufi_top.specs.Views.{text_view}
 use Rattle.gufi_top.specs.declared.halt.Output.{Output}
 use Rattle.gufi_top.specs.declared.halt.Halt.{Halt}
@@ -111,3 +111,23 @@ unfolding ask_over
 ask_err told common asking e read = over_err told (λ t. t) text_view e (tables_in common.passwd common.group) (λ t files. index_over common asking t files) read
 
 pub ruleset asks = (ask_ok, ask_err)
+
+-- ---- refusals of the words
+
+pub asked_refusal : (common : Common) (asking : Asking) (tables : UserTables) (snap : Snap) (r : Result Output Halt) → Gives text_view r (asked_by common asking tables snap)
+    → IfErr r (OfWordsOnlyBy (AskMayRefuse common asking))
+asked_refusal common asking tables snap (Ok output) is = tt
+asked_refusal common asking tables snap (Err (halts.Refused status note)) is = λ of_words. (tables, snap, is)
+asked_refusal common asking tables snap (Err halts.ReadFault) is = tt
+asked_refusal common asking tables snap (Err halts.Memory) is = tt
+
+pub past_words : (P : Reason → Type 0) (e : Halt) → IsPastWords e → OfWordsOnlyBy P e
+past_words P (halts.Refused status note) past = λ of_words. absurd (past of_words)
+past_words P halts.ReadFault past = tt
+past_words P halts.Memory past = tt
+
+pub none_past_words : (P : Reason → Type 0) (r : Result Output Halt) → IfErr r IsPastWords → IfErr r (OfWordsOnlyBy P)
+none_past_words P (Ok output) past = tt
+none_past_words P (Err e) past = past_words P e past
+
+pub ruleset refusals = (asked_refusal, past_words, none_past_words)

@@ -6,7 +6,8 @@ use Rattle.gufi_access.specs.Access.{principal}
 use Rattle.gufi_roll.specs.CanRoll.{roll_report, roll_flags, report_text}
 use Rattle.gufi_tree.specs.Tree.{Directory}
 use Rattle.gufi_walk.specs.declared.refusal.Refusal.{Refusal}
-use Rattle.gufi_top.specs.Calls.{Gives, Replies, AppendsReply}
+use Rattle.gufi_ask.specs.Replies.{Replies}
+use Rattle.gufi_top.specs.Calls.{Gives, AppendsReply}
 use Rattle.gufi_top.specs.Verdict.{generated_tree, total_for, summary_of, summary_over, replied}
 use Rattle.gufi_top.specs.Views.{text_view}
 use Rattle.gufi_top.specs.declared.halt.Output.{Output}

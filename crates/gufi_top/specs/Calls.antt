@@ -1,5 +1,5 @@
 -- What the program's own calls give: the value of a step, or the reason for which it gives none.
-use Rattle.std.specs.Prelude.{◌≡◌, ◌≢◌, ℕ, List, ◌++◌, Vec, ⊤, Option, Some, None, Result, Ok, Err}
+use Rattle.std.specs.Prelude.{◌≡◌, ◌≢◌, ◌≤◌, ℕ, List, ◌++◌, Vec, ⊤, Option, Some, None, Result, Ok, Err}
 use Rattle.std.specs.declared.alloc.Global.{Global}
 use Rattle.gufi_io.specs.Files.{Files}
 use Rattle.gufi_io.specs.declared.shelf.Shelf.{Ghosts as ShelfOf}
@@ -26,25 +26,24 @@ abbrev pub GivesOver : {A B : Type 0} → Option Files → (A → B) → Result 
 GivesOver None view call step = ⊤
 GivesOver (Some files) view call step = Gives view call (step files)
 
--- what a reply to an ask returned is the one that is given, unless memory ran out
-abbrev pub Replies : Result (Vec ℕ Global) Refusal → Result (List ℕ) Refusal → Type 0
-Replies (Ok text) given = given ≡ Ok text.items
-Replies (Err refusal) given = refusal ≢ refusals.Memory → given ≡ Err refusal
-
 -- what a call appended is the reply that is given, unless memory ran out
 abbrev pub AppendsReply : Result (Unit {0}) Refusal → List ℕ → List ℕ → Result (List ℕ) Refusal → Type 0
 AppendsReply (Ok done) old new given = (text : List ℕ) × (given ≡ Ok text) × (new ≡ old ++ text)
 AppendsReply (Err refusal) old new given = refusal ≢ refusals.Memory → given ≡ Err refusal
 
+-- a status with which a run is refused
+abbrev pub IsRefusal : ℕ → Type 0
+IsRefusal status = IsVerdictStatus status × (status ≤ 8)
+
 -- each reason comes only where its count rose
 abbrev pub HaltHasCause : {F : Type 0} → ShelfOf F → F → F → Halt → Type 0
-HaltHasCause shelf old new (halts.Refused status note) = IsVerdictStatus status × (status ≡ 8 → Rose (shelf.absents old) (shelf.absents new))
+HaltHasCause shelf old new (halts.Refused status note) = IsRefusal status × (status ≡ 8 → Rose (shelf.absents old) (shelf.absents new))
 HaltHasCause shelf old new halts.ReadFault = Rose (shelf.faults old) (shelf.faults new)
 HaltHasCause shelf old new halts.Memory = ⊤
 
 -- a reason that no shelf causes
 abbrev pub IsOfBytes : Halt → Type 0
-IsOfBytes (halts.Refused status note) = IsVerdictStatus status × (status ≢ 8)
+IsOfBytes (halts.Refused status note) = IsRefusal status × (status ≢ 8)
 IsOfBytes halts.ReadFault = ⊥
 IsOfBytes halts.Memory = ⊤
 
@@ -54,8 +53,14 @@ IsPastWords (halts.Refused status note) = status ≢ 2
 IsPastWords halts.ReadFault = ⊤
 IsPastWords halts.Memory = ⊤
 
--- a reason of the words comes only where P
-abbrev pub OfWordsOnlyIf : Type 0 → Halt → Type 0
-OfWordsOnlyIf P (halts.Refused status note) = status ≡ 2 → P
-OfWordsOnlyIf P halts.ReadFault = ⊤
-OfWordsOnlyIf P halts.Memory = ⊤
+-- a reason of the words alone
+abbrev pub IsOfWords : Halt → Type 0
+IsOfWords (halts.Refused status note) = status ≡ 2
+IsOfWords halts.ReadFault = ⊤
+IsOfWords halts.Memory = ⊤
+
+-- a reason of the words is one of P
+abbrev pub OfWordsOnlyBy : (Reason → Type 0) → Halt → Type 0
+OfWordsOnlyBy P (halts.Refused status note) = status ≡ 2 → P (record { status = status; note = note.items })
+OfWordsOnlyBy P halts.ReadFault = ⊤
+OfWordsOnlyBy P halts.Memory = ⊤

@@ -1,5 +1,5 @@
 -- How a run ended, by its status, and what was told of it.
-use Rattle.std.specs.Prelude.{◌≡◌, ◌⊎◌, ℕ, List, Option, Result}
+use Rattle.std.specs.Prelude.{◌≡◌, ◌⊎◌, ◌≤◌, ℕ, List, Option, Result}
 use Rattle.std.specs.Io.KnownBytes.{Appends}
 use Rattle.gufi_io.specs.Causes.{Rose}
 use Rattle.gufi_io.specs.Files.{TakesFront}
@@ -14,13 +14,15 @@ use Rattle.gufi_top.specs.Ends.{IsVerdictStatus, EndedBy, BrokenOffBy, WriteFaul
 use Rattle.gufi_top.specs.declared.halt.Halt.{Halt}
 use Rattle.gufi_top.specs.declared.halt.Halt.TheVariants as halts
 
--- an end that the verdict allows, and one of the others only where its count rose
+-- an end that the verdict allows, and one of the others only where its count rose; the files stay what they were
 pub record HasRun {F K : Type 0} (shelf : ShelfOf F) (sink : SinkOf K) (given : Option (Result Verdict Reason)) (status : ℕ) (numbers : List ℕ) (before after : F) (out out' notes notes' : K) : Type 0 where
   pub ended : IsVerdictStatus status → EndedBy sink given status numbers out out' notes notes'
   pub absent : status ≡ 8 → Rose (shelf.absents before) (shelf.absents after)
   pub read_fault : status ≡ 3 → Rose (shelf.faults before) (shelf.faults after) × BrokenOffBy sink given numbers out out' notes notes' read_fault_note
   pub write_fault : status ≡ 4 → WriteFaultedBy sink given numbers out out' notes notes'
   pub memory : status ≡ 7 → BrokenOffBy sink given numbers out out' notes notes' memory_note
+  pub known : status ≤ 8
+  pub same : shelf.files after ≡ shelf.files before
 
 -- ---- the status that is told, and the note that was taken
 
@@ -29,6 +31,14 @@ module _ {K : Type 0} (sink : SinkOf K) where
   HaltTells (halts.Refused reason note) status old new = (status ≡ reason) × TakesNote sink old new note.items
   HaltTells halts.ReadFault status old new = (status ≡ 3) × TakesNote sink old new read_fault_note
   HaltTells halts.Memory status old new = (status ≡ 7) × TakesNote sink old new memory_note
+
+  -- words that are no command: they are refused for that with status 2, but the note of that takes memory
+  abbrev pub RefusalTells : Reason → ℕ → K → K → Type 0
+  RefusalTells why status old new = ((status ≡ 2) × TakesNote sink old new why.note) ⊎ ((status ≡ 7) × TakesNote sink old new memory_note)
+
+  -- a refusal of the words that is one of P is told
+  abbrev pub TellsOneOf : (Reason → Type 0) → K → K → Type 0
+  TellsOneOf P old new = (why : Reason) × P why × (why.status ≡ 2) × TakesNote sink old new why.note
 
   -- where a session ends at the files of a phase; the note of that takes memory
   abbrev pub StopTells : Stop → ℕ → K → K → Type 0

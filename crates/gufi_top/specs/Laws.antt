@@ -23,9 +23,11 @@ use Rattle.gufi_image.specs.Image.{image_text}
 use Rattle.gufi_image.specs.Reading.{image_means}
 use Rattle.gufi_words.specs.CommandWords.{read_words}
 use Rattle.gufi_words.specs.declared.command.Common.{Common}
+use Rattle.gufi_words.specs.declared.command.Command.{Command}
 use Rattle.gufi_words.specs.declared.command.Command.TheVariants as commands
 use Rattle.gufi_top.specs.Reasons.{tables_in, trace_in, index_in}
 use Rattle.gufi_top.specs.Verdict.{writes_only, command_over, verdict}
+use Rattle.gufi_top.specs.Complete.{IsAnswerable, IsAnswered}
 
 -- `walk` writes, in path order, a line for each row of the tree that its trace means whose directory the user lists by walking from the root.
 abbrev pub WalkWritesTheListedRows : Type 0
@@ -39,6 +41,10 @@ FindWritesTheListedRows = (words : List (List ℕ)) (files : Files) (common : Co
     → read_words words ≡ Ok (commands.Find common now tests) → tables_in common.passwd common.group files ≡ Ok tables → index_in common.delim common.limit common.index files ≡ Ok snap
     → principal_of tables common.user ≡ Some who → read_find tests tables now ≡ Ok expression → IsTrue (is_found (resolve snap.tree who common.start))
     → verdict words files ≡ writes_only (path_lines (filter (λ row. find_holds expression row (depth_below (length common.start) row)) (listed_rows snap.tree who common.start)))
+
+-- Where the files let a command be answered, nothing is refused: its verdict is a whole text, or a session that no file ends.
+abbrev pub AnswerableCommandsAreAnswered : Type 0
+AnswerableCommandsAreAnswered = (words : List (List ℕ)) (files : Files) (command : Command) → read_words words ≡ Ok command → IsAnswerable command files → IsAnswered (verdict words files)
 
 -- `gen` of as many directories as its word may say, with whichever delimiter, writes their trace, or its summary.
 abbrev pub GenIsNeverRefused : Type 0

@@ -1,10 +1,10 @@
 pub mod Reasons
-pub mod Asks
 pub mod Verdict
 pub mod Questions
 pub mod Ends
 pub mod Endings
 pub mod Calls
+pub mod Complete
 pub mod Views
 pub mod Fed
 pub mod Laws

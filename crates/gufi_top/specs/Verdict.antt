@@ -1,5 +1,5 @@
 -- What the words and the files come to: a reason with its status and note, a text, or the run of a session.
-use Rattle.std.specs.Prelude.{ℕ, ℤ, min, Bool, true, false, List, [], ◌∷◌, ◌++◌, Option, ok_or, Result, Ok, Err, if◌then◌else◌, codes}
+use Rattle.std.specs.Prelude.{◌≡◌, ℕ, ℤ, min, Bool, true, false, List, [], ◌∷◌, ◌++◌, Option, ok_or, Result, Ok, Err, if◌then◌else◌, codes}
 use Rattle.gufi_io.specs.Files.{Files}
 use Rattle.gufi_base.specs.Basics.{◌>>=◌, result_map_err}
 use Rattle.gufi_base.specs.Paths.{Components}
@@ -31,7 +31,7 @@ use Rattle.gufi_words.specs.declared.command.Common.{Common}
 use Rattle.gufi_words.specs.declared.command.Command.{Command}
 use Rattle.gufi_words.specs.declared.command.Command.TheVariants as commands
 use Rattle.gufi_top.specs.Reasons.{Reason, word_refused, words_reason, find_reason, select_reason, agg_reason, script_reason, start_reason, tables_in, acts_in, trace_in, tree_within, index_in}
-use Rattle.gufi_top.specs.Asks.{Ask, walk_ask, find_ask, ls_ask, stat_ask, stats_ask, total_ask, query_ask, agg_ask, ask_reply}
+use Rattle.gufi_ask.specs.Asks.{Ask, walk_ask, find_ask, ls_ask, stat_ask, stats_ask, total_ask, query_ask, agg_ask, ask_reply}
 
 -- what goes to the output, and the note of status 0
 pub record Written : Type 0 where
@@ -220,26 +220,33 @@ command_in words = result_map_err words_reason (read_words words)
 unfoldable pub verdict : List (List ℕ) → Files → Result Verdict Reason
 verdict words files = command_in words >>= λ command. command_over command files
 
--- The words may be refused: they are no command, or one that has a USER.
-abbrev pub may_refuse : Command → Bool
-may_refuse (commands.Walk trace uid gids delim) = false
-may_refuse (commands.Trace2index trace delim) = false
-may_refuse (commands.Rollup index delim limit) = false
-may_refuse (commands.Query common text) = true
-may_refuse (commands.Agg common text) = true
-may_refuse (commands.Find common now words) = true
-may_refuse (commands.Ls common long all) = true
-may_refuse (commands.Stat common) = true
-may_refuse (commands.Stats common report) = true
-may_refuse (commands.Session passwd group delim workers now cache script) = false
-may_refuse (commands.Gen n delim workers summary) = false
+-- ---- refusals of the words, whatever the files
 
-abbrev pub may_refuse_read : Result Command Reason → Bool
-may_refuse_read (Ok command) = may_refuse command
-may_refuse_read (Err why) = true
+-- what it may be refused for: with some users and some tree
+abbrev pub AskMayRefuse : Common → Asking → Reason → Type 0
+AskMayRefuse common asking why = (tables : UserTables) × (snap : Snap) × (asked_by common asking tables snap ≡ Err why)
 
-abbrev pub may_refuse_words : List (List ℕ) → Bool
-may_refuse_words words = may_refuse_read (command_in words)
+-- Only words that are judged behind the files may be refused of a command: its USER, the text of its query and the words of its expression.
+abbrev pub MayRefuse : Command → Reason → Type 0
+MayRefuse (commands.Walk trace uid gids delim) why = ⊥
+MayRefuse (commands.Trace2index trace delim) why = ⊥
+MayRefuse (commands.Rollup index delim limit) why = ⊥
+MayRefuse (commands.Query common text) why = AskMayRefuse common (query_asking common.user_at text) why
+MayRefuse (commands.Agg common text) why = AskMayRefuse common (agg_asking common.user_at text) why
+MayRefuse (commands.Find common now words) why = AskMayRefuse common (find_asking common.user_at now words) why
+MayRefuse (commands.Ls common long all) why = AskMayRefuse common (ls_asking long all) why
+MayRefuse (commands.Stat common) why = AskMayRefuse common stat_asking why
+MayRefuse (commands.Stats common report) why = AskMayRefuse common (stats_asking (report_of report)) why
+MayRefuse (commands.Session passwd group delim workers now cache script) why = ⊥
+MayRefuse (commands.Gen n delim workers summary) why = ⊥
+
+abbrev pub MayRefuseRead : Result Command Reason → Reason → Type 0
+MayRefuseRead (Ok command) why = MayRefuse command why
+MayRefuseRead (Err refusal) why = refusal ≡ why
+
+-- The words may be refused so: they are no command, or one that may be.
+abbrev pub MayRefuseWords : List (List ℕ) → Reason → Type 0
+MayRefuseWords words why = MayRefuseRead (command_in words) why
 
 -- The words are no session's: their text is made whole before it is written, or they are refused.
 abbrev pub is_one_shot_read : Result Command Reason → Bool

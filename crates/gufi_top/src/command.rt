@@ -2,8 +2,8 @@
 ghost use Rattle.std.specs.Prelude.{◌≡◌, IfErr, IfOk, IsTrue};
 ghost use Rattle.gufi_top.specs.Views.{text_view};
 ghost use Rattle.gufi_access.specs.Access.{principal};
-ghost use Rattle.gufi_top.specs.Verdict.{walk_over, command_over, is_one_shot, may_refuse};
-ghost use Rattle.gufi_top.specs.Calls.{GivesOver, OfWordsOnlyIf, IsPastWords, HaltHasCause};
+ghost use Rattle.gufi_top.specs.Verdict.{walk_over, command_over, is_one_shot, MayRefuse};
+ghost use Rattle.gufi_top.specs.Calls.{GivesOver, OfWordsOnlyBy, IsPastWords, HaltHasCause};
 
 use crate::generate::generate;
 use crate::halt::{Halt, Output};
@@ -43,6 +43,7 @@ fn walk_as<R: Threads + Wait + Sync, F: Shelf, G: Gate + Sync>(
     ensures text { GivesOver (F.files shelf.old) text_view result (walk_over trace.now (principal uid gids.now) delim) }
     ensures past_words { IfErr result IsPastWords }
     ensures cause { IfErr result (HaltHasCause F.Shelf shelf.old shelf.new) }
+    ensures same { F.files shelf.new ≡ F.files shelf.old }
 {
     match principal_of(alloc, uid, gids) {
         Ok(who) => walk(walkers, alloc, shelf, trace, &who, delim),
@@ -65,7 +66,7 @@ pub(crate) fn workers_of(command: &Command) -> u32 {
 }
 
 /// What a command writes of which the whole text is made first.
-#[tactic(auto, using(crate::proofs::StepLemmas::given_over, crate::proofs::StepLemmas::cause_of_bytes), unfolding(crate::specs::Verdict::command_over))]
+#[tactic(auto, using(crate::proofs::StepLemmas::given_over, crate::proofs::StepLemmas::cause_of_bytes, crate::proofs::SearchLemmas::refusals), unfolding(crate::specs::Verdict::command_over))]
 pub(crate) fn answer_command<R: Threads + Wait + Sync, F: Shelf, G: Gate + Sync>(
     walkers: &Walkers<'_, R, G>,
     alloc: Global,
@@ -74,8 +75,9 @@ pub(crate) fn answer_command<R: Threads + Wait + Sync, F: Shelf, G: Gate + Sync>
 ) -> Result<Output, Halt>
     requires { IsTrue (is_one_shot command.now) }
     ensures text { GivesOver (F.files shelf.old) text_view result (command_over command.now) }
-    ensures words { IfErr result (OfWordsOnlyIf (IsTrue (may_refuse command.now))) }
+    ensures words { IfErr result (OfWordsOnlyBy (MayRefuse command.now)) }
     ensures cause { IfErr result (HaltHasCause F.Shelf shelf.old shelf.new) }
+    ensures same { F.files shelf.new ≡ F.files shelf.old }
 {
     match command {
         Command::Walk {

@@ -5,16 +5,16 @@ ghost use Rattle.gufi_gen.specs.Generated.{gen_text};
 ghost use Rattle.gufi_roll.specs.CanRoll.{roll_report, roll_flags, report_text};
 ghost use Rattle.gufi_top.specs.Views.{text_view};
 ghost use Rattle.gufi_top.specs.Verdict.{writes_only, generated_tree, total_for, summary_of, summary_over, gen_verdict, replied};
-ghost use Rattle.gufi_top.specs.Calls.{Gives, Replies, AppendsReply, IsOfBytes, IsPastWords};
+ghost use Rattle.gufi_ask.specs.Replies.{Replies};
+ghost use Rattle.gufi_top.specs.Calls.{Gives, AppendsReply, IsOfBytes, IsPastWords};
 
-use crate::ask::total_for;
 use crate::halt::{Halt, Output};
-use crate::note;
 use crate::reading::read_trace_bytes;
-use crate::rollup::report_of;
+use crate::rollup::report_note;
 use crate::start::written_over;
 use crate::walk::snapshot_of;
 use gufi_access::{GroupList, Principal};
+use gufi_ask::total_for;
 use gufi_base::{Memory, Path, put};
 use gufi_gen::gen_trace;
 use gufi_snap::Snapshot;
@@ -84,22 +84,16 @@ fn totals_behind(alloc: Global, snap: &Snapshot, mut report: Vec<u8>) -> Result<
     Ok(report)
 }
 
-/// The report of a tree's roll-up, as a line.
-fn report_line(alloc: Global, tree: &Tree) -> Result<Vec<u8>, Memory>
-    ensures { IfOk result (λ line. line.items ≡ report_text (roll_report tree.now (roll_flags tree.now 1000))) }
-{
-    let report = report_of(alloc, tree, LIMIT)?;
-    let line = note::report(alloc, report)?;
-    Ok(line)
-}
-
 /// What is written of a tree: the report of its roll-up, and the totals of three principals.
 fn summary_of(alloc: Global, tree: Tree) -> Result<Output, Halt>
     ensures text { Gives text_view result (replied (summary_of tree)) }
     ensures of_bytes { IfErr result IsOfBytes }
     ensures past_words { IfErr result IsPastWords }
 {
-    let report = report_line(alloc, &tree)?;
+    let Ok(report) = report_note(alloc, &tree, LIMIT) else {
+        drop(tree);
+        return Err(Halt::Memory);
+    };
     let snap = snapshot_of(alloc, tree, LIMIT)?.with_sums(alloc)?;
     let reply = totals_behind(alloc, &snap, report);
     written_over(alloc, snap, reply)

@@ -107,13 +107,23 @@ fn feed_rest<F: Shelf>(
     ensures refused { IfErr result (λ e. GivesOver (F.files shelf.old) bytes_view (Err e) (file_in max_image name.now)) }
     ensures past_words { IfErr result IsPastWords }
     ensures cause { IfErr result (HaltHasCause F.Shelf shelf.old shelf.new) }
+    ensures same { F.files shelf.new ≡ F.files shelf.old }
 {
     let mut feed = Feed { reader };
     match read_rest(alloc, shelf, name, room, MAX_IMAGE, size, &mut feed) {
         Ok(()) => Ok(feed.reader),
-        Err(RestError::ReadFault) => Err(Halt::ReadFault),
-        Err(RestError::TooLong) => refused(6, note::past_limit(alloc, name, MAX_IMAGE)?),
-        Err(RestError::Memory) => Err(Halt::Memory),
+        Err(RestError::ReadFault) => {
+            drop(feed);
+            Err(Halt::ReadFault)
+        }
+        Err(RestError::TooLong) => {
+            drop(feed);
+            refused(6, note::past_limit(alloc, name, MAX_IMAGE)?)
+        }
+        Err(RestError::Memory) => {
+            drop(feed);
+            Err(Halt::Memory)
+        }
     }
 }
 
@@ -145,6 +155,7 @@ fn rest_of_image<F: Shelf>(
     ensures snap { GivesOver (F.files shelf.old) (λ (snap : Snap). snap) result (image_in name.now) }
     ensures past_words { IfErr result IsPastWords }
     ensures cause { IfErr result (HaltHasCause F.Shelf shelf.old shelf.new) }
+    ensures same { F.files shelf.new ≡ F.files shelf.old }
 {
     let reader = image_reader_of(alloc, front);
     let reader = feed_rest(alloc, shelf, name, room, reader, front.len())?;
@@ -181,6 +192,7 @@ fn rest_of_traced<F: Shelf>(
     ensures snap { GivesOver (F.files shelf.old) (λ (snap : Snap). snap) result (traced_in delim limit name.now) }
     ensures past_words { IfErr result IsPastWords }
     ensures cause { IfErr result (HaltHasCause F.Shelf shelf.old shelf.new) }
+    ensures same { F.files shelf.new ≡ F.files shelf.old }
 {
     match rest_of_trace(alloc, shelf, name, delim, room, front) {
         Ok(tree) => roll_under(alloc, tree, limit),
@@ -206,6 +218,7 @@ fn rest_of_index<F: Shelf>(
     ensures snap { GivesOver (F.files shelf.old) (λ (snap : Snap). snap) result (index_in delim limit name.now) }
     ensures past_words { IfErr result IsPastWords }
     ensures cause { IfErr result (HaltHasCause F.Shelf shelf.old shelf.new) }
+    ensures same { F.files shelf.new ≡ F.files shelf.old }
 {
     if is_image(&front) {
         rest_of_image(alloc, shelf, name, room, &front)
@@ -228,6 +241,7 @@ pub(crate) fn read_index<F: Shelf>(
     ensures snap { GivesOver (F.files shelf.old) (λ (snap : Snap). snap) result (index_in delim limit name.now) }
     ensures past_words { IfErr result IsPastWords }
     ensures cause { IfErr result (HaltHasCause F.Shelf shelf.old shelf.new) }
+    ensures same { F.files shelf.new ≡ F.files shelf.old }
 {
     let mut buffer = piece_buffer(alloc)?;
     let room = buffer.as_mut_slice();

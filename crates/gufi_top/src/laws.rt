@@ -1,6 +1,5 @@
 //! Laws of what is written.
-ghost use Rattle.gufi_top.specs.Asks.{AsksArePrivate};
-ghost use Rattle.gufi_top.specs.Laws.{WalkWritesTheListedRows, FindWritesTheListedRows, GenIsNeverRefused, TracesComeBackFromImages};
+ghost use Rattle.gufi_top.specs.Laws.{WalkWritesTheListedRows, FindWritesTheListedRows, AnswerableCommandsAreAnswered, GenIsNeverRefused, TracesComeBackFromImages};
 
 use gufi_gen::generated_traces_are_read;
 use gufi_image::written_images_read_back;
@@ -17,9 +16,10 @@ pub fn find_writes_the_listed_rows()
     ensures { FindWritesTheListedRows }
 {}
 
-/// To one who can't tell two trees apart by what may be listed, each ask has one reply in both.
-pub fn asks_are_private()
-    ensures { AsksArePrivate }
+/// Completeness: nothing is refused of a command whose words and files are good and whose start is found. Its text is whole, or it
+/// is a session that no file ends.
+pub fn answerable_commands_are_answered()
+    ensures { AnswerableCommandsAreAnswered }
 {}
 
 /// `gen` is never refused behind its words: a generated trace is read, and its root may be listed.

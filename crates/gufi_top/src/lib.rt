@@ -5,7 +5,6 @@
 //! It stands on every crate of the index but the program itself.
 #![tactic(auto)]
 
-mod ask;
 mod command;
 mod ending;
 mod generate;
@@ -26,7 +25,7 @@ mod words;
 
 pub use ending::Outcome;
 pub use laws::{
-    asks_are_private, find_writes_the_listed_rows, gen_is_never_refused,
+    answerable_commands_are_answered, find_writes_the_listed_rows, gen_is_never_refused,
     traces_come_back_from_images, walk_writes_the_listed_rows,
 };
 pub use run::gufi_run;

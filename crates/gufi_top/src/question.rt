@@ -13,15 +13,15 @@ ghost use Rattle.gufi_top.specs.Views.{text_view};
 ghost use Rattle.gufi_top.specs.Verdict.{asked_if, expression_in, find_asking, stats_asking, report_of, select_in, query_asking, agg_in, agg_asking};
 ghost use Rattle.gufi_top.specs.Calls.{Gives, IsOfBytes};
 
-use crate::ask::{
-    find_text, groups_text, listing_text, query_text, ready_to_find, ready_to_select, record_text,
-    report_text,
-};
 use crate::halt::{Halt, Output, refused};
 use crate::note;
 use crate::start::{written, written_over};
 use gufi_access::Principal;
 use gufi_agg::{Agg, AggError, AggKind, read_agg};
+use gufi_ask::{
+    find_text, groups_text, listing_text, query_text, ready_to_find, ready_to_select, record_text,
+    report_text,
+};
 use gufi_base::{Bytes, Items, Path, Text};
 use gufi_find::{FindError, FindExpr, FindKind, read_find};
 use gufi_io::Gate;
@@ -221,7 +221,7 @@ impl<'a> Question<'a> {
     }
 
     /// What it writes of a snapshot. The query words are judged before the start; sums are made where the question asks for them.
-    #[tactic(auto, using(crate::proofs::AskLemmas::asking, crate::proofs::SearchLemmas::expressions, crate::proofs::SearchLemmas::selects, crate::proofs::SearchLemmas::aggs))]
+    #[tactic(auto, using(crate::proofs::ReplyLemmas::asking, crate::proofs::SearchLemmas::expressions, crate::proofs::SearchLemmas::selects, crate::proofs::SearchLemmas::aggs))]
     pub(crate) fn answer<R: Threads + Wait + Sync, G: Gate + Sync>(
         &self,
         walkers: &Walkers<'_, R, G>,
@@ -237,27 +237,45 @@ impl<'a> Question<'a> {
         match self {
             Question::Find(find) => match find.expression(alloc, users) {
                 Ok(expression) => {
-                    let snap = ready_to_find(alloc, snap, &expression)?;
+                    let Ok(snap) = ready_to_find(alloc, snap, &expression) else {
+                        drop(expression);
+                        return Err(Halt::Memory);
+                    };
                     let reply = find_text(walkers, alloc, snap, who, start, &expression);
                     written(alloc, reply)
                 }
-                Err(halt) => Err(halt),
+                Err(halt) => {
+                    drop(snap);
+                    Err(halt)
+                }
             },
             Question::Query(query) => match query.select(alloc) {
                 Ok(select) => {
-                    let snap = ready_to_select(alloc, snap, &select)?;
+                    let Ok(snap) = ready_to_select(alloc, snap, &select) else {
+                        drop(select);
+                        return Err(Halt::Memory);
+                    };
                     let reply = query_text(walkers, alloc, snap, who, start, &select);
                     written(alloc, reply)
                 }
-                Err(halt) => Err(halt),
+                Err(halt) => {
+                    drop(snap);
+                    Err(halt)
+                }
             },
             Question::Agg(aggregate) => match aggregate.agg(alloc) {
                 Ok(agg) => {
-                    let snap = ready_to_select(alloc, snap, agg.select())?;
+                    let Ok(snap) = ready_to_select(alloc, snap, agg.select()) else {
+                        drop(agg);
+                        return Err(Halt::Memory);
+                    };
                     let reply = groups_text(walkers, alloc, &snap, who, start, &agg);
                     written_over(alloc, snap, reply)
                 }
-                Err(halt) => Err(halt),
+                Err(halt) => {
+                    drop(snap);
+                    Err(halt)
+                }
             },
             Question::Stat => {
                 let reply = record_text(alloc, &snap, who, start);

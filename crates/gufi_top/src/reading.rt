@@ -122,13 +122,23 @@ fn feed_rest<F: Shelf>(
     ensures refused { IfErr result (λ e. GivesOver (F.files shelf.old) bytes_view (Err e) (file_in max_trace name.now)) }
     ensures past_words { IfErr result IsPastWords }
     ensures cause { IfErr result (HaltHasCause F.Shelf shelf.old shelf.new) }
+    ensures same { F.files shelf.new ≡ F.files shelf.old }
 {
     let mut feed = Feed { reader };
     match read_rest(alloc, shelf, name, room, MAX_TRACE, size, &mut feed) {
         Ok(()) => Ok(feed.reader),
-        Err(RestError::ReadFault) => Err(Halt::ReadFault),
-        Err(RestError::TooLong) => refused(6, note::past_limit(alloc, name, MAX_TRACE)?),
-        Err(RestError::Memory) => Err(Halt::Memory),
+        Err(RestError::ReadFault) => {
+            drop(feed);
+            Err(Halt::ReadFault)
+        }
+        Err(RestError::TooLong) => {
+            drop(feed);
+            refused(6, note::past_limit(alloc, name, MAX_TRACE)?)
+        }
+        Err(RestError::Memory) => {
+            drop(feed);
+            Err(Halt::Memory)
+        }
     }
 }
 
@@ -148,6 +158,7 @@ fn rest_of_lines<F: Shelf>(
     ensures lines { GivesOver (F.files shelf.old) (λ lines. lines) result (lines_in delim name.now) }
     ensures past_words { IfErr result IsPastWords }
     ensures cause { IfErr result (HaltHasCause F.Shelf shelf.old shelf.new) }
+    ensures same { F.files shelf.new ≡ F.files shelf.old }
     ensures few { IfOk result (λ lines. length lines ≤ max_dirs + max_entries) }
 {
     let reader = reader_of(alloc, delim, front)?;
@@ -190,6 +201,7 @@ pub(crate) fn rest_of_trace<F: Shelf>(
     ensures tree { GivesOver (F.files shelf.old) (λ tree. tree) result (trace_in delim name.now) }
     ensures past_words { IfErr result IsPastWords }
     ensures cause { IfErr result (HaltHasCause F.Shelf shelf.old shelf.new) }
+    ensures same { F.files shelf.new ≡ F.files shelf.old }
 {
     match rest_of_lines(alloc, shelf, name, delim, room, front) {
         Ok(lines) => build_tree(alloc, name, lines),
@@ -208,6 +220,7 @@ pub(crate) fn read_trace_file<F: Shelf>(
     ensures tree { GivesOver (F.files shelf.old) (λ tree. tree) result (trace_in delim name.now) }
     ensures past_words { IfErr result IsPastWords }
     ensures cause { IfErr result (HaltHasCause F.Shelf shelf.old shelf.new) }
+    ensures same { F.files shelf.new ≡ F.files shelf.old }
 {
     open_named(alloc, shelf, name)?;
     let mut buffer = piece_buffer(alloc)?;

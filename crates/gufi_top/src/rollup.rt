@@ -37,17 +37,25 @@ fn image_under(alloc: Global, snap: Snapshot, limit: u64) -> Result<Vec<u8>, Mem
     if snap.limit() == limit {
         return image_of(alloc, snap);
     }
-    let other = snap.with_limit(alloc, limit)?;
+    let other = snap.with_limit(alloc, limit);
     forget(snap);
-    image_of(alloc, other)
+    image_of(alloc, other?)
 }
 
 /// What a tree's roll-up comes to.
-pub(crate) fn report_of(alloc: Global, tree: &Tree, limit: u64) -> Result<RollReport, Memory>
+fn report_of(alloc: Global, tree: &Tree, limit: u64) -> Result<RollReport, Memory>
     ensures { IfOk result (λ report. report ≡ roll_report tree.now (roll_flags tree.now limit)) }
 {
     let flags = roll(alloc, tree, limit)?;
     Ok(roll_report(tree, &flags))
+}
+
+/// The same as a note.
+pub(crate) fn report_note(alloc: Global, tree: &Tree, limit: u64) -> Result<Vec<u8>, Memory>
+    ensures { IfOk result (λ note. note.items ≡ report_text (roll_report tree.now (roll_flags tree.now limit))) }
+{
+    let report = report_of(alloc, tree, limit)?;
+    Ok(note::report(alloc, report)?)
 }
 
 // What `rollup` writes of a snapshot: the image of its tree under the limit, and a report as a note.
@@ -56,8 +64,10 @@ fn roll_snapshot(alloc: Global, snap: Snapshot, limit: u64) -> Result<Output, Ha
     ensures of_bytes { IfErr result IsOfBytes }
     ensures past_words { IfErr result IsPastWords }
 {
-    let report = report_of(alloc, snap.tree(), limit)?;
-    let notes = note::report(alloc, report)?;
+    let Ok(notes) = report_note(alloc, snap.tree(), limit) else {
+        drop(snap);
+        return Err(Halt::Memory);
+    };
     let out = image_under(alloc, snap, limit)?;
     Ok(Output { out, notes })
 }
@@ -74,6 +84,7 @@ pub(crate) fn rollup<F: Shelf>(
     ensures text { GivesOver (F.files shelf.old) text_view result (rollup_over index.now delim limit) }
     ensures past_words { IfErr result IsPastWords }
     ensures cause { IfErr result (HaltHasCause F.Shelf shelf.old shelf.new) }
+    ensures same { F.files shelf.new ≡ F.files shelf.old }
 {
     match read_index(alloc, shelf, index, delim, limit) {
         Ok(snap) => roll_snapshot(alloc, snap, limit),
@@ -105,6 +116,7 @@ pub(crate) fn trace2index<F: Shelf>(
     ensures text { GivesOver (F.files shelf.old) text_view result (trace2index_over trace.now delim) }
     ensures past_words { IfErr result IsPastWords }
     ensures cause { IfErr result (HaltHasCause F.Shelf shelf.old shelf.new) }
+    ensures same { F.files shelf.new ≡ F.files shelf.old }
 {
     match read_trace_file(alloc, shelf, trace, delim) {
         Ok(tree) => image_text_of(alloc, tree),

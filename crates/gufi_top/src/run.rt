@@ -1,11 +1,12 @@
 //! One run of the program.
-ghost use Rattle.std.specs.Prelude.{◌≡◌, ◌≢◌, ◌⊎◌, [], IsTrue, option_map};
+ghost use Rattle.std.specs.Prelude.{◌≡◌, ◌≢◌, ◌≤◌, ◌⊎◌, [], IfErr, IsTrue, option_map};
 ghost use Rattle.std.specs.Io.KnownBytes.{Appends};
 ghost use Rattle.gufi_io.specs.Causes.{Rose};
 ghost use Rattle.gufi_words.specs.WordTexts.{texts};
-ghost use Rattle.gufi_top.specs.Verdict.{is_one_shot, are_one_shot, may_refuse, may_refuse_words, command_over};
+ghost use Rattle.gufi_top.specs.Verdict.{is_one_shot, are_one_shot, MayRefuse, MayRefuseWords, command_in, command_over};
 ghost use Rattle.gufi_top.specs.Ends.{IsVerdictStatus, Ended, WriteFaulted, BrokenOff, TextEnds, read_fault_note, memory_note};
-ghost use Rattle.gufi_top.specs.Endings.{HasRun};
+ghost use Rattle.gufi_top.specs.Endings.{HasRun, RefusalTells, TellsOneOf};
+ghost use Rattle.gufi_top.specs.Complete.{Completes};
 
 use crate::command::{answer_command, workers_of};
 use crate::ending::{Outcome, halted, tell};
@@ -51,7 +52,7 @@ fn run_one_shot<R: Threads + Wait + Sync, F: Shelf, K: Sink, G: Gate + Sync>(
 ) -> Outcome
     requires { IsTrue (is_one_shot command.now) }
     ensures run { HasRun F.Shelf K.Sink (option_map (command_over command.now) (F.files shelf.old)) result.status result.numbers.items shelf.old shelf.new out.old out.new notes.old notes.new }
-    ensures words { result.status ≡ 2 → IsTrue (may_refuse command.now) }
+    ensures words { result.status ≡ 2 → TellsOneOf K.Sink (MayRefuse command.now) notes.old notes.new }
     ensures silent { result.status ≢ 0 → result.status ≢ 4 → out.new ≡ out.old }
 {
     let walkers = Walkers::of(rt, gate, workers_of(command));
@@ -76,7 +77,7 @@ fn run_command<R: Threads + Wait + Sync, F: Shelf, K: Sink, G: Gate + Sync>(
     gate: &G,
 ) -> Outcome
     ensures run { HasRun F.Shelf K.Sink (option_map (command_over command.now) (F.files shelf.old)) result.status result.numbers.items shelf.old shelf.new out.old out.new notes.old notes.new }
-    ensures words { result.status ≡ 2 → IsTrue (may_refuse command.now) }
+    ensures words { result.status ≡ 2 → TellsOneOf K.Sink (MayRefuse command.now) notes.old notes.new }
     ensures silent { IsTrue (is_one_shot command.now) → result.status ≢ 0 → result.status ≢ 4 → out.new ≡ out.old }
 {
     match command {
@@ -126,11 +127,24 @@ pub fn gufi_run<R: Threads + Wait + Sync, F: Shelf, K: Sink, G: Gate + Sync>(
     // Without a fault or want of memory, the status, the text and the note are those of the words over the files.
     ensures ended { IsVerdictStatus result.status → Ended K.Sink (F.files shelf.old) (texts words.now) result out.old out.new notes.old notes.new }
 
-    // A refusal of the words comes only where they are no command, or one with a USER, whatever the shelf.
-    ensures words { result.status ≡ 2 → IsTrue (may_refuse_words (texts words.now)) }
+    // Where the words are a command that the files let it answer, and no count of faults rose: status 0 with the whole text, or want of memory.
+    ensures complete { Completes F.Shelf K.Sink (texts words.now) result.status result.numbers.items shelf.old shelf.new out.old out.new notes.old notes.new }
+
+    // Words that are no command are refused with status 2 and their note, whatever the shelf, and no file is asked for.
+    ensures refused { IfErr (command_in (texts words.now)) (λ why. RefusalTells K.Sink why result.status notes.old notes.new
+        × (result.numbers.items ≡ []) × (shelf.new ≡ shelf.old) × (out.new ≡ out.old)) }
+
+    // Status 2 comes only for these, or for a USER, a query or an expression that with some users is refused, with the note of that, whatever the shelf.
+    ensures words { result.status ≡ 2 → TellsOneOf K.Sink (MayRefuseWords (texts words.now)) notes.old notes.new }
+
+    // No other status is known.
+    ensures known { result.status ≤ 8 }
 
     // But for a session, a run writes nothing unless it has its whole text, whatever the shelf.
     ensures silent { IsTrue (are_one_shot (texts words.now)) → result.status ≢ 0 → result.status ≢ 4 → out.new ≡ out.old }
+
+    // The shelf's files stay what they were.
+    ensures same { F.files shelf.new ≡ F.files shelf.old }
 
     // A missing file is answered only where the shelf lacked one.
     ensures absent { result.status ≡ 8 → Rose (F.absents shelf.old) (F.absents shelf.new) }

@@ -4,8 +4,8 @@ ghost use Rattle.gufi_users.specs.Entries.{UserTables};
 ghost use Rattle.gufi_access.specs.declared.class.Principal.{Principal as SeenPrincipal};
 ghost use Rattle.gufi_top.specs.Questions.{asks};
 ghost use Rattle.gufi_top.specs.Views.{text_view};
-ghost use Rattle.gufi_top.specs.Verdict.{user_in, asked_by, index_over, ask_over};
-ghost use Rattle.gufi_top.specs.Calls.{Gives, GivesOver, IsOfBytes, HaltHasCause};
+ghost use Rattle.gufi_top.specs.Verdict.{user_in, asked_by, index_over, ask_over, AskMayRefuse};
+ghost use Rattle.gufi_top.specs.Calls.{Gives, GivesOver, IsOfBytes, OfWordsOnlyBy, HaltHasCause};
 
 use crate::halt::{Halt, Output, refused};
 use crate::index::read_index;
@@ -50,12 +50,15 @@ fn ask_by<R: Threads + Wait + Sync, G: Gate + Sync>(
 {
     match principal_of(alloc, common, users) {
         Ok(who) => question.answer(walkers, alloc, users, snap, &who, &common.start),
-        Err(halt) => Err(halt),
+        Err(halt) => {
+            drop(snap);
+            Err(halt)
+        }
     }
 }
 
 // The same over the index's file.
-#[tactic(auto, using(crate::proofs::SearchLemmas::indexes, crate::proofs::StepLemmas::cause_of_bytes))]
+#[tactic(auto, using(crate::proofs::SearchLemmas::indexes, crate::proofs::SearchLemmas::refusals, crate::proofs::StepLemmas::cause_of_bytes))]
 fn ask_index<R: Threads + Wait + Sync, F: Shelf, G: Gate + Sync>(
     walkers: &Walkers<'_, R, G>,
     alloc: Global,
@@ -65,7 +68,9 @@ fn ask_index<R: Threads + Wait + Sync, F: Shelf, G: Gate + Sync>(
     users: &Users,
 ) -> Result<Output, Halt>
     ensures text { GivesOver (F.files shelf.old) text_view result (index_over common.now (asks question.now) users.now) }
+    ensures words { IfErr result (OfWordsOnlyBy (AskMayRefuse common.now (asks question.now))) }
     ensures cause { IfErr result (HaltHasCause F.Shelf shelf.old shelf.new) }
+    ensures same { F.files shelf.new ≡ F.files shelf.old }
 {
     let index = common.index.as_str();
     match read_index(alloc, shelf, index, common.delim, common.limit) {
@@ -76,7 +81,7 @@ fn ask_index<R: Threads + Wait + Sync, F: Shelf, G: Gate + Sync>(
 
 /// What a command with a USER and a START writes: the files are read in the order passwd, group and index; then USER is
 /// judged, then the query words, then the start.
-#[tactic(auto, using(crate::proofs::SearchLemmas::asks, crate::proofs::StepLemmas::cause_later))]
+#[tactic(auto, using(crate::proofs::SearchLemmas::asks, crate::proofs::SearchLemmas::refusals, crate::proofs::StepLemmas::cause_later))]
 pub(crate) fn ask<R: Threads + Wait + Sync, F: Shelf, G: Gate + Sync>(
     walkers: &Walkers<'_, R, G>,
     alloc: Global,
@@ -85,7 +90,9 @@ pub(crate) fn ask<R: Threads + Wait + Sync, F: Shelf, G: Gate + Sync>(
     question: &Question<'_>,
 ) -> Result<Output, Halt>
     ensures text { GivesOver (F.files shelf.old) text_view result (ask_over common.now (asks question.now)) }
+    ensures words { IfErr result (OfWordsOnlyBy (AskMayRefuse common.now (asks question.now))) }
     ensures cause { IfErr result (HaltHasCause F.Shelf shelf.old shelf.new) }
+    ensures same { F.files shelf.new ≡ F.files shelf.old }
 {
     match read_users(alloc, shelf, &common.passwd, &common.group) {
         Ok(users) => ask_index(walkers, alloc, shelf, common, question, &users),

@@ -4,7 +4,8 @@ ghost use Rattle.gufi_walk.specs.declared.refusal.Refusal.{Refusal as SeenRefusa
 ghost use Rattle.gufi_top.specs.Reasons.{start_reason};
 ghost use Rattle.gufi_top.specs.Verdict.{replied};
 ghost use Rattle.gufi_top.specs.Views.{text_view};
-ghost use Rattle.gufi_top.specs.Calls.{Gives, IsOfBytes, IsPastWords, Replies};
+ghost use Rattle.gufi_ask.specs.Replies.{Replies};
+ghost use Rattle.gufi_top.specs.Calls.{Gives, IsOfBytes, IsPastWords};
 
 use crate::halt::{Halt, Output, refused};
 use crate::note;
@@ -37,7 +38,7 @@ fn text_of(alloc: Global, out: Vec<u8>) -> Output
 }
 
 /// What a reply writes: its text, or the note of its start's refusal.
-#[tactic(auto, using(crate::proofs::AskLemmas::writing))]
+#[tactic(auto, using(crate::proofs::ReplyLemmas::writing))]
 pub(crate) fn written(alloc: Global, reply: Result<Vec<u8>, Refusal>) -> Result<Output, Halt>
     ensures text { (given : Result (List ℕ) SeenRefusal) → Replies reply given → Gives text_view result (replied given) }
     ensures of_bytes { IfErr result IsOfBytes }

@@ -1,15 +1,15 @@
 //! `walk`: all that a principal lists from the root.
 ghost use Rattle.std.specs.Prelude.{◌≡◌, ◌≢◌, [], IfOk, IfErr};
 ghost use Rattle.gufi_top.specs.Views.{text_view};
-ghost use Rattle.gufi_top.specs.Asks.{walk_ask};
+ghost use Rattle.gufi_ask.specs.Asks.{walk_ask};
 ghost use Rattle.gufi_top.specs.Verdict.{asked, walk_over};
 ghost use Rattle.gufi_top.specs.Calls.{Gives, GivesOver, IsOfBytes, IsPastWords, HaltHasCause};
 
-use crate::ask::walk_text;
 use crate::halt::{Halt, Output};
 use crate::reading::read_trace_file;
 use crate::start::written;
 use gufi_access::Principal;
+use gufi_ask::walk_text;
 use gufi_base::{Memory, Path};
 use gufi_io::{Gate, Shelf};
 use gufi_snap::Snapshot;
@@ -27,7 +27,7 @@ pub(crate) fn snapshot_of(alloc: Global, tree: Tree, limit: u64) -> Result<Snaps
 }
 
 // What `walk` writes of a tree.
-#[tactic(auto, using(crate::proofs::AskLemmas::asking))]
+#[tactic(auto, using(crate::proofs::ReplyLemmas::asking))]
 fn walk_tree<R: Threads + Wait + Sync, G: Gate + Sync>(
     walkers: &Walkers<'_, R, G>,
     alloc: Global,
@@ -57,6 +57,7 @@ pub(crate) fn walk<R: Threads + Wait + Sync, F: Shelf, G: Gate + Sync>(
     ensures text { GivesOver (F.files shelf.old) text_view result (walk_over trace.now who.now delim) }
     ensures past_words { IfErr result IsPastWords }
     ensures cause { IfErr result (HaltHasCause F.Shelf shelf.old shelf.new) }
+    ensures same { F.files shelf.new ≡ F.files shelf.old }
 {
     match read_trace_file(alloc, shelf, trace, delim) {
         Ok(tree) => walk_tree(walkers, alloc, tree, who),

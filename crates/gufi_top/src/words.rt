@@ -3,7 +3,7 @@ ghost use Rattle.std.specs.Prelude.{◌≡◌, IfErr};
 ghost use Rattle.gufi_words.specs.declared.command.Command.{Command as SeenCommand};
 ghost use Rattle.gufi_words.specs.WordTexts.{texts};
 ghost use Rattle.gufi_top.specs.Verdict.{command_in};
-ghost use Rattle.gufi_top.specs.Calls.{Gives, IsOfBytes};
+ghost use Rattle.gufi_top.specs.Calls.{Gives, IsOfBytes, IsOfWords};
 
 use crate::halt::{Halt, refused};
 use crate::note;
@@ -15,6 +15,7 @@ use std::alloc::Global;
 pub(crate) fn read_command(alloc: Global, words: &[String]) -> Result<Command, Halt>
     ensures command { Gives (λ (command : SeenCommand). command) result (command_in (texts words.now)) }
     ensures halt { IfErr result IsOfBytes }
+    ensures of_words { IfErr result IsOfWords }
 {
     match read_words(alloc, words) {
         Ok(command) => Ok(command),

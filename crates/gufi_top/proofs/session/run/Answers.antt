@@ -9,7 +9,7 @@ returns-in-Ok-clause-run g c =
 
 pub returns-in-Err-clause-run : goal.returns-in-Err-clause-run
 returns-in-Err-clause-run g c =
-    halted_run g.F.Shelf g.K.Sink _ _ c.in-Err.halt (session_err _ _ _ _ _ _ _ c.in-Err.halt c.in-Err.ensures.plan) c.in-Err.ensures.cause c.halted.ensures.told c.halted.ensures.numbers
+    halted_run g.F.Shelf g.K.Sink _ _ c.in-Err.halt (session_err _ _ _ _ _ _ _ c.in-Err.halt c.in-Err.ensures.plan) c.in-Err.ensures.cause c.in-Err.ensures.kept.files c.halted.ensures.told c.halted.ensures.numbers
 
 pub returns-in-Err-clause-past_words : goal.returns-in-Err-clause-past_words
 returns-in-Err-clause-past_words g c = halt_past_words g.K.Sink c.in-Err.halt _ _ _ c.in-Err.ensures.past_words c.halted.ensures.told

@@ -1,5 +1,0 @@
-use Rattle.gufi_top.proofs.AskLemmas.{asks_private}
-use Rattle.gufi_top.proofs.laws.asks_are_private.Goals as goal
-
-pub returns : goal.returns
-returns c = asks_private
