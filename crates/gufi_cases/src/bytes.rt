@@ -43,11 +43,44 @@ fn next(escape: Escape, byte: u8, bytes: &mut Vec<u8>) -> Result<Escape, Fault> 
     Ok(Escape::None)
 }
 
-/// Puts the bytes of a line behind others.
-pub(crate) fn read_line(line: &str, bytes: &mut Vec<u8>) -> Result<(), Fault> {
+// Puts the number of a copy behind bytes, or, as often as it says, what stands there from a place on, where the byte means one of these.
+fn put_by_copy(
+    alloc: Global,
+    byte: u8,
+    copy: u32,
+    from: &mut usize,
+    bytes: &mut Vec<u8>,
+) -> Result<bool, AllocError> {
+    match byte {
+        b'#' => bytes.extend_from_slice(format!(in alloc; "{copy}")?.as_bytes())?,
+        b'(' => *from = bytes.len(),
+        b')' => {
+            let before = (*from).min(bytes.len());
+            let part = bytes.as_slice().split_at(before).1.to_vec(alloc)?;
+            for _ in 1..copy {
+                bytes.extend_from_slice(&part)?;
+            }
+        }
+        _ => return Ok(false),
+    }
+    Ok(true)
+}
+
+/// Puts the bytes of a line behind others, in the copy of this number.
+pub(crate) fn read_line(
+    alloc: Global,
+    line: &str,
+    copy: u32,
+    bytes: &mut Vec<u8>,
+) -> Result<(), Fault> {
     let mut escape = Escape::None;
+    let mut from = bytes.len();
     for byte in line.bytes() {
-        escape = next(escape, byte, bytes)?;
+        if matches!(escape, Escape::Begun) && put_by_copy(alloc, byte, copy, &mut from, bytes)? {
+            escape = Escape::None;
+        } else {
+            escape = next(escape, byte, bytes)?;
+        }
     }
     match escape {
         Escape::None => Ok(bytes.push(b'\n')?),

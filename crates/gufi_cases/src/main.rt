@@ -3,6 +3,7 @@
 //! `# TITLE` begins a case, without files; `-- REMARK` says nothing. `file NAME COUNT` is a file of the lines of bytes below, each
 //! COUNT times (once), and `more COUNT` puts further ones behind them. `each NAME` makes each run anew for every line below, as the whole file.
 //! A line of bytes has two blanks before it, and a newline behind it unless it ends with `\`; `\n`, `\t`, `\0`, `\xHH` and `\\` are one byte.
+//! `\#` is which of the COUNT copies this is, from 1, and what stands between `\(` and `\)` stands there as often as that number says.
 //! `pieces READ WRITE` is the most that is read and written at a time: 65536 and 5 bytes where it is left out.
 //! For the next run alone, `byte NAME PLACE VALUE` changes a byte. `cut NAME FROM TO` makes it anew for each such count of first bytes,
 //! and `opens`, `reads`, `writes` and `notes`, with `FROM TO`, for each call of that number, which fails.

@@ -100,14 +100,16 @@ impl Setting {
     }
 
     pub(crate) fn put_line(&mut self, alloc: Global, line: &str) -> Result<(), Fault> {
-        let mut bytes = Vec::new(alloc);
-        read_line(line, &mut bytes)?;
         match self.target {
-            Target::Lines => self.lines.push(bytes)?,
+            Target::Lines => {
+                let mut bytes = Vec::new(alloc);
+                read_line(alloc, line, 1, &mut bytes)?;
+                self.lines.push(bytes)?;
+            }
             Target::File { file, count } => {
                 let named = self.files.get_mut(file).ok_or(Fault::NoFile)?;
-                for _ in 0..count {
-                    named.1.extend_from_slice(&bytes)?;
+                for copy in 1..=count {
+                    read_line(alloc, line, copy, &mut named.1)?;
                 }
             }
         }

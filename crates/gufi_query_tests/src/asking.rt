@@ -1,7 +1,7 @@
 //! What the tests of both languages ask with, and how a table of cases is asked.
-ghost use Rattle.gufi_base.specs.Rows.{StandsForSome};
-
-use gufi_base::{Pred, RowRef, Tester};
+use gufi_base::Bytes;
+use gufi_find::{FindExpr, read_find};
+use gufi_users::{Users, read_group, read_passwd};
 use std::alloc::{AllocError, Global};
 use std::process::Abort;
 use std::test::Fail;
@@ -26,30 +26,23 @@ pub(crate) fn word_of(alloc: Global, truth: bool) -> Result<String, Fail> {
     Ok(format!(in alloc; "{truth}")?)
 }
 
-/// What a tester of the question says of a row at a depth.
-pub(crate) fn asked<P: Pred + Sync>(
-    alloc: Global,
-    question: &P,
-    row: RowRef<'_>,
-    depth: u32,
-) -> Result<bool, Fail>
-    requires { StandsForSome row }
-{
-    let mut tester = question.tester(alloc)?;
-    Ok(tester.test(alloc, row, depth)?)
+fn words_of(alloc: Global, line: &str) -> Result<Vec<Bytes>, AllocError> {
+    let mut words = Vec::new(alloc);
+    for word in line.split_whitespace() {
+        words.push(Bytes::from_slice(alloc, word.as_bytes())?)?;
+    }
+    Ok(words)
 }
 
-/// A text that opens 64 constructs, 32 pairs behind its front, and then goes on.
-pub(crate) fn opened(
-    alloc: Global,
-    front: &str,
-    pair: &str,
-    rest: &str,
-) -> Result<String, AllocError> {
-    let mut text = String::from_str(alloc, front)?;
-    for _ in 0..32 {
-        text.push_str(pair)?;
-    }
-    text.push_str(rest)?;
-    Ok(text)
+fn users(alloc: Global) -> Result<Users, Fail> {
+    let passwd = read_passwd(alloc, b"ana:x:1001:1001:::\n")?;
+    let groups = read_group(alloc, b"lab:x:500:ana\n")?;
+    Ok(Users::of(alloc, passwd, groups)?)
+}
+
+/// An expression at second 200,000, where ana is user 1001 and lab is group 500.
+pub(crate) fn expression(alloc: Global, line: &str) -> Result<FindExpr, Fail> {
+    let words = words_of(alloc, line)?;
+    let users = users(alloc)?;
+    Ok(read_find(alloc, words.as_slice(), &users, Some(200000))?)
 }

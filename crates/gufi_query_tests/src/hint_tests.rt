@@ -1,5 +1,4 @@
-use crate::asking::assert_answers;
-use crate::find_tests::expression;
+use crate::asking::{assert_answers, expression};
 use gufi_base::Hint;
 use gufi_find::FindExpr;
 use gufi_select::{Select, read_select};

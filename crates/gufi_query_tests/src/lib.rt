@@ -1,4 +1,4 @@
-//! Tests of questions: patterns, expressions of `find`, SELECTs, what they ask of sums, and the plans of sessions that ask them.
+//! Tests of questions: what no run of the program shows of them, what they ask of sums, and the plans of sessions that ask them.
 //!
 //! They stand beside the crates that they call, since a crate with tests is proved twice.
 #![tactic(auto)]
@@ -7,8 +7,6 @@
 mod agg_tests;
 #[cfg(test)]
 mod asking;
-#[cfg(test)]
-mod find_tests;
 #[cfg(test)]
 mod glob_tests;
 #[cfg(test)]

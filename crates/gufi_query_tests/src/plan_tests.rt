@@ -1,6 +1,6 @@
-//! Plans of scripts, and which fault counts.
+//! Plans of scripts.
 use gufi_plan::{PlannedAct, Query, Search, SessionPlan, Setup, plan_session};
-use gufi_script::{ScriptError, ScriptKind, read_script};
+use gufi_script::{ScriptError, read_script};
 use gufi_users::{Users, read_group, read_passwd};
 use std::alloc::Global;
 use std::test::Fail;
@@ -40,7 +40,7 @@ fn form_of(search: &Search) -> &'static str {
 }
 
 fn ask_line(alloc: Global, lane: u32, search: &Search) -> Result<String, Fail> {
-    let uid = search.who.uid;
+    let uid = search.who.get().uid;
     let depth = search.start.depth();
     let form = form_of(search);
     Ok(format!(in alloc; "ask {lane} {uid} {depth} {form}\n")?)
@@ -108,29 +108,6 @@ ask 16 0 2 query
 phase
 ";
     assert_eq!(rt; planned(rt.alloc(), script)?.as_str(), wanted);
-    Ok(())
-}
-
-fn fault_of(alloc: Global, text: &str) -> Result<Option<ScriptError>, Fail> {
-    Ok(plan_of(alloc, text)?.err())
-}
-
-#[test]
-fn the_first_fault_counts(rt: HostRuntime) -> Result<(), Fail> {
-    let faults = [
-        ("ask 1 nobody / find -nope", 1, ScriptKind::User),
-        ("barrier\nask 1 102 / find -nope", 2, ScriptKind::Query),
-        (
-            "\nask 1 102 / query SELECT nope FROM rows\nask 1 nobody / find",
-            2,
-            ScriptKind::Query,
-        ),
-        ("ask 1 102 / total (", 1, ScriptKind::Query),
-    ];
-    for (text, line, kind) in faults {
-        let fault = fault_of(rt.alloc(), text)?;
-        assert_eq!(rt; fault, Some(ScriptError::Fault { line, kind }));
-    }
     Ok(())
 }
 

@@ -1,5 +1,4 @@
-use crate::asking::{assert_answers, word_of};
-use crate::find_tests::expression;
+use crate::asking::{assert_answers, expression, word_of};
 use gufi_find::FindExpr;
 use gufi_prune::find_pruner;
 use gufi_sums::Skip;

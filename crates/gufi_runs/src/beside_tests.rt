@@ -1,9 +1,10 @@
-//! Runs of sessions whose gate holds an ask until another one, or a publishing command, has begun.
+//! Runs of sessions whose gate holds an ask until the others, or a publishing command, have begun.
 use crate::runs::{A, Input, check, run};
 use gufi_io::{Gate, GateKind};
+use std::alloc::{AllocError, Global};
 use std::process::Abort;
 use std::sync::Wait;
-use std::sync::atomic::{AtomicBool, Ordering};
+use std::sync::atomic::{AtomicBool, AtomicU64, Ordering};
 use std::test::Fail;
 use std::thread::{Threads, yield_now};
 
@@ -44,57 +45,71 @@ fn check_session<R: AllocGlobal + Abort + Threads + Wait + Sync, G: Gate + Sync>
     Ok(())
 }
 
-// Holds the first ask until the second has begun.
+// How many lanes there are at most.
+const LANES: u64 = 16;
+
+// Holds each ask until all of them have begun, or one was held in vain.
 #[derive(Drop)]
-struct BesideAsk {
-    second_began: AtomicBool,
-    first_met_it: AtomicBool,
+struct BesideAsks {
+    begun: AtomicU64,
+    one_was_alone: AtomicBool,
 }
 
-impl Gate for BesideAsk {
-    fn begin(&self, kind: GateKind, number: u32) {
+impl Gate for BesideAsks {
+    fn begin(&self, kind: GateKind, _number: u32) {
         if kind != GateKind::Ask {
             return;
         }
-        if number == 2 {
-            self.second_began.store(true, Ordering::SeqCst);
-        } else if begins(&self.second_began) {
-            self.first_met_it.store(true, Ordering::SeqCst);
+        self.begun.fetch_add(1, Ordering::SeqCst);
+        for _ in 0..TURNS {
+            if self.begun.load(Ordering::SeqCst) == LANES
+                || self.one_was_alone.load(Ordering::SeqCst)
+            {
+                return;
+            }
+            yield_now();
         }
+        self.one_was_alone.store(true, Ordering::SeqCst);
     }
+}
+
+// An ask in each lane, behind a publication, and the text that belongs to it.
+fn asks_of_lanes(alloc: Global) -> Result<(Vec<u8>, Vec<u8>), AllocError> {
+    let mut script = b"publish 0 a\nbarrier\n".to_vec(alloc)?;
+    let mut text = b"publish 1 number 1\n".to_vec(alloc)?;
+    for lane in 1..=LANES {
+        let ask = format!(in alloc; "ask {lane} 102 / find\n")?;
+        let reply = format!(in alloc; "reply {lane} at 1 rows 1\n/\n")?;
+        script.extend_from_slice(ask.as_bytes())?;
+        text.extend_from_slice(reply.as_bytes())?;
+    }
+    Ok((script, text))
 }
 
 #[test]
 fn lanes_run_beside_one_another(rt: HostRuntime) -> Result<(), Fail> {
-    let gate = BesideAsk {
-        second_began: AtomicBool::new(false),
-        first_met_it: AtomicBool::new(false),
+    let gate = BesideAsks {
+        begun: AtomicU64::new(0),
+        one_was_alone: AtomicBool::new(false),
     };
-    let script = b"publish 0 a
-barrier
-ask 1 102 / find
-ask 2 102 / find
-";
-    let text = b"publish 1 number 1
-reply 1 at 1 rows 1
-/
-reply 2 at 1 rows 1
-/
-";
-    check_session(&rt, &gate, script, &[([1, 1].as_slice(), text.as_slice())])?;
-    assert!(rt; gate.first_met_it.load(Ordering::SeqCst));
+    let (script, text) = asks_of_lanes(rt.alloc())?;
+    let ones = [1u64; 16];
+    let wanted = [(ones.as_slice(), text.as_slice())];
+    check_session(&rt, &gate, script.as_slice(), &wanted)?;
+    assert_eq!(rt; gate.begun.load(Ordering::SeqCst), LANES);
+    assert!(rt; !gate.one_was_alone.load(Ordering::SeqCst));
     Ok(())
 }
 
-// Holds the first ask until the second publishing command has begun, and that until the ask has.
+// Holds the second publishing command until the ask has begun, and the ask until the third command has: then the second was carried out.
 #[derive(Drop)]
-struct BesideCommand {
+struct BesideCommands {
     ask_began: AtomicBool,
-    command_began: AtomicBool,
+    third_began: AtomicBool,
     one_was_alone: AtomicBool,
 }
 
-impl BesideCommand {
+impl BesideCommands {
     fn wait_for(&self, other: &AtomicBool) {
         if !begins(other) {
             self.one_was_alone.store(true, Ordering::SeqCst);
@@ -102,48 +117,52 @@ impl BesideCommand {
     }
 }
 
-impl Gate for BesideCommand {
+impl Gate for BesideCommands {
     fn begin(&self, kind: GateKind, number: u32) {
-        if kind == GateKind::Ask && number == 1 {
-            self.ask_began.store(true, Ordering::SeqCst);
-            self.wait_for(&self.command_began);
-        }
-        if kind == GateKind::Publish && number == 2 {
-            self.command_began.store(true, Ordering::SeqCst);
-            self.wait_for(&self.ask_began);
+        match (kind, number) {
+            (GateKind::Ask, _) => {
+                self.ask_began.store(true, Ordering::SeqCst);
+                self.wait_for(&self.third_began);
+            }
+            (GateKind::Publish, 2) => self.wait_for(&self.ask_began),
+            (GateKind::Publish, 3) => self.third_began.store(true, Ordering::SeqCst),
+            _ => {}
         }
     }
 }
 
-const AT_ONE: &[u8] = b"publish 1 number 1
-publish 2 number 2
-reply 1 at 1 rows 1
-/
-";
-
 const AT_TWO: &[u8] = b"publish 1 number 1
 publish 2 number 2
+publish 3 number 3
 reply 1 at 2 rows 1
 /
 ";
 
-// A body that publishes first, or asks first, leaves one of the two alone; one that sees nothing of its phase replies at 0.
+const AT_THREE: &[u8] = b"publish 1 number 1
+publish 2 number 2
+publish 3 number 3
+reply 1 at 3 rows 1
+/
+";
+
+// A body that publishes first, or asks first, leaves one alone. One that pins before the ask begins, or sees nothing of its phase,
+// replies at a lesser number.
 #[test]
 fn a_lane_asks_beside_the_publishing_commands(rt: HostRuntime) -> Result<(), Fail> {
-    let gate = BesideCommand {
+    let gate = BesideCommands {
         ask_began: AtomicBool::new(false),
-        command_began: AtomicBool::new(false),
+        third_began: AtomicBool::new(false),
         one_was_alone: AtomicBool::new(false),
     };
-    let script = b"publish 0 a\npublish 0 a\nask 1 102 / find\n";
+    let script = b"publish 0 a\npublish 0 a\npublish 0 a\nask 1 102 / find\n";
     check_session(
         &rt,
         &gate,
         script,
-        &[([1].as_slice(), AT_ONE), ([2].as_slice(), AT_TWO)],
+        &[([2].as_slice(), AT_TWO), ([3].as_slice(), AT_THREE)],
     )?;
     assert!(rt; gate.ask_began.load(Ordering::SeqCst));
-    assert!(rt; gate.command_began.load(Ordering::SeqCst));
+    assert!(rt; gate.third_began.load(Ordering::SeqCst));
     assert!(rt; !gate.one_was_alone.load(Ordering::SeqCst));
     Ok(())
 }

@@ -11,3 +11,5 @@ mod find_tests;
 mod lane_tests;
 #[cfg(test)]
 mod runs;
+#[cfg(test)]
+mod worker_tests;

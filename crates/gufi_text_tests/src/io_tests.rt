@@ -3,9 +3,10 @@ use gufi_io::{
     FileShelf, MemShelf, MemSink, ReadError, Sink, StdSink, names_differ, read_all, write_whole,
 };
 use std::alloc::Global;
-use std::fs;
+use std::os::fd::AsRawFd;
 use std::process::Abort;
 use std::test::Fail;
+use std::{fs, io};
 
 const TEXT: &[u8] = b"some bytes\n";
 
@@ -98,6 +99,27 @@ fn reads_files_of_the_system(rt: HostRuntime) -> Result<(), Fail> {
         assert!(rt; TEXT.starts_with(&bytes));
     }
     fs::remove_file(&rt, "t")?;
+    Ok(())
+}
+
+// The descriptor of the next file, which is the lowest that is free (POSIX.1-2017 XSH 2.14).
+fn next_descriptor(rt: &HostRuntime) -> io::Result<i32> {
+    Ok(fs::open(rt, "closed")?.as_raw_fd())
+}
+
+#[test]
+fn closes_a_file_that_was_read(rt: HostRuntime) -> Result<(), Fail> {
+    let alloc = rt.alloc();
+    fs::write(&rt, "closed", TEXT)?;
+    let before = next_descriptor(&rt)?;
+    let mut shelf = FileShelf::new(&rt);
+    assert_eq!(rt;
+        ending(alloc, read_all(alloc, &mut shelf, "closed", 99)).0,
+        "whole"
+    );
+    assert_eq!(rt; next_descriptor(&rt)?, before);
+    drop(shelf);
+    fs::remove_file(&rt, "closed")?;
     Ok(())
 }
 

@@ -1,4 +1,4 @@
-//! Scripts read, and each fault of a line once.
+//! Scripts read, and how long they may be.
 use gufi_script::{Act, Form, ScriptError, ScriptKind, read_script};
 use std::process::Abort;
 use std::test::Fail;
@@ -59,37 +59,6 @@ fn acts_are_read_by_their_lines(rt: HostRuntime) -> Result<(), Fail> {
         b"publish 100 a%20b\n# no act\n \t\nrollup 007\nbarrier\nask 16 102:5 //p/./q query SELECT%20* FROM\trows\nrefresh /p//q b";
     let script = read_script(rt.alloc(), text)?;
     assert_acts(&rt, script.acts.as_slice());
-    Ok(())
-}
-
-#[test]
-fn each_fault_is_told_by_its_line(rt: HostRuntime) -> Result<(), Fail> {
-    let faults = [
-        (b"barrier\nbarrier %4".as_slice(), 2, ScriptKind::Escape),
-        (b"reload / f\nask".as_slice(), 1, ScriptKind::Verb),
-        (b"refresh / f\nrefresh f".as_slice(), 2, ScriptKind::Count),
-        (b"refresh / f 1".as_slice(), 1, ScriptKind::Count),
-        (b"refresh /.. %ff".as_slice(), 1, ScriptKind::Path),
-        (b"refresh / %ff".as_slice(), 1, ScriptKind::File),
-        (b"\n\npublish 1".as_slice(), 3, ScriptKind::Count),
-        (b"ask 17 102 / query".as_slice(), 1, ScriptKind::Count),
-        (b"rollup -1".as_slice(), 1, ScriptKind::Number),
-        (
-            b"barrier\nask 17 102 / find".as_slice(),
-            2,
-            ScriptKind::Lane,
-        ),
-        (b"ask 0 102 /.. x".as_slice(), 1, ScriptKind::Lane),
-        (b"ask 1 102 /.. x".as_slice(), 1, ScriptKind::Path),
-        (b"publish 1 %ff".as_slice(), 1, ScriptKind::File),
-        (b"ask 1 102 / ls".as_slice(), 1, ScriptKind::Form),
-    ];
-    for (text, line, kind) in faults {
-        assert_eq!(rt;
-            read_script(rt.alloc(), text).err(),
-            Some(ScriptError::Fault { line, kind })
-        );
-    }
     Ok(())
 }
 

@@ -1,4 +1,4 @@
-//! The files of a worked example, the words that name its users, and faulty files.
+//! The files of a worked example, the words that name its users, and a file that is too long.
 use gufi_users::{UserError, UserKind, Users, read_group, read_passwd};
 use std::alloc::Global;
 use std::process::Abort;
@@ -63,55 +63,13 @@ fn numbers_have_names(rt: HostRuntime) -> Result<(), Fail> {
     Ok(())
 }
 
-fn assert_fault<R: Abort>(rt: &R, fault: Option<UserError>, line: u32, kind: UserKind) {
-    assert!(rt; fault == Some(UserError::Fault { line, kind }));
-}
-
 #[test]
-fn the_least_fault_is_named(rt: HostRuntime) -> Result<(), Fail> {
-    let alloc = rt.alloc();
-    let mut third = PASSWD.to_vec(alloc)?;
-    third.extend_from_slice(b"ana:x:1002:1002:::\n")?;
-    for (text, line, kind) in [
-        (third.as_slice(), 3, UserKind::DoubleName),
-        (b"ana:x:10o1:1:::".as_slice(), 1, UserKind::Number),
-        (b"#\n\n+\n-x\nana:x:1:1:\n".as_slice(), 5, UserKind::Fields),
-        (b":x:1:1:::\nana:x:y:1:::\n".as_slice(), 1, UserKind::Fields),
-    ] {
-        assert_fault(&rt, read_passwd(alloc, text).err(), line, kind);
-    }
-    for (text, line, kind) in [
-        (b"lab:x:5:\nlab:x:6:\n".as_slice(), 2, UserKind::DoubleName),
-        (b"lab:x:5o:ana".as_slice(), 1, UserKind::Number),
-        (b"lab:x:5".as_slice(), 1, UserKind::Fields),
-    ] {
-        assert_fault(&rt, read_group(alloc, text).err(), line, kind);
-    }
-    Ok(())
-}
-
-fn newlines(alloc: Global, count: usize) -> Result<Vec<u8>, Fail> {
-    Ok(vec![in alloc; b'\n'; count]?)
-}
-
-/// The number that a file gives to ana.
-fn uid_of_ana(alloc: Global, passwd: &[u8]) -> Result<Option<u32>, Fail> {
-    let passwd = read_passwd(alloc, passwd)?;
-    let groups = read_group(alloc, GROUP)?;
-    let users = Users::of(alloc, passwd, groups)?;
-    Ok(users.uid_of(b"ana"))
-}
-
-#[test]
-fn a_file_has_at_most_65536_lines(rt: HostRuntime) -> Result<(), Fail> {
-    let alloc = rt.alloc();
-    let mut text = newlines(alloc, 65535)?;
-    text.extend_from_slice(b"ana:x:1001:1001:::\n")?;
-    assert_eq!(rt; uid_of_ana(alloc, text.as_slice())?, Some(1001));
-    text.push(b'\n')?;
+fn a_file_with_a_65537th_line_is_refused(rt: HostRuntime) -> Result<(), Fail> {
+    let text = vec![in rt.alloc(); b'\n'; 65537]?;
     let kind = UserKind::TooMany { limit: 65536 };
-    assert_fault(&rt, read_passwd(alloc, &text).err(), 65537, kind);
-    let printed = format!(in alloc; "{kind}")?;
+    let fault = read_passwd(rt.alloc(), &text).err();
+    assert!(rt; fault == Some(UserError::Fault { line: 65537, kind }));
+    let printed = format!(in rt.alloc(); "{kind}")?;
     assert_eq!(rt; printed.as_str(), "TooMany 65536");
     Ok(())
 }
