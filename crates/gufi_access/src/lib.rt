@@ -1,6 +1,7 @@
 //! Who may read and search a directory (POSIX.1-2017 XBD 4.5; POSIX.1e, draft 17, where there is an access control list), and which directory covers which.
 //!
 //! Contracts see a principal as a uid and a list of groups, and a guard as the rights that it states.
+//! Access control lists are compared as rules: nobody is tried, and it takes no memory and no table.
 //! It stands on no crate of the index; trees, queries and sessions stand on it.
 #![tactic(auto)]
 

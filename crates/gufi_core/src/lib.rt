@@ -2,7 +2,8 @@
 //!
 //! `step` says what each event changes and when it is legal, over states whose lists contracts see as lists.
 //! A run answers for every list of events; the laws say what holds in every state that one reaches.
-//! It stands on `gufi_base`; the threads of publication and of the pool each run steps of this machine.
+//! A run keeps its state in private types that are changed in place; the public lists are made once, at the end.
+//! It stands on `gufi_base`. No thread runs it: the pool's proof applies its law of balanced jobs.
 #![tactic(auto)]
 
 mod event;

@@ -1,6 +1,7 @@
 //! The SELECT profile: a query that chooses rows by a condition and prints columns of them.
 //!
 //! Contracts see a SELECT as its columns, its table, its REGEXP and a formula of conditions. It stands on rows, lists of
+//! A tester borrows what it tests by: the borrow stands in what `question()` makes, as no associated type can have a lifetime.
 //! rows, formulas and the `regex` crate; what prints queries stands on it.
 #![tactic(auto)]
 

@@ -2,6 +2,7 @@
 //!
 //! Contracts see a report as its bytes: `stats_text` says which. `Counts` keeps the sums of rows as they come, and no row;
 //! `NumberSums` keeps such sums of records for others that group rows.
+//! The type alone tells by which number `Counts` counts, since a collector is made without an argument.
 //! It stands on `gufi_base` and `gufi_sums`; groups of rows and the call that prints a report stand on it.
 #![tactic(auto)]
 
