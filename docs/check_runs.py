@@ -5,8 +5,8 @@
 
 A command is a line of a code block that begins with `$ `, with the lines behind it while a backslash ends them. The lines up to
 the next command, or to the block's end, are what it prints on both streams. The commands of a document run one after another in
-one shell, in a fresh folder that holds the program as `gufi` and the clone's `examples` and `bench`; the variable GUFI names that folder,
-as if it were the clone, and PROGRAM the program for the scripts. The status is 1 where a command prints something else.
+one shell, in a fresh folder that holds the program as `gufi` and the clone's `examples`, `bench` and `install.sh`; the variable GUFI names
+that folder, as if it were the clone, and PROGRAM the program for the scripts. The status is 1 where a command prints something else.
 """
 import argparse
 import os
@@ -59,7 +59,7 @@ def printed_by(runs, program):
     """What each command prints, in a fresh folder."""
     with tempfile.TemporaryDirectory() as folder:
         os.symlink(os.path.abspath(program), os.path.join(folder, "gufi"))
-        for name in ("examples", "bench"):
+        for name in ("examples", "bench", "install.sh"):
             os.symlink(os.path.join(TOP, name), os.path.join(folder, name))
         setting = dict(os.environ, GUFI=folder, HOME=folder, LC_ALL="C", PATH=folder + ":" + os.environ["PATH"])
         setting["PROGRAM"] = os.path.join(folder, "gufi")
