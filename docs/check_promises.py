@@ -47,7 +47,7 @@ def missing_trials(cell):
 if __name__ == "__main__":
     lines = (CRATES.parent / "docs" / "promises.md").read_text(encoding="utf-8").splitlines()
     crate, missing = "gufi_top", []
-    for row in (line.strip("| ").split(" | ") for line in lines if line.startswith("| ")):
+    for row in ([cell.strip() for cell in line.strip()[1:-1].split("|")] for line in lines if line.startswith("| ")):
         heading = re.match(r"\*\*(gufi_\w+)\*\*", row[0])
         crate = heading.group(1) if heading else crate
         missing += missing_calls(row[1], crate) if len(row) > 2 else missing_trials(row[-1])
