@@ -79,7 +79,8 @@ fn plan_acts(
 /// The phases of a script, with a principal for each USER word and a query for the words of each ask.
 ///
 /// Users and queries are judged in line order, the user of a line before its query. A damaged query is one kind of fault,
-/// `Query`, whatever is wrong with it. Asks with equal USER words share one principal.
+/// `Query`, whatever is wrong with it. Asks with equal USER words share one principal, and the group file is looked through once for
+/// all of them.
 pub fn plan_session(
     alloc: Global,
     script: Script,
@@ -88,6 +89,9 @@ pub fn plan_session(
     requires { IsTrue (is_script script) }
     ensures { GivesUnless ScriptError.Memory result (plan (setting_of setup.entry.now) script) }
 {
-    let mut principals = Principals::of(alloc, setup.users);
+    let Ok(mut principals) = Principals::of(alloc, setup.users, script.acts.as_slice()) else {
+        drop(script);
+        return Err(ScriptError::Memory);
+    };
     plan_acts(alloc, script, setup, &mut principals)
 }

@@ -6,15 +6,16 @@ ghost use Rattle.gufi_plan.specs.Known.{AreKnown};
 
 use gufi_base::Memory;
 use gufi_cache::SharedPrincipal;
-use gufi_users::Users;
-use std::alloc::Global;
+use gufi_script::Act;
+use gufi_users::{Askers, Users};
+use std::alloc::{AllocError, Global};
 use std::collections::HashMap;
 use std::marker::Model;
 
 /// The users of a session, with a principal for each word that was read: equal words share one.
 #[derive(Drop)]
 pub(crate) struct Principals<'a> {
-    users: &'a Users,
+    askers: Askers<'a>,
     known: HashMap<Vec<u8>, SharedPrincipal>,
 }
 
@@ -25,31 +26,50 @@ impl<'a> Model for Principals<'a> {
 
     ghost use Rattle.gufi_plan.specs.Known.{AreKnown};
 
-    ghost view = { λ p. p.users.now };
+    ghost view = { λ p. p.askers };
 
-    ghost invariant = { λ p. AreKnown p.users.now p.known };
+    ghost invariant = { λ p. AreKnown p.askers p.known };
 }
 
-/// Keeps a principal under its word.
+/// The USER words of the acts, as often as they stand there.
+fn user_words<'s>(alloc: Global, acts: &'s [(u32, Act)]) -> Result<Vec<&'s [u8]>, AllocError> {
+    let mut words = Vec::new(alloc);
+    'acts: for (_, act) in acts {
+        if let Act::Ask { user, .. } = act {
+            words.push(user.as_slice())?;
+        }
+    }
+    Ok(words)
+}
+
+/// Keeps a principal under its word, which it copies.
 fn keep(
+    alloc: Global,
     known: &mut HashMap<Vec<u8>, SharedPrincipal>,
-    word: Vec<u8>,
+    word: &[u8],
     who: &SharedPrincipal,
 ) -> Result<(), Memory>
-    ensures { (tables : UserTables) → principal_of tables word.items ≡ Some who.now → AreKnown tables known.old → AreKnown tables known.new }
+    ensures { (tables : UserTables) → principal_of tables word.now ≡ Some who.now → AreKnown tables known.old → AreKnown tables known.new }
 {
+    let word = Vec::from_slice(alloc, word)?;
     let who = who.share()?;
     known.insert(word, who)?;
     Ok(())
 }
 
 impl<'a> Principals<'a> {
-    /// The users, and no principal.
-    pub(crate) fn of(alloc: Global, users: &'a Users) -> Principals<'a>
-        ensures { result ≡ users.now }
+    /// Looks through the group file once for all acts.
+    pub(crate) fn of(
+        alloc: Global,
+        users: &'a Users,
+        acts: &[(u32, Act)],
+    ) -> Result<Principals<'a>, Memory>
+        ensures { IfOk result (λ principals. principals ≡ users.now) }
     {
+        let words = user_words(alloc, acts)?;
+        let askers = Askers::of(alloc, users, &words)?;
         let known = HashMap::new(alloc);
-        Principals { users, known }
+        Ok(Principals { askers, known })
     }
 
     /// Who a word names; the same principal each time.
@@ -61,15 +81,14 @@ impl<'a> Principals<'a> {
         ensures who { IfOk result (λ who. who ≡ principal_of self.old word.now) }
         ensures users { self.new ≡ self.old }
     {
-        let word = Vec::from_slice(alloc, word)?;
-        if let Some(who) = self.known.get(&word) {
+        if let Some(who) = self.known.get(word) {
             return Ok(Some(who.share()?));
         }
-        let Some(found) = self.users.principal(alloc, &word)? else {
+        let Some(found) = self.askers.principal(alloc, word)? else {
             return Ok(None);
         };
         let who = SharedPrincipal::of(alloc, found)?;
-        keep(&mut self.known, word, &who)?;
+        keep(alloc, &mut self.known, word, &who)?;
         Ok(Some(who))
     }
 }

@@ -1,5 +1,5 @@
 //! The files of a worked example, the words that name its users, and a file that is too long.
-use gufi_users::{UserError, UserKind, Users, read_group, read_passwd};
+use gufi_users::{Askers, UserError, UserKind, Users, read_group, read_passwd};
 use std::alloc::Global;
 use std::process::Abort;
 use std::test::Fail;
@@ -8,10 +8,14 @@ const PASSWD: &[u8] = b"root:x:0:0:root:/root:/bin/sh\nana:x:1001:1001:Ana:/home
 
 const GROUP: &[u8] = b"root:x:0:\nana:x:1001:\nlab:x:500:ana,bob\n";
 
-fn example(alloc: Global) -> Result<Users, Fail> {
-    let passwd = read_passwd(alloc, PASSWD)?;
-    let groups = read_group(alloc, GROUP)?;
+fn users_of(alloc: Global, passwd: &[u8], group: &[u8]) -> Result<Users, Fail> {
+    let passwd = read_passwd(alloc, passwd)?;
+    let groups = read_group(alloc, group)?;
     Ok(Users::of(alloc, passwd, groups)?)
+}
+
+fn example(alloc: Global) -> Result<Users, Fail> {
+    users_of(alloc, PASSWD, GROUP)
 }
 
 /// Asserts whom words name, and which name nobody.
@@ -38,6 +42,56 @@ fn assert_named<R: AllocGlobal + Abort>(rt: &R, users: &Users) -> Result<(), Fai
 fn words_name_principals(rt: HostRuntime) -> Result<(), Fail> {
     let users = example(rt.alloc())?;
     assert_named(&rt, &users)
+}
+
+// `one` has bob twice and two empty names, `old` has the number of `lab`, and bobby is no user.
+const CROWD: &[u8] = b"ana:x:1001:1001:::\nbob:x:1002:500:::\ncy:x:1003:1003:::\n";
+
+const TEAMS: &[u8] =
+    b"lab:x:500:ana,bob\none:x:501:bob,,bob,ana,\ntwo:x:502:\nana:x:1001:ana\nold:x:500:cy\nnew:x:503:cy,bobby\n";
+
+/// Asserts whom words name, be they among those that were given or not.
+fn assert_asked<R: AllocGlobal + Abort>(rt: &R, askers: &Askers<'_>) -> Result<(), Fail> {
+    for (word, uid, groups) in [
+        ("ana", 1001, [1001, 500, 501].as_slice()),
+        ("bob", 1002, [500, 501].as_slice()),
+        ("cy", 1003, [1003, 500, 503].as_slice()),
+        ("7:8", 7, [8].as_slice()),
+    ] {
+        let who = askers.principal(rt.alloc(), word.as_bytes())?;
+        let who = who.expect(rt, "a principal");
+        assert_eq!(rt; who.uid, uid);
+        assert_eq!(rt; who.groups.as_slice(), groups);
+    }
+    for word in ["nobody", "bobby", ""] {
+        assert!(rt; askers.principal(rt.alloc(), word.as_bytes())?.is_none());
+    }
+    Ok(())
+}
+
+/// Asserts it where those words are given.
+fn assert_given<R: AllocGlobal + Abort>(
+    rt: &R,
+    users: &Users,
+    words: &[&[u8]],
+) -> Result<(), Fail> {
+    let askers = Askers::of(rt.alloc(), users, words)?;
+    assert_asked(rt, &askers)
+}
+
+fn assert_all_given<R: AllocGlobal + Abort>(rt: &R, users: &Users) -> Result<(), Fail> {
+    assert_given(
+        rt,
+        users,
+        &[b"bob", b"ana", b"bob", b"7:8", b"nobody", b"bobby"],
+    )?;
+    assert_given(rt, users, &[b"7:8", b""])
+}
+
+#[test]
+fn askers_have_the_groups_of_their_names(rt: HostRuntime) -> Result<(), Fail> {
+    let users = users_of(rt.alloc(), CROWD, TEAMS)?;
+    assert_all_given(&rt, &users)
 }
 
 fn is_text(name: Option<&[u8]>, text: &[u8]) -> bool {

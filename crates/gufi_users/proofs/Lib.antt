@@ -2,3 +2,4 @@ pub mod PlaceLemmas
 pub mod ReadLemmas
 pub mod RowLemmas
 pub mod TableLemmas
+pub mod MemberLemmas

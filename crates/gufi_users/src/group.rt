@@ -9,6 +9,7 @@ ghost use Rattle.gufi_users.specs.Rows.{is_named};
 ghost use Rattle.gufi_users.specs.Users.{group_texts, members_of, read_group_line, group_name, read_group};
 
 use crate::fault::{UserError, UserKind};
+use crate::members::note_groups;
 use crate::table::{FromLine, read_table};
 use gufi_base::{Bytes, Pieces, pieces_of, read_u32};
 use indexmap::IndexMap;
@@ -69,8 +70,9 @@ impl Model for Groups {
 }
 
 impl Groups {
-    ghost use Rattle.std.specs.Prelude.{IfOk, bytes_eq, find, map, option_map, slice_get};
+    ghost use Rattle.std.specs.Prelude.{IfOk, OnOk, bytes_eq, find, map, option_map, slice_get};
     ghost use Rattle.gufi_users.specs.Entries.{GroupEntry};
+    ghost use Rattle.gufi_users.specs.Members.{noted, HaveMore};
     ghost use Rattle.gufi_users.specs.Users.{member_gids};
 
     /// The gids, in file order.
@@ -87,6 +89,15 @@ impl Groups {
         ensures { IfOk result (λ gids. gids.items ≡ member_gids name.now self.now) }
     {
         gids_of_member(alloc, &self.rows, name)
+    }
+
+    /// Notes behind each name of the table the gids of the groups that have it as a member's, in file order, and as often as they have
+    /// it. Goes through all members once.
+    pub(crate) fn note_gids(&self, gids: &mut IndexMap<Vec<u8>, Vec<u32>>) -> Result<(), AllocError>
+        ensures { OnOk result (HaveMore (λ name. noted name self.now) gids.old.entries gids.new.entries) }
+    {
+        note_groups(gids, &self.rows)?;
+        Ok(())
     }
 
     /// The gid of the group of that name.

@@ -4,9 +4,11 @@
 //! It stands on names and access rules; the words of `find`, listings and sessions stand on it.
 #![tactic(auto)]
 
+mod askers;
 mod fault;
 mod group;
 mod line;
+mod members;
 mod passwd;
 mod place;
 mod row;
@@ -14,6 +16,7 @@ mod table;
 mod users;
 mod word;
 
+pub use askers::Askers;
 pub use fault::{UserError, UserKind};
 pub use group::{Groups, read_group};
 pub use passwd::{Passwd, read_passwd};

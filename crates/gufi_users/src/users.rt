@@ -1,10 +1,12 @@
 //! Both tables together: who a USER word names, and names by number.
 //!
 //! A table is let go by a call: what is let go at an early exit is proved there anew.
-ghost use Rattle.std.specs.Prelude.{◌≡◌, Some, None, map, option_map, slice_get, IfOk, MatchOption};
+ghost use Rattle.std.specs.Prelude.{◌≡◌, ◌∷◌, Some, None, map, option_map, slice_get, IfOk, MatchOption};
+ghost use Rattle.gufi_base.specs.Basics.{distinct};
 ghost use Rattle.gufi_users.specs.Places.{AreFirst, AreIndexed};
 ghost use Rattle.gufi_users.specs.Entries.{PasswdEntry, GroupEntry};
-ghost use Rattle.gufi_users.specs.Users.{groups_of, name_of_gid, name_of_uid, gid_of, uid_of, principal_of};
+ghost use Rattle.gufi_users.specs.Members.{noted};
+ghost use Rattle.gufi_users.specs.Users.{name_of_gid, name_of_uid, gid_of, uid_of, principal_of};
 
 use crate::group::Groups;
 use crate::passwd::{Account, Passwd};
@@ -66,6 +68,17 @@ fn places_of(alloc: Global, passwd: &Passwd, groups: &Groups) -> Result<Places, 
     let uids = uid_places(alloc, passwd)?;
     let gids = gid_places(alloc, groups)?;
     Ok(Places { uids, gids })
+}
+
+/// A user in the group of his account and in others, each once.
+fn principal_with(alloc: Global, account: Account, others: &[u32]) -> Result<Principal, AllocError>
+    ensures { IfOk result (λ who. who ≡ record { uid = account.uid; groups = distinct (account.gid ∷ others.now) }) }
+{
+    let groups = distinct_numbers(alloc, account.gid, others)?;
+    Ok(Principal {
+        uid: account.uid,
+        groups: GroupList::indexed(alloc, groups)?,
+    })
 }
 
 impl Users {
@@ -143,30 +156,44 @@ impl Users {
         self.groups.gids(alloc)
     }
 
+    /// The groups, in file order and by name.
+    pub(crate) fn groups(&self) -> &Groups
+        ensures { result.now ≡ self.now.groups }
+    {
+        &self.groups
+    }
+
     /// Who a word names: a user of that name, or else the numbers that it writes, as `UID`, `UID:` or `UID:GID,GID`.
     ///
-    /// A named user has his passwd gid and the groups that list him, in file order and without repeats.
+    /// A named user has his passwd gid and the groups that list him, in file order and without repeats. A name costs a look through the
+    /// group file: [`Askers`](crate::Askers) takes one for many names.
     #[tactic(auto, unfolding(crate::specs::Users::principal_of))]
     pub fn principal(&self, alloc: Global, word: &[u8]) -> Result<Option<Principal>, Memory>
         ensures { IfOk result (λ who. who ≡ principal_of self.now word.now) }
     {
         match self.passwd.account_of(word) {
             Some(account) => {
-                let groups = self.gids_of(alloc, word, account)?;
-                Ok(Some(Principal {
-                    uid: account.uid,
-                    groups: GroupList::indexed(alloc, groups)?,
-                }))
+                let others = self.groups.gids_with(alloc, word)?;
+                Ok(Some(principal_with(alloc, account, &others)?))
             }
             None => Ok(numbered(alloc, word)?),
         }
     }
 
-    // The gids of a named user.
-    fn gids_of(&self, alloc: Global, name: &[u8], account: Account) -> Result<Vec<u32>, AllocError>
-        ensures { IfOk result (λ gids. gids.items ≡ groups_of self.now (record { name = name.now; uid = account.uid; gid = account.gid })) }
+    /// The same, where the gids are known of the groups that have the word as a member's name.
+    #[tactic(auto, unfolding(crate::specs::Users::principal_of), using(crate::proofs::MemberLemmas::distinct_noted))]
+    pub(crate) fn principal_in(
+        &self,
+        alloc: Global,
+        word: &[u8],
+        others: &[u32],
+    ) -> Result<Option<Principal>, Memory>
+        requires { others.now ≡ noted word.now self.now.groups }
+        ensures { IfOk result (λ who. who ≡ principal_of self.now word.now) }
     {
-        let others = self.groups.gids_with(alloc, name)?;
-        distinct_numbers(alloc, account.gid, &others)
+        match self.passwd.account_of(word) {
+            Some(account) => Ok(Some(principal_with(alloc, account, others)?)),
+            None => Ok(numbered(alloc, word)?),
+        }
     }
 }

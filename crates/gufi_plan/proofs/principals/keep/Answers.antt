@@ -20,4 +20,5 @@ known_more tables word other who before after is names had =
 
 pub returns : goal.returns
 returns c = λ tables names before other.
-    known_more tables c.args.word.items other.items c.in_ok-who.who _ _ (c.in_ok-insert.ensures.updates.0 other) (names ∙ ap Some (sym c.in_ok-who.ensures)) (before other)
+    known_more tables c.in_ok-word.word.items other.items c.in_ok-who.who _ _ (c.in_ok-insert.ensures.updates.0 other)
+    (ap (principal_of tables) c.in_ok-word.ensures.items ∙ names ∙ ap Some (sym c.in_ok-who.ensures)) (before other)
