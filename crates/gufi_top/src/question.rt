@@ -237,7 +237,7 @@ impl<'a> Question<'a> {
         match self {
             Question::Find(find) => match find.expression(alloc, users) {
                 Ok(expression) => {
-                    let Ok(snap) = ready_to_find(alloc, snap, &expression) else {
+                    let Ok(snap) = ready_to_find(alloc, snap, who, &expression) else {
                         drop(expression);
                         return Err(Halt::Memory);
                     };
@@ -251,7 +251,7 @@ impl<'a> Question<'a> {
             },
             Question::Query(query) => match query.select(alloc) {
                 Ok(select) => {
-                    let Ok(snap) = ready_to_select(alloc, snap, &select) else {
+                    let Ok(snap) = ready_to_select(alloc, snap, who, &select) else {
                         drop(select);
                         return Err(Halt::Memory);
                     };
@@ -265,7 +265,7 @@ impl<'a> Question<'a> {
             },
             Question::Agg(aggregate) => match aggregate.agg(alloc) {
                 Ok(agg) => {
-                    let Ok(snap) = ready_to_select(alloc, snap, agg.select()) else {
+                    let Ok(snap) = ready_to_select(alloc, snap, who, agg.select()) else {
                         drop(agg);
                         return Err(Halt::Memory);
                     };
