@@ -36,8 +36,8 @@ fn groups_by<K: RowNumber + Send + Sync, R: Threads + Wait + Sync, G: Gate + Syn
 {
     // The tree's count tells that the rows of an answer are few.
     let _tree = snap.tree();
-    let chosen = select.question();
     let skip = select_pruner(alloc, select)?;
+    let chosen = select.question();
     match answer::<R, SelectQuestion<'_>, Groups<K>, Pruner, G>(
         walkers.rt,
         alloc,

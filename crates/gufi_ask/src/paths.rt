@@ -66,8 +66,8 @@ fn found_paths<R: Threads + Wait + Sync, G: Gate + Sync>(
     ensures found { OnOk result (refusal_of (resolve snap.now.tree who.now start.now) ≡ None) }
     ensures refusal { IfErr result (λ refusal. refusal ≢ Refusal.Memory → refusal_of (resolve snap.now.tree who.now start.now) ≡ Some refusal) }
 {
-    let question = expression.question();
     let skip = find_pruner(alloc, expression)?;
+    let question = expression.question();
     answer_paths(walkers, alloc, snap, who, start, &question, &skip)
 }
 

@@ -68,8 +68,8 @@ fn selected_rows<R: Threads + Wait + Sync, G: Gate + Sync>(
     ensures found { OnOk result (refusal_of (resolve snap.now.tree who.now start.now) ≡ None) }
     ensures refusal { IfErr result (λ refusal. refusal ≢ Refusal.Memory → refusal_of (resolve snap.now.tree who.now start.now) ≡ Some refusal) }
 {
-    let question = select.question();
     let skip = select_pruner(alloc, select)?;
+    let question = select.question();
     answer_list(walkers, alloc, snap, who, start, &question, &skip)
 }
 
