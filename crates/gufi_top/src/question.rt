@@ -7,10 +7,11 @@ ghost use Rattle.gufi_select.specs.Columns.{Select as SeenSelect};
 ghost use Rattle.gufi_select.specs.Faults.{select_kind_text};
 ghost use Rattle.gufi_agg.specs.Aggs.{Agg as SeenAgg};
 ghost use Rattle.gufi_agg.specs.Faults.{agg_kind_text};
+ghost use Rattle.gufi_ask.specs.Asks.{find_ask, query_ask, agg_ask};
 ghost use Rattle.gufi_top.specs.Questions.{asks};
 ghost use Rattle.gufi_top.specs.Reasons.{word_fault, text_fault};
 ghost use Rattle.gufi_top.specs.Views.{text_view};
-ghost use Rattle.gufi_top.specs.Verdict.{asked_if, expression_in, find_asking, stats_asking, report_of, select_in, query_asking, agg_in, agg_asking};
+ghost use Rattle.gufi_top.specs.Verdict.{asked, asked_if, expression_in, find_asking, stats_asking, report_of, select_in, query_asking, agg_in, agg_asking};
 ghost use Rattle.gufi_top.specs.Calls.{Gives, IsOfBytes};
 
 use crate::halt::{Halt, Output, refused};
@@ -171,6 +172,72 @@ fn report_of(word: ReportWord) -> Report
     }
 }
 
+// What is written of the rows for which an expression is true. Sums are made where it asks for them.
+#[tactic(auto, using(crate::proofs::ReplyLemmas::asking))]
+fn found<R: Threads + Wait + Sync, G: Gate + Sync>(
+    walkers: &Walkers<'_, R, G>,
+    alloc: Global,
+    snap: Snapshot,
+    who: &Principal,
+    start: &Path,
+    expression: FindExpr,
+) -> Result<Output, Halt>
+    ensures text { Gives text_view result (asked snap.tree who.now start.now (find_ask expression)) }
+    ensures of_bytes { IfErr result IsOfBytes }
+{
+    let Ok(snap) = ready_to_find(alloc, snap, who, &expression) else {
+        drop(expression);
+        return Err(Halt::Memory);
+    };
+    let reply = find_text(walkers, alloc, snap, who, start, &expression);
+    drop(expression);
+    written(alloc, reply)
+}
+
+// The same of the columns of the rows that a SELECT chooses.
+#[tactic(auto, using(crate::proofs::ReplyLemmas::asking))]
+fn selected<R: Threads + Wait + Sync, G: Gate + Sync>(
+    walkers: &Walkers<'_, R, G>,
+    alloc: Global,
+    snap: Snapshot,
+    who: &Principal,
+    start: &Path,
+    select: Select,
+) -> Result<Output, Halt>
+    ensures text { Gives text_view result (asked snap.tree who.now start.now (query_ask select)) }
+    ensures of_bytes { IfErr result IsOfBytes }
+{
+    let Ok(snap) = ready_to_select(alloc, snap, who, &select) else {
+        drop(select);
+        return Err(Halt::Memory);
+    };
+    let reply = query_text(walkers, alloc, snap, who, start, &select);
+    drop(select);
+    written(alloc, reply)
+}
+
+// The same of the groups of an agg.
+#[tactic(auto, using(crate::proofs::ReplyLemmas::asking))]
+fn grouped<R: Threads + Wait + Sync, G: Gate + Sync>(
+    walkers: &Walkers<'_, R, G>,
+    alloc: Global,
+    snap: Snapshot,
+    who: &Principal,
+    start: &Path,
+    agg: Agg,
+) -> Result<Output, Halt>
+    ensures text { Gives text_view result (asked snap.tree who.now start.now (agg_ask agg)) }
+    ensures of_bytes { IfErr result IsOfBytes }
+{
+    let Ok(snap) = ready_to_select(alloc, snap, who, agg.select()) else {
+        drop(agg);
+        return Err(Halt::Memory);
+    };
+    let reply = groups_text(walkers, alloc, &snap, who, start, &agg);
+    drop(agg);
+    written_over(alloc, snap, reply)
+}
+
 /// What a command asks of an index for a principal from a start on.
 #[derive(Clone, Copy)]
 pub(crate) enum Question<'a> {
@@ -236,42 +303,21 @@ impl<'a> Question<'a> {
     {
         match self {
             Question::Find(find) => match find.expression(alloc, users) {
-                Ok(expression) => {
-                    let Ok(snap) = ready_to_find(alloc, snap, who, &expression) else {
-                        drop(expression);
-                        return Err(Halt::Memory);
-                    };
-                    let reply = find_text(walkers, alloc, snap, who, start, &expression);
-                    written(alloc, reply)
-                }
+                Ok(expression) => found(walkers, alloc, snap, who, start, expression),
                 Err(halt) => {
                     drop(snap);
                     Err(halt)
                 }
             },
             Question::Query(query) => match query.select(alloc) {
-                Ok(select) => {
-                    let Ok(snap) = ready_to_select(alloc, snap, who, &select) else {
-                        drop(select);
-                        return Err(Halt::Memory);
-                    };
-                    let reply = query_text(walkers, alloc, snap, who, start, &select);
-                    written(alloc, reply)
-                }
+                Ok(select) => selected(walkers, alloc, snap, who, start, select),
                 Err(halt) => {
                     drop(snap);
                     Err(halt)
                 }
             },
             Question::Agg(aggregate) => match aggregate.agg(alloc) {
-                Ok(agg) => {
-                    let Ok(snap) = ready_to_select(alloc, snap, who, agg.select()) else {
-                        drop(agg);
-                        return Err(Halt::Memory);
-                    };
-                    let reply = groups_text(walkers, alloc, &snap, who, start, &agg);
-                    written_over(alloc, snap, reply)
-                }
+                Ok(agg) => grouped(walkers, alloc, snap, who, start, agg),
                 Err(halt) => {
                     drop(snap);
                     Err(halt)

@@ -39,7 +39,10 @@ fn walk_tree<R: Threads + Wait + Sync, G: Gate + Sync>(
     ensures past_words { IfErr result IsPastWords }
 {
     let snap = snapshot_of(alloc, tree, 0)?;
-    let start = Path::root(alloc)?;
+    let Ok(start) = Path::root(alloc) else {
+        drop(snap);
+        return Err(Halt::Memory);
+    };
     let reply = walk_text(walkers, alloc, snap, who, &start);
     written(alloc, reply)
 }
