@@ -1,6 +1,5 @@
 -- What the program's own calls give: the value of a step, or the reason for which it gives none.
-use Rattle.std.specs.Prelude.{◌≡◌, ◌≢◌, ◌≤◌, ℕ, List, ◌++◌, Vec, ⊤, Option, Some, None, Result, Ok, Err}
-use Rattle.std.specs.declared.alloc.Global.{Global}
+use Rattle.std.specs.Prelude.{◌≡◌, ◌≢◌, ◌≤◌, ℕ, List, ◌++◌, ⊤, Option, Some, None, Result, Ok, Err}
 use Rattle.gufi_io.specs.Files.{Files}
 use Rattle.gufi_io.specs.declared.shelf.Shelf.{Ghosts as ShelfOf}
 use Rattle.gufi_io.specs.Causes.{Rose}

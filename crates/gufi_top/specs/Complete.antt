@@ -1,5 +1,5 @@
 -- What leaves a run nothing to refuse, and how it ends then.
-use Rattle.std.specs.Prelude.{◌≡◌, ◌≤◌, ◌⊎◌, ℕ, IsTrue, List, [], is_ok, ⊤, Option, Some, None, Result, Ok, Err}
+use Rattle.std.specs.Prelude.{◌≡◌, ◌≤◌, ◌⊎◌, ℕ, IsTrue, List, [], is_ok, ⊤, Some, None, Result, Ok, Err}
 use Rattle.gufi_io.specs.Causes.{Rose}
 use Rattle.gufi_io.specs.Files.{Files}
 use Rattle.gufi_io.specs.declared.shelf.Shelf.{Ghosts as ShelfOf}
@@ -12,9 +12,8 @@ use Rattle.gufi_tree.specs.Resolve.{resolve, is_found}
 use Rattle.gufi_snap.specs.Snap.{Snap}
 use Rattle.gufi_users.specs.Entries.{UserTables}
 use Rattle.gufi_users.specs.Users.{principal_of}
-use Rattle.gufi_phases.specs.declared.load.Stop.{Stop}
 use Rattle.gufi_plan.specs.Plan.{Plan}
-use Rattle.gufi_session.specs.Run.{Run, run_of}
+use Rattle.gufi_session.specs.Run.{run_of}
 use Rattle.gufi_words.specs.CommandWords.{read_words}
 use Rattle.gufi_words.specs.declared.command.Common.{Common}
 use Rattle.gufi_words.specs.declared.command.Command.{Command}

@@ -1,5 +1,5 @@
 //! `gen`: a generated trace, or what a run over it comes to.
-ghost use Rattle.std.specs.Prelude.{◌≡◌, ◌≢◌, ◌++◌, [], OnOk, OnErr, IfOk, IfErr};
+ghost use Rattle.std.specs.Prelude.{◌≡◌, [], IfOk, IfErr};
 ghost use Rattle.gufi_access.specs.Access.{principal};
 ghost use Rattle.gufi_gen.specs.Generated.{gen_text};
 ghost use Rattle.gufi_roll.specs.CanRoll.{roll_report, roll_flags, report_text};

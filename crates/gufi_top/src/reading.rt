@@ -1,10 +1,9 @@
 //! The files that the words name.
-ghost use Rattle.std.specs.Prelude.{◌≡◌, ◌≢◌, ◌≤◌, ◌<◌, ◌+◌, [], true, length, IfErr, IfOk, OnOk, IsTrue, Err};
+ghost use Rattle.std.specs.Prelude.{◌≡◌, ◌≤◌, ◌<◌, ◌+◌, [], true, length, IfErr, IfOk, OnOk, IsTrue, Err};
 ghost use Rattle.gufi_base.specs.Basics.{result_map_err};
 ghost use Rattle.gufi_base.specs.Limits.{max_dirs, max_entries, max_trace};
 ghost use Rattle.gufi_tree.specs.Build.{tree_of};
-ghost use Rattle.gufi_io.specs.Causes.{Rose};
-ghost use Rattle.gufi_io.specs.Files.{Holds, IsReadUpTo};
+ghost use Rattle.gufi_io.specs.Files.{IsReadUpTo};
 ghost use Rattle.gufi_io.specs.Kept.{Keeps};
 ghost use Rattle.gufi_trace.specs.Reader.{HasRead};
 ghost use Rattle.gufi_trace.specs.TraceText.{of_line, of_tree};

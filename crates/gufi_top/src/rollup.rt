@@ -1,5 +1,5 @@
 //! `rollup`: the image of an index under a limit, and what of it is rolled up. `trace2index`: the image of a trace.
-ghost use Rattle.std.specs.Prelude.{◌≡◌, ◌≢◌, [], Ok, IfOk, IfErr};
+ghost use Rattle.std.specs.Prelude.{◌≡◌, Ok, IfOk, IfErr};
 ghost use Rattle.gufi_roll.specs.CanRoll.{roll_report, roll_flags, report_text};
 ghost use Rattle.gufi_image.specs.Image.{image_text};
 ghost use Rattle.gufi_top.specs.Views.{text_view};

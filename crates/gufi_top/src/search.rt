@@ -1,6 +1,5 @@
 //! Commands with a USER and a START, which ask one index.
-ghost use Rattle.std.specs.Prelude.{◌≡◌, ◌≢◌, ◌≤◌, IfOk, IfErr};
-ghost use Rattle.gufi_users.specs.Entries.{UserTables};
+ghost use Rattle.std.specs.Prelude.{◌≡◌, IfErr};
 ghost use Rattle.gufi_access.specs.declared.class.Principal.{Principal as SeenPrincipal};
 ghost use Rattle.gufi_top.specs.Questions.{asks};
 ghost use Rattle.gufi_top.specs.Views.{text_view};

@@ -1,8 +1,6 @@
 //! The passwd and group files that the words name.
-ghost use Rattle.std.specs.Prelude.{◌≡◌, ◌≢◌, [], unwrap_or, IfErr, Err};
-ghost use Rattle.gufi_base.specs.Limits.{max_users};
+ghost use Rattle.std.specs.Prelude.{◌≡◌, [], unwrap_or, IfErr, Err};
 ghost use Rattle.gufi_io.specs.Kept.{Keeps};
-ghost use Rattle.gufi_users.specs.Entries.{PasswdEntry, GroupEntry, UserTables};
 ghost use Rattle.gufi_top.specs.Views.{bytes_view};
 ghost use Rattle.gufi_top.specs.Reasons.{optional_file, user_reason, passwd_within, group_within, passwd_in, group_in, tables_beside, tables_in};
 ghost use Rattle.gufi_top.specs.Calls.{Gives, GivesOver, IsOfBytes, IsPastWords, HaltHasCause};

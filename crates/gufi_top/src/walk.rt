@@ -1,5 +1,5 @@
 //! `walk`: all that a principal lists from the root.
-ghost use Rattle.std.specs.Prelude.{◌≡◌, ◌≢◌, [], IfOk, IfErr};
+ghost use Rattle.std.specs.Prelude.{◌≡◌, [], IfOk, IfErr};
 ghost use Rattle.gufi_top.specs.Views.{text_view};
 ghost use Rattle.gufi_ask.specs.Asks.{walk_ask};
 ghost use Rattle.gufi_top.specs.Verdict.{asked, walk_over};

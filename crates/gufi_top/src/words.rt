@@ -1,5 +1,5 @@
 //! The command that the words are.
-ghost use Rattle.std.specs.Prelude.{◌≡◌, IfErr};
+ghost use Rattle.std.specs.Prelude.{IfErr};
 ghost use Rattle.gufi_words.specs.declared.command.Command.{Command as SeenCommand};
 ghost use Rattle.gufi_words.specs.WordTexts.{texts};
 ghost use Rattle.gufi_top.specs.Verdict.{command_in};
