@@ -18,7 +18,7 @@ use std::sync::Wait;
 use std::sync::atomic::{AtomicU64, Ordering};
 use std::sync::ledger::{Blank, Ledger};
 use std::test::Fail;
-use std::thread::Threads;
+use std::thread::{Threads, yield_now};
 
 /// Counts tasks and stores.
 #[derive(Drop)]
@@ -293,11 +293,92 @@ fn assert_same<R: AllocGlobal + Threads + Wait + Sync + Abort>(
     Ok(())
 }
 
+/// How many directories there are in the root and the branches.
+const DIRS: u64 = 1251;
+
+/// The first task that is dealt to a walker: the root and its first branch are taken by the thread that asks.
+const HELD: u32 = 3;
+
+/// How often a task that is held looks whether the others have begun.
+const TURNS: u32 = 10_000_000;
+
+/// Counts the tasks that begin, and holds one until all have begun but that of the directory below its own. The walker that takes it
+/// takes none of these, so others have to, and those that were dealt to the first they have to steal.
+#[derive(Drop)]
+struct Holding {
+    tasks: AtomicU64,
+    /// The sum of the tasks' numbers.
+    numbers: AtomicU64,
+    met: AtomicU64,
+}
+
+impl Holding {
+    fn none() -> Holding {
+        Holding {
+            tasks: AtomicU64::new(0),
+            numbers: AtomicU64::new(0),
+            met: AtomicU64::new(0),
+        }
+    }
+
+    fn hold(&self) {
+        for _ in 0..TURNS {
+            if self.tasks.load(Ordering::SeqCst) == DIRS - 1 {
+                self.met.store(1, Ordering::SeqCst);
+                return;
+            }
+            yield_now();
+        }
+    }
+}
+
+impl Gate for Holding {
+    fn begin(&self, kind: GateKind, number: u32) {
+        if kind != GateKind::Task {
+            return;
+        }
+        self.tasks.fetch_add(1, Ordering::SeqCst);
+        self.numbers.fetch_add(u64::from(number), Ordering::SeqCst);
+        if number == HELD {
+            self.hold();
+        }
+    }
+}
+
+/// Asserts that two walkers have each directory as a task once, and that the one that is held meets the others.
+fn assert_shared<R: AllocGlobal + Threads + Wait + Sync + Abort>(
+    rt: &R,
+    snap: &Snapshot,
+) -> Result<(), Fail> {
+    let alloc = rt.alloc();
+    let who = principal(alloc, 102);
+    let start = Path::root(alloc)?;
+    let gate = Holding::none();
+    let sum: Summary = answer(rt, alloc, snap, &who, &start, &Always, &NoSkip, 2, &gate)?;
+    assert_eq!(rt; sum.dirs, DIRS);
+    assert_eq!(rt; gate.met.load(Ordering::SeqCst), 1);
+    assert_eq!(rt; gate.tasks.load(Ordering::SeqCst), DIRS);
+    assert_eq!(rt; gate.numbers.load(Ordering::SeqCst), DIRS * (DIRS - 1) / 2);
+    Ok(())
+}
+
+/// The snapshot of a root and of 625 branches, and the text of their paths.
+fn branches(alloc: Global) -> Result<(Snapshot, Vec<u8>), Fail> {
+    let mut lines = Vec::new(alloc);
+    let mut text = Vec::new(alloc);
+    add_tree(alloc, &mut lines, &mut text)?;
+    let snap = snapshot_of_lines(alloc, lines)?;
+    Ok((snap, text))
+}
+
 #[test]
 fn many_walkers_give_the_rows_of_one_thread(rt: HostRuntime) -> Result<(), Fail> {
-    let mut lines = Vec::new(rt.alloc());
-    let mut text = Vec::new(rt.alloc());
-    add_tree(rt.alloc(), &mut lines, &mut text)?;
-    let snap = snapshot_of_lines(rt.alloc(), lines)?;
+    let (snap, text) = branches(rt.alloc())?;
     assert_same(&rt, &snap, text.as_slice())
+}
+
+#[test]
+fn two_walkers_share_what_is_asked_of_a_snapshot(rt: HostRuntime) -> Result<(), Fail> {
+    let (snap, _text) = branches(rt.alloc())?;
+    assert_shared(&rt, &snap)
 }
