@@ -13,8 +13,9 @@ export LC_ALL
 list=share/gufi/installed
 files='' folders='' stage=''
 
+# (The shell's own echo would read a backslash in a name.)
 tell() {
-    echo "install.sh: $*" >&2
+    printf 'install.sh: %s\n' "$*" >&2
 }
 
 # Ends with what failed. Why it did stands above, as the command said it.
@@ -25,7 +26,7 @@ fail() {
 
 # The name under which a file is made, beside its own.
 aside() {
-    echo "$root/${1%/*}/.${1##*/}.new"
+    printf '%s\n' "$root/${1%/*}/.${1##*/}.new"
 }
 
 # Removes what was made aside, however this ends, and says where that leaves the installation.
@@ -142,7 +143,7 @@ END
     remove "$(printf '%s\n' "$earlier" | grep -F -x -v -e "$mine")"
     write_list "$mine$folders"
     stage=''
-    echo "$version is installed in $root: the program, the manual page, the completions for bash and the examples"
+    printf '%s\n' "$version is installed in $root: the program, the manual page, the completions for bash and the examples"
 }
 
 # Removes files, and what was made aside of them.
@@ -168,7 +169,7 @@ remove_all() {
 $folders
 END
     stage=''
-    echo "what was installed in $root is removed"
+    printf '%s\n' "what was installed in $root is removed"
 }
 
 refuse() {
