@@ -14,8 +14,11 @@ import subprocess
 import sys
 import tempfile
 
-TOP = os.path.dirname(os.path.dirname(os.path.abspath(__file__)))
+TOP = os.path.dirname(os.path.dirname(os.path.realpath(__file__)))
 DOCUMENTS = ["README.md", "docs/guide.md", "docs/operators.md", "docs/shards.md"]
+
+# What in the caller's environment would change what commands print.
+DROPPED = ("CDPATH", "DESTDIR", "ENV", "GUFI_OPTIONS", "JOBS")
 
 # What the shell prints behind each command, and no command prints.
 MARK = "\036\036\n"
@@ -63,6 +66,8 @@ def printed_by(runs, program):
             os.symlink(os.path.join(TOP, name), os.path.join(folder, name))
         setting = dict(os.environ, GUFI=folder, HOME=folder, LC_ALL="C", PATH=folder + ":" + os.environ["PATH"])
         setting["PROGRAM"] = os.path.join(folder, "gufi")
+        for name in DROPPED:
+            setting.pop(name, None)
         shell = subprocess.run(
             ["sh", "-c", script_of(runs)],
             cwd=folder,
@@ -92,6 +97,7 @@ def main():
     parser.add_argument("--program", default=os.path.join(TOP, "gufi"))
     parser.add_argument("documents", nargs="*", default=DOCUMENTS)
     given = parser.parse_args()
+    given.program = os.path.abspath(given.program)
     # The script `gufi` builds the program where that is needed, and says so.
     subprocess.run([given.program, "--version"], stdout=subprocess.DEVNULL, check=True)
     return 1 if sum(differences(document, given.program) for document in given.documents) else 0
