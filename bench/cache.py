@@ -85,8 +85,9 @@ def named(options, asks, folder):
             cost[who], first[who] = (every[0] - one[0]) / (options.asks - 1) * 1e6, one[0]
             beside = (cost[who] / cost["by number"], 1e3 * (first[who] - first["by number"]))
             print("| %s | %.1f us | %.2f | %.1f ms | %.0f MB |" % ((who + cache, cost[who]) + beside + (every[2],)))
-    texts = {subprocess.run(commands["all", who], cwd=folder, stdout=subprocess.PIPE).stdout for who in list(whos)[:3]}
+    texts = {subprocess.run(commands["all", who], cwd=folder, stdout=subprocess.PIPE, check=True).stdout for who in list(whos)[:3]}
     print("all texts are equal" if len(texts) == 1 else "TEXTS DIFFER")
+    return 0 if len(texts) == 1 else 1
 
 
 def main():
@@ -127,7 +128,8 @@ def main():
     cost = {name: (times[name][0] - times["publish"][0]) / options.asks * 1e6 for name in ("without", "with")}
     print("one ask: %.1f us, with %d replies kept %.1f us, %.1f times faster" % (cost["without"], options.capacity, cost["with"], cost["without"] / cost["with"]))
     print(kept.stderr.decode().strip() + ", " + ("all texts are equal" if made.stdout == kept.stdout else "TEXTS DIFFER"))
+    return 0 if made.stdout == kept.stdout else 1
 
 
 if __name__ == "__main__":
-    main()
+    sys.exit(main())

@@ -86,6 +86,14 @@ def seconds(command, runs):
     return statistics.median(seen)
 
 
+def millions(command):
+    """The millions of instructions, or None where the run is refused."""
+    try:
+        return instructions(command) / 1e6
+    except subprocess.CalledProcessError:
+        return None
+
+
 def main():
     here = os.path.dirname(os.path.abspath(__file__))
     parser = argparse.ArgumentParser()
@@ -101,7 +109,7 @@ def main():
                 continue
             texts, costs = [], []
             for size, command in pair:
-                cost = instructions(command) / 1e6 if given.instructions else seconds(command, given.runs)
+                cost = millions(command) if given.instructions else seconds(command, given.runs)
                 costs.append(cost)
                 texts.append("at %d %s" % (size, "none" if cost is None else "%.3f" % cost))
             quotient = "-" if None in costs else "%.1f" % (costs[1] / max(costs[0], 0.001))

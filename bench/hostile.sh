@@ -4,15 +4,21 @@
 # RUN is `session`, `refresh`, `cache` or `find`, and all four where it isn't given. The numbers go from FROM, which is 1, up to TO, or up
 # to the first that no allocation has any more. Each run has to end with status 0 and its whole text, or with 7 and its note: nothing is
 # written by `find`, and some first phases by a session. The last line of each counts the runs; a run that ends otherwise is told, and the
-# script then ends with 1. PROGRAM names another program than that of crates/gufi/out.
+# script then ends with 1, as where nothing was refused. PROGRAM names another program than that of crates/gufi/out.
 #
 # The calls of malloc, calloc, realloc, aligned_alloc and posix_memalign are counted, those of the C library among them, by a small library
 # that is loaded before it; it needs `cc`. A thread that can't be had for want of memory isn't told: its work is done by another.
 here=$(CDPATH= cd -P -- "$(dirname -- "$0")" && pwd) || exit 1
 program=${PROGRAM:-$here/../crates/gufi/out/gufi}
+case $program in
+    /*) ;;
+    *) program=$PWD/$program ;;
+esac
 work=$(mktemp -d) || exit 1
 trap 'rm -r -- "$work"' EXIT
-trap 'exit 130' INT TERM
+trap 'exit 129' HUP
+trap 'exit 130' INT
+trap 'exit 143' TERM
 
 cat >"$work/refuse.c" <<'END'
 #include <errno.h>
@@ -131,5 +137,7 @@ for run in ${1:-session refresh cache find}; do
         number=$((number + 1))
     done
     echo "$run: $refused runs ended with 7 and $whole with 0, before number $number"
+    # A library that wasn't loaded refuses nothing.
+    [ $((refused + whole)) -gt 0 ] || wrong=1
 done
 exit "$wrong"

@@ -20,6 +20,7 @@ import argparse
 import os
 import statistics
 import subprocess
+import sys
 import tempfile
 import time
 
@@ -63,6 +64,8 @@ def resident(command, folder):
             if pages and int(pages[1]):
                 seen.append(int(pages[1]) * os.sysconf("SC_PAGESIZE") / 1e6)
             time.sleep(0.0005)
+    if child.returncode:
+        sys.exit("%s ended with %d" % (command, child.returncode))
     return statistics.median(seen[len(seen) * 2 // 3 :])
 
 
@@ -163,7 +166,7 @@ def main():
         held = [
             resident(commands["a phase for each of %d %s" % (options.times, name)], folder) for name in ("refreshes", "refused ones")
         ]
-        text = subprocess.run(commands["asked before and behind a refresh"], cwd=folder, stdout=subprocess.PIPE).stdout
+        text = subprocess.run(commands["asked before and behind a refresh"], cwd=folder, stdout=subprocess.PIPE, check=True).stdout
     print("%d lines; %s and its %d rows replaced\n" % (len(lines), at.decode(errors="replace"), rows))
     print("| | Processor time | Clock | Peak memory |\n|---|---|---|---|")
     for name, (cpu, clock, memory) in times.items():
@@ -176,8 +179,10 @@ def main():
     print("\none refresh %.2f ms, of which its trace %.2f ms; one publication %.0f ms" % (each[0], each[1], whole * 1e3))
     print("resident %.1f MB, and %.1f MB where each refresh is refused" % tuple(held))
     totals = [line.partition(b" total ")[2] for line in text.splitlines() if b" total " in line]
-    print("both totals are equal" if len(totals) == 2 and len(set(totals)) == 1 else "TOTALS DIFFER")
+    are_equal = len(totals) == 2 and len(set(totals)) == 1
+    print("both totals are equal" if are_equal else "TOTALS DIFFER")
+    return 0 if are_equal else 1
 
 
 if __name__ == "__main__":
-    main()
+    sys.exit(main())

@@ -15,7 +15,7 @@ from walk import PAGES, interleaved, take_pages
 
 def report(command):
     """What a roll-up comes to, as the command says it on its second stream."""
-    run = subprocess.run(command, stdout=subprocess.DEVNULL, stderr=subprocess.PIPE, text=True)
+    run = subprocess.run(command, stdout=subprocess.DEVNULL, stderr=subprocess.PIPE, text=True, check=True)
     return run.stderr.strip()
 
 

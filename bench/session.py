@@ -103,7 +103,9 @@ def main():
         }
         times = interleaved(commands, folder, options.runs)
         texts = {
-            program: [subprocess.run(commands[program, "asks by %d" % lanes], cwd=folder, stdout=subprocess.PIPE).stdout for lanes in LANES]
+            program: [
+                subprocess.run(commands[program, "asks by %d" % lanes], cwd=folder, stdout=subprocess.PIPE, check=True).stdout for lanes in LANES
+            ]
             for program in programs
         }
     print("| | Processor time | Clock | Peak memory |" + (" Beside, processor time | Times |" if options.beside else ""))
@@ -115,8 +117,10 @@ def main():
             program: (times[program, "asks by %d" % lanes][0] - times[program, "publish 1"][0]) / len(asks) * 1e6 for program in programs
         }
         print("one ask by %d lanes: %s" % (lanes, ", ".join("%s %.0f us" % pair for pair in each.items())))
-    print("all texts are equal" if len({text for all_ in texts.values() for text in all_}) == 1 else "TEXTS DIFFER")
+    are_equal = len({text for all_ in texts.values() for text in all_}) == 1
+    print("all texts are equal" if are_equal else "TEXTS DIFFER")
+    return 0 if are_equal else 1
 
 
 if __name__ == "__main__":
-    main()
+    sys.exit(main())

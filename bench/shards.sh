@@ -7,11 +7,17 @@
 here=$(CDPATH= cd -P -- "$(dirname -- "$0")" && pwd) || exit 1
 PROGRAM=${PROGRAM:-$here/../gufi}
 export PROGRAM
+[ $# -ge 2 ] || { echo "shards.sh TRACE USER.." >&2; exit 2; }
 trace=$1
 shift
+case $trace in
+    -*) trace=./$trace ;;
+esac
 work=$(mktemp -d) || exit 1
 trap 'rm -r -- "$work"' EXIT
-trap 'exit 130' INT TERM
+trap 'exit 129' HUP
+trap 'exit 130' INT
+trap 'exit 143' TERM
 
 # Compares one question, whose words are given, over the shards of $count.
 compare() {
@@ -37,7 +43,7 @@ awk -F '\036' '
         print substr(file, root)
         print "/nothing"
         print substr(directory[int(count / 2)] "/nothing", root)
-    }' "$trace" >"$work/starts"
+    }' <"$trace" >"$work/starts" || exit 1
 
 for count in 4 16; do
     "$here/../examples/cut.py" "$trace" "$count" "$work/$count" || exit 1

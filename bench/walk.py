@@ -59,7 +59,7 @@ def interleaved(commands, runs):
 
 def instructions(command):
     tool = ["valgrind", "--tool=callgrind", "--callgrind-out-file=/dev/null"]
-    run = subprocess.run(tool + command, stdout=subprocess.DEVNULL, stderr=subprocess.PIPE, text=True)
+    run = subprocess.run(tool + command, stdout=subprocess.DEVNULL, stderr=subprocess.PIPE, text=True, check=True)
     return next(int(line.split(":")[1]) for line in run.stderr.splitlines() if "Collected" in line)
 
 

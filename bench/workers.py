@@ -12,6 +12,7 @@ texts are compared. Measure on a machine that is otherwise quiet and has as many
 import argparse
 import os
 import subprocess
+import sys
 import tempfile
 
 from session import interleaved, write
@@ -47,7 +48,9 @@ def commands_of(programs, made, workers):
 
 
 def are_equal(commands, folder, name):
-    texts = {subprocess.run(command, cwd=folder, stdout=subprocess.PIPE).stdout for key, command in commands.items() if key[1] == name}
+    texts = {
+        subprocess.run(command, cwd=folder, stdout=subprocess.PIPE, check=True).stdout for key, command in commands.items() if key[1] == name
+    }
     return "equal" if len(texts) == 1 else "NOT EQUAL"
 
 
@@ -83,7 +86,8 @@ def main():
             cells = (clock, cpu, one[1] / clock, cpu / one[0])
         print("| %s, %s | %d | %.1f ms | %.1f ms | %.2f times sooner | %.2f | %.0f MB | %s |" % (
             program, name, count, cells[0] * 1e3, cells[1] * 1e3, cells[2], cells[3], memory, texts.get(name, "")))
+    return 0 if set(texts.values()) == {"equal"} else 1
 
 
 if __name__ == "__main__":
-    main()
+    sys.exit(main())
