@@ -53,7 +53,7 @@ def faults(document):
 
 
 if __name__ == "__main__":
-    documents = sys.argv[1:] or [os.path.join(TOP, "README.md")] + sorted(glob.glob(os.path.join(TOP, "docs", "*.md")))
+    documents = sys.argv[1:] or [os.path.join(TOP, "README.md")] + sorted(glob.glob(os.path.join(glob.escape(TOP), "docs", "*.md")))
     told = ["%s: %s" % (os.path.relpath(document, TOP), fault) for document in documents for fault in faults(document)]
     print("\n".join(told + ["%d documents, %d links lead nowhere" % (len(documents), len(told))]))
     sys.exit(1 if told else 0)
