@@ -104,18 +104,31 @@ class Site:
         os.chmod(self.top, 0o755)
         self.ask = self.top + "/gufi-ask"
         self.sshd = None
-        run("groupadd", BARRED)
-        run("useradd", "--system", "--user-group", "--home-dir", self.top, "--shell", "/bin/sh", SITE)
+        self.undoing = []
+        try:
+            self.make(program, broken)
+        except BaseException:
+            self.remove()
+            raise
+
+    def add(self, undoing, *words):
+        """Runs a command of the system, and notes the one that takes back what it made."""
+        run(*words)
+        self.undoing.append(undoing)
+
+    def make(self, program, broken):
+        self.add(["groupdel", BARRED], "groupadd", BARRED)
+        self.add(["userdel", SITE], "useradd", "--system", "--user-group", "--home-dir", self.top, "--shell", "/bin/sh", SITE)
         run("usermod", "--password", "*", SITE)
-        run("useradd", "--user-group", "--no-create-home", "--groups", BARRED, ONE)
-        run("useradd", "--user-group", "--no-create-home", TWO)
+        self.add(["userdel", ONE], "useradd", "--user-group", "--no-create-home", "--groups", BARRED, ONE)
+        self.add(["userdel", TWO], "useradd", "--user-group", "--no-create-home", TWO)
         self.account = pwd.getpwnam(SITE)
         self.users = [pwd.getpwnam(ONE), pwd.getpwnam(TWO)]
         self.write_wrapper(broken)
         self.write_site(program)
         self.write("/sudoers", "Defaults!%s env_reset, preserve_groups\nALL ALL=(%s) NOPASSWD: NOSETENV: %s\n" % (self.ask, SITE, self.ask))
         run("visudo", "-c", "-f", self.top + "/sudoers")
-        run("install", "-m", "0440", self.top + "/sudoers", RULES)
+        self.add(["rm", "-f", RULES], "install", "-m", "0440", self.top + "/sudoers", RULES)
         shown = [user.pw_uid for user in self.users]
         groups = [os.getgrouplist(user.pw_name, user.pw_gid) for user in self.users]
         self.questions = QUESTIONS + [
@@ -186,11 +199,8 @@ class Site:
 
     def remove(self):
         self.stop_sshd()
-        if os.path.exists(RULES):
-            os.remove(RULES)
-        for user in (ONE, TWO, SITE):
-            subprocess.run(["userdel", user], stderr=subprocess.DEVNULL, check=False)
-        subprocess.run(["groupdel", BARRED], stderr=subprocess.DEVNULL, check=False)
+        for words in reversed(self.undoing):
+            subprocess.run(words, stderr=subprocess.DEVNULL, check=False)
         shutil.rmtree(self.top)
 
     def by_sudo(self, user, words, **hindrance):
@@ -422,7 +432,8 @@ def main():
     parser.add_argument("--broken", action="store_true", help="use a wrapper that loses groups, of which wrong answers must come")
     parser.add_argument("--jobs", type=int, default=os.cpu_count(), help="how many calls side by side, but for the crowds")
     given = parser.parse_args()
-    signal.signal(signal.SIGTERM, end)
+    for number in (signal.SIGHUP, signal.SIGTERM):
+        signal.signal(number, end)
     site = Site(given.program, given.broken)
     try:
         site.start_sshd(4096)
