@@ -80,9 +80,12 @@ put_in_place() {
 # The files or the folders of the list of what is installed. A path in it that leads elsewhere isn't followed.
 listed() {
     [ -e "$root/$list" ] || return 0
-    if grep -E -q '^/.|(^|/)\.\.(/|$)' "$root/$list"; then
-        fail "$root/$list isn't as install.sh writes it"
-    fi
+    grep -E -q '^/.|(^|/)\.\.(/|$)' "$root/$list"
+    case $? in
+        0) fail "$root/$list isn't as install.sh writes it" ;;
+        1) ;;
+        *) fail "$root/$list can't be read" ;;
+    esac
     case $1 in
         files) sed -e '/\/$/d' "$root/$list" ;;
         folders) sed -n -e '/\/$/p' "$root/$list" ;;
@@ -140,7 +143,9 @@ END
     done <<END
 $mine
 END
-    remove "$(printf '%s\n' "$earlier" | grep -F -x -v -e "$mine")"
+    # (grep ends with 1 where it finds none)
+    earlier=$(printf '%s\n' "$earlier" | grep -F -x -v -e "$mine") || [ $? -eq 1 ] || fail "what was installed before can't be told"
+    remove "$earlier"
     write_list "$mine$folders"
     stage=''
     printf '%s\n' "$version is installed in $root: the program, the manual page, the completions for bash and the examples"
