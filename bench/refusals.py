@@ -18,7 +18,7 @@ import tempfile
 
 TOP = os.path.dirname(os.path.dirname(os.path.abspath(__file__)))
 LAB = os.path.join(TOP, "examples", "lab.")
-SECONDS = 120  # for a call
+SECONDS = 600  # for a call
 NOBODY = 65534
 
 # Fields 1 to 14 of the trace `secret`, in which others may pass through /shut, and list /in alone.
@@ -221,6 +221,7 @@ CALLS = r"""
 2 gufi: word 3 refused; gufi rollup --limit=2 --limit=2 i
 2 gufi: word 3 refused; gufi rollup --limit=2 --passwd=p i
 2 gufi: word 2 refused; gufi gen --workers=0 1
+0; gufi gen --workers=2 1
 2 gufi: word 2 refused; gufi gen --limit=1 1
 2 gufi: word 3 refused; gufi gen --summary --summary 1
 2 gufi: word 2 refused; gufi gen --delim=x 1
@@ -312,6 +313,10 @@ CALLS = r"""
 0; gufi find --delim='|' secret 1002 /
 0; gufi find --delim='|' secret 1002:7 /
 1 gufi: no such at depth 1; gufi find --delim='|' secret 1002 /in
+0; gufi find --delim='|' secret 1002 /shut/in
+1 gufi: denied at depth 1 class group; gufi find --delim='|' secret 1002:7 /shut
+0; gufi find --delim='|' secret 1002:7 /shut/in
+1 gufi: denied at depth 1 class other; gufi find --delim='|' secret 1002 /shut
 # expressions of find
 2 gufi: word 5 UnknownPrimary; gufi find i 0 / -nmae x
 2 gufi: word 5 UnknownPrimary; gufi find i 0 / -Name x
@@ -712,6 +717,22 @@ CALLS = r"""
 5 gufi: /dev/stdin offset 28 Name; put i 28 '\001'
 5 gufi: /dev/stdin offset 29 Roll; put i 29 '\001'
 5 gufi: /dev/stdin offset 29 Number; put i 29 '\002'
+5 gufi: /dev/stdin offset 38 Number; put i 39 '\020'
+5 gufi: /dev/stdin offset 110 Number; put i 110 d
+5 gufi: /dev/stdin offset 110 Number; put i 110 z
+5 gufi: /dev/stdin offset 111 Name; put i 111 '\000'
+5 gufi: /dev/stdin offset 111 Name; put i 112 /
+5 gufi: /dev/stdin offset 194 Parent; put i 194 '\001'
+5 gufi: /dev/stdin offset 194 Parent; put i 194 '\377'
+5 gufi: /dev/stdin offset 198 Name; put i 198 '\000'
+5 gufi: /dev/stdin offset 462 Order; put i 199 z
+5 gufi: /dev/stdin offset 198 Name; put i 199 /
+5 gufi: /dev/stdin offset 198 Name; put i 199 '\000'
+5 gufi: /dev/stdin offset 203 Roll; put i 203 '\001'
+5 gufi: /dev/stdin offset 203 Number; put i 203 '\002'
+5 gufi: /dev/stdin offset 285 Name; put i 285 '\000'
+5 gufi: /dev/stdin offset 376 Order; put i 286 z
+5 gufi: /dev/stdin offset 285 Name; put i 286 '\000'
 5 gufi: /dev/stdin offset 110 Number; put i 110 '\377'
 5 gufi: /dev/stdin offset 203 Roll; put r 8 '\001'
 5 gufi: /dev/stdin offset 48 Cut; head -c 50 i | gufi rollup --limit=2 /dev/stdin
@@ -749,6 +770,9 @@ CALLS = r"""
 5 gufi: /dev/stdin line 3 Fields; group '3s/bob//' ana
 0; group '4s/ana,bob/ana,,bob,nosuch/' ana
 5 gufi: /dev/stdin line 2 Number; sed '2s/1001/x/' p | gufi find --passwd=/dev/stdin --group=p gone ana /
+0; numbers 65536 u ':x:1:1:::' '\n' | gufi find --passwd=/dev/stdin i u1 / -maxdepth 0
+6 gufi: /dev/stdin limit 65536; numbers 65537 u ':x:1:1:::' '\n' | gufi find --passwd=/dev/stdin i u1 /
+6 gufi: /dev/stdin limit 65536; numbers 65537 g ':x:1:' '\n' | gufi find --group=/dev/stdin i 0 /
 6 gufi: big67108865 limit 67108864; truncate -s 67108865 big67108865; gufi find --passwd=big67108865 i 0 /
 # files that can't be read
 8 gufi: gone not found; gufi find gone 0 /
