@@ -4,8 +4,8 @@
   sudo -u gufi gufi-ask COMMAND WORD..    the caller is he who called sudo
   gufi-ask --ssh NAME                     the forced command of a key of NAME's; what he sent is split as a shell quotes words
 
-`gufi-ask help` has the commands. No shell reads a word, and no process is started but the program. What goes wrong before it runs
-ends with status 77 and a note, and a word that is refused here with status 2.
+`gufi-ask help` has the commands. No shell reads a word, and no process is started: this one becomes the program. What goes wrong
+before that ends with status 77 and a note, and a word that is refused here with status 2.
 """
 import os
 import sys
@@ -65,6 +65,7 @@ def hold_streams():
         os.fstat(2)
     except OSError:
         os.dup2(null, 2)
+    os.set_inheritable(2, True)
 
 
 def make_room():
@@ -164,60 +165,28 @@ def limit(kind, most):
     resource.setrlimit(kind, (value, value))
 
 
-def start(words):
-    """Starts the program under the limits, and returns it, and where its note is read."""
+def become_program(words):
+    """Puts the program in the place of this process, under the limits and with the signals as a shell leaves them."""
     os.chdir("/")
     limit(resource.RLIMIT_CPU, SECONDS)
     limit(resource.RLIMIT_AS, MEMORY)
     limit(resource.RLIMIT_CORE, 0)
-    signal.signal(signal.SIGCHLD, signal.SIG_DFL)
-    reading, writing = os.pipe()
-    program = os.posix_spawn(
-        SITE + "/gufi",
-        [b"gufi"] + [word.encode("utf-8") for word in words],
-        ENVIRONMENT,
-        file_actions=[(os.POSIX_SPAWN_DUP2, writing, 2)],
-        setsigmask=[],
-        setsigdef=[signal.SIGPIPE, signal.SIGXFSZ, signal.SIGXCPU],
-    )
-    os.close(writing)
-    return program, reading
-
-
-def hand_on_signals(program):
-    """Hands a signal that ends this process on to the program, which then ends it."""
-    for number in (signal.SIGHUP, signal.SIGINT, signal.SIGQUIT, signal.SIGTERM):
-        if signal.getsignal(number) != signal.SIG_IGN:
-            signal.signal(number, lambda number, frame: os.kill(program, number))
-
-
-def note_for_caller(note, first, count):
-    """The program's note, in which a word has the number that the caller counts. The site's own words are the `count` from `first` on."""
-    found = re.match(b"gufi: word ([0-9]+)", note)
-    if not found or int(found[1]) < first:
-        return note
-    if int(found[1]) < first + count:
-        refuse(77, "the program refused a word of the site")
-    return b"gufi: word %d%s" % (int(found[1]) - count, note[found.end() :])
+    for number in (signal.SIGPIPE, signal.SIGXFSZ, signal.SIGXCPU):
+        signal.signal(number, signal.SIG_DFL)
+    signal.pthread_sigmask(signal.SIG_SETMASK, [])
+    os.execve(SITE + "/gufi", [b"gufi"] + [word.encode("utf-8") for word in words], ENVIRONMENT)
 
 
 def answer(user, words):
-    """Answers the words of a user, and ends with the program's status."""
+    """Answers the words of a user: with a page of help, or by the program, which counts the caller's words alone in its notes."""
     page = help_of(words)
     if page:
         os.write(1, page.encode())
         return 0
     behind = 1 + options_of(words)
     site = words_of_site(words[0], user)
-    program, reading = start(words[:behind] + site + words[behind:])
-    hand_on_signals(program)
-    with open(reading, "rb") as notes:
-        note = notes.read()
-    status = os.waitstatus_to_exitcode(os.waitpid(program, 0)[1])
-    tell(note_for_caller(note, behind + 1, len(site)))
-    if status < 0:
-        refuse(128 - status, "the program was ended by signal %d" % -status)
-    return status
+    inserted = "--inserted=%d,%d" % (behind + 1, len(site))
+    return become_program([inserted] + words[:behind] + site + words[behind:])
 
 
 def main(words):

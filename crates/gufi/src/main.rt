@@ -6,12 +6,13 @@
 #![tactic(auto)]
 
 use core::thread::Anything;
-use gufi_help::{PAGES, run, without_words};
-use gufi_io::{FileShelf, NoGate, StdSink};
+use gufi_help::{Channel, PAGES, run, without_words};
+use gufi_io::{FileShelf, NoGate, Shelf, Sink, StdSink};
 use std::alloc::Global;
 use std::io::ErrorKind;
 use std::process::ExitCode;
-use std::thread::Builder;
+use std::sync::Wait;
+use std::thread::{Builder, Threads};
 use std::{env, io};
 
 // The bytes of stack that a run has: the most deeply nested pattern takes a fifth of it.
@@ -29,11 +30,24 @@ fn has_room(alloc: Global) -> bool {
     Vec::<u8>::with_capacity(alloc, STACK).is_ok()
 }
 
+// What a run comes to. A call of its own, so that the proof of what the thread does doesn't go through the texts of the pages.
+fn answered<R: Threads + Wait + Sync, F: Shelf, K: Sink + Drop>(
+    rt: &R,
+    alloc: Global,
+    words: &[String],
+    shelf: &mut F,
+    out: &mut Channel<K>,
+    notes: &mut Channel<K>,
+) -> u8 {
+    let outcome = run(rt, alloc, &PAGES, words, shelf, out, notes, &NoGate);
+    outcome.status
+}
+
 fn main(rt: HostRuntime) -> ExitCode {
     let answer = move || {
         let mut shelf = FileShelf::new(&rt);
-        let mut out = StdSink::output(rt.stdout());
-        let mut notes = StdSink::errors(rt.stderr());
+        let mut out = Channel::To(StdSink::output(rt.stdout()));
+        let mut notes = Channel::To(StdSink::errors(rt.stderr()));
         let words = match words(&rt) {
             Ok(words) => words,
             Err(error) if error.kind() == ErrorKind::OutOfMemory => {
@@ -42,17 +56,7 @@ fn main(rt: HostRuntime) -> ExitCode {
             // Words that aren't text are answered as none.
             Err(_) => Vec::new(rt.alloc()),
         };
-        let outcome = run(
-            &rt,
-            rt.alloc(),
-            &PAGES,
-            &words,
-            &mut shelf,
-            &mut out,
-            &mut notes,
-            &NoGate,
-        );
-        outcome.status
+        answered(&rt, rt.alloc(), &words, &mut shelf, &mut out, &mut notes)
     };
     let stacked = Builder::new().stack_size(STACK);
     let status = match stacked.spawn_with(&rt, Anything, answer) {

@@ -1,2 +1,5 @@
 pub mod Pages
 pub mod Shown
+pub mod Channels
+pub mod Inserted
+pub mod Runs

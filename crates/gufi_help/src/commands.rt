@@ -1,6 +1,6 @@
 //! The table of commands, words, options and statuses, of which each page is made.
 
-/// Hands the table to the macro of a page: statuses, words that ask for pages, then commands.
+/// Hands the table to the macro of a page: statuses, words that ask for pages, options in front of a command, then commands.
 ///
 /// A command is its name, what follows it, what it prints, its words and its options. A new one is one more row.
 macro_rules! table {
@@ -39,6 +39,8 @@ macro_rules! table {
             ("--version" "the version of the program")
             ("--man" "the manual page; docs/gufi.1 is made by it")
             ("--completions" "the completions for bash; examples/gufi.bash is made by it")
+            ;
+            ("--inserted=FIRST,COUNT" "a wrapper put in so many words, from that word on: notes count the others alone")
             ;
             "walk" "TRACE UID GIDS [DELIM]"
                 "paths of all that the principal can list by walking from the root"

@@ -25,6 +25,7 @@ macro_rules! usage {
     (
         $(($status:literal $means:literal))*;
         $(($asked:literal $shown:literal))*;
+        $(($front:literal $tells:literal))*;
         $($name:literal $synopsis:literal $prints:literal
             $words:tt $options:tt)*
     ) => {
@@ -32,6 +33,8 @@ macro_rules! usage {
             "usage: gufi COMMAND [OPTION].. WORD..\n       gufi COMMAND --help\n\nprints\n",
             $("  gufi ", $name, " ", $synopsis, "\n      ", $prints, "\n",)*
             $("  gufi ", $asked, "\n      ", $shown, "\n",)*
+            "\nin front of a command\n",
+            $("  ", $front, "\n      ", $tells, "\n",)*
             "\nstatus\n",
             $("  ", $status, "  ", $means, "\n",)*
         )
@@ -42,6 +45,7 @@ macro_rules! command_pages {
     (
         $(($status:literal $means:literal))*;
         $(($asked:literal $shown:literal))*;
+        $(($front:literal $tells:literal))*;
         $($name:literal $synopsis:literal $prints:literal
             [$(($word:literal $is:literal))*]
             [$(($option:literal $value:literal $gives:literal))*])*
@@ -61,6 +65,7 @@ macro_rules! manual {
     (
         $(($status:literal $means:literal))*;
         $(($asked:literal $shown:literal))*;
+        $(($front:literal $tells:literal))*;
         $($name:literal $synopsis:literal $prints:literal
             [$(($word:literal $is:literal))*]
             [$(($option:literal $value:literal $gives:literal))*])*
@@ -75,6 +80,8 @@ macro_rules! manual {
                 $(".TP\n.I ", $word, "\n", $is, "\n",)*
                 $(".TP\n.BR ", $option, " ", $value, "\n", $gives, "\n",)*
             )*
+            ".SH IN FRONT OF A COMMAND\n",
+            $(".TP\n.B ", $front, "\n", $tells, "\n",)*
             ".SH OTHER WORDS\n",
             $(".TP\n.B gufi ", $asked, "\n", $shown, "\n",)*
             ".SH EXIT STATUS\n",
@@ -88,6 +95,7 @@ macro_rules! completions {
     (
         $(($status:literal $means:literal))*;
         $(($asked:literal $shown:literal))*;
+        $(($front:literal $tells:literal))*;
         $($name:literal $synopsis:literal $prints:literal
             $words:tt
             [$(($option:literal $value:literal $gives:literal))*])*

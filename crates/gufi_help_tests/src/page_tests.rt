@@ -1,13 +1,15 @@
-//! Pages and refusals over no files, and sinks in memory: the status, how the text begins, and the note.
-use gufi_help::{PAGES, run, without_words};
-use gufi_io::{MemShelf, MemSink, NoGate};
+//! Pages and runs over one file, and sinks in memory: the status, how the text begins, and the note.
+use gufi_help::{Channel, PAGES, run, without_words};
+use gufi_io::{MemShelf, MemSink, NoGate, names_differ};
 use std::alloc::{AllocError, Global};
+use std::process::Abort;
 use std::sync::Wait;
 use std::test::Fail;
 use std::thread::Threads;
 
-// Words; the number of the write that fails, or nothing; the status; how the text begins, nothing where it is empty; the note.
-const RUNS: [&str; 13] = [
+// Words, in which _ is a blank; the number of the write that fails, `n` before one of the note, or nothing; the status; how the text
+// begins, nothing where it is empty; the note. The one file is `i`, of the line TRACE.
+const RUNS: [&str; 40] = [
     "--help;;0;usage: gufi COMMAND;",
     "-h;;0;usage: gufi COMMAND;",
     "help;;0;usage: gufi COMMAND;",
@@ -18,10 +20,40 @@ const RUNS: [&str; 13] = [
     "--help;1;4;;gufi: write fault\n",
     "fnd;;2;;gufi: word 1 refused\n",
     "fnd --help;;2;;gufi: word 1 refused\n",
-    "ls --help t;;2;;gufi: word 2 refused\n",
+    "ls --help i;;2;;gufi: word 2 refused\n",
     ";;2;;gufi: word 1 refused\n",
     "walk t 102 -;;8;;gufi: t not found\n",
+    "--inserted=4,1 walk i 1x -;;2;;gufi: word 3 refused\n",
+    "--inserted=3,1 walk i 1x -;;2;;gufi: inserted word 3 refused\n",
+    "--inserted=2,2 walk i 1x -;;2;;gufi: inserted word 3 refused\n",
+    "--inserted=2,1 walk i 1x -;;2;;gufi: word 2 refused\n",
+    "--inserted=1,0 walk i 1x -;;2;;gufi: word 3 refused\n",
+    "--inserted=4294967295,4294967295 walk i 1x -;;2;;gufi: word 3 refused\n",
+    "--inserted=2,1 walk i 1x -;n1;2;;",
+    "--inserted=2,4 ls --passwd=p --limit=0 i 0;;2;;gufi: word 2 refused\n",
+    "--inserted=2,3 find --delim=| i eve /;;2;;gufi: inserted word 4 refused\n",
+    "--inserted=2,3 find --delim=| i 0 / -size 1x;;2;;gufi: word 4 BadNumber\n",
+    "--inserted=2,3 query --delim=| i 0 / SELECT_nope_FROM_rows;;2;;gufi: word 3 at 7 UnknownColumn\n",
+    "--inserted=2,3 find --delim=| i 0 / -type d;;0;/\n;",
+    "--inserted=2,3 find --delim=| i 0 /x;;1;;gufi: no such at depth 1\n",
+    "--inserted=2,1 walk word_7 102 -;;8;;gufi: word 7 not found\n",
+    "--inserted=2,1 rollup --limit=1 --delim=| i;;0;GUFIX;rolled 1 of 1 tops 1 rows 1\n",
+    "--inserted=2,1 rollup --limit=1 --delim=| i;n1;4;GUFIX;",
+    "--inserted=0,1 walk i 102 -;;2;;gufi: word 1 refused\n",
+    "--inserted=2 walk i 102 -;;2;;gufi: word 1 refused\n",
+    "--inserted=2, walk i 102 -;;2;;gufi: word 1 refused\n",
+    "--inserted=,1 walk i 102 -;;2;;gufi: word 1 refused\n",
+    "--inserted=2,1,1 walk i 102 -;;2;;gufi: word 1 refused\n",
+    "--inserted=-2,1 walk i 102 -;;2;;gufi: word 1 refused\n",
+    "--inserted=4294967296,1 walk i 102 -;;2;;gufi: word 1 refused\n",
+    "--inserted 2,1 walk i 102 -;;2;;gufi: word 1 refused\n",
+    "--inserted=2,1;;2;;gufi: word 1 refused\n",
+    "--inserted=2,1 --version;;2;;gufi: word 1 refused\n",
+    "walk --inserted=2,1 i 102 -;;2;;gufi: word 2 refused\n",
 ];
+
+// A trace of its root alone.
+const TRACE: &[u8] = b"/r|d|1|493|2|0|0|0|0|0|0|0|0|\n";
 
 // What a run is to come to.
 #[derive(Drop)]
@@ -34,50 +66,84 @@ struct Wanted<'t> {
 fn words_of(alloc: Global, line: &str) -> Result<Vec<String>, AllocError> {
     let mut words = Vec::new(alloc);
     for word in line.split_whitespace() {
-        words.push(String::from_str(alloc, word)?)?;
+        words.push(word.replace(alloc, '_', " ")?)?;
     }
     Ok(words)
 }
 
-fn sink_of(alloc: Global, bad_write: Option<u64>) -> Result<MemSink, AllocError> {
+fn sink_of(alloc: Global, bad_write: Option<u64>) -> Result<Channel<MemSink>, AllocError> {
     let mut bad_writes = Vec::new(alloc);
     if let Some(number) = bad_write {
         bad_writes.push(number)?;
     }
-    Ok(MemSink::new(vec![in alloc; 0; 20_000]?, 4096, bad_writes))
+    let sink = MemSink::new(vec![in alloc; 0; 20_000]?, 4096, bad_writes);
+    Ok(Channel::To(sink))
 }
 
-// Whether a run over no files comes to what is wanted.
+fn shelf_of(rt: &(impl AllocGlobal + Abort)) -> Result<MemShelf, AllocError> {
+    let alloc = rt.alloc();
+    let mut files = Vec::new(alloc);
+    files.push((
+        String::from_str(alloc, "i")?,
+        Vec::from_slice(alloc, TRACE)?,
+    ))?;
+    assert!(rt; names_differ(&files));
+    let shelf = MemShelf::new(files, 4096, Vec::new(alloc), Vec::new(alloc));
+    Ok(shelf)
+}
+
+fn taken(channel: &Channel<MemSink>) -> &[u8] {
+    match channel {
+        Channel::To(sink) => sink.taken(),
+        Channel::Held(text) => &text.bytes,
+    }
+}
+
+// Whether a run over the file comes to what is wanted.
 fn comes_to<R: AllocGlobal + Threads + Wait + Sync>(
     rt: &R,
     words: &[String],
-    out: &mut MemSink,
-    notes: &mut MemSink,
+    shelf: &mut MemShelf,
+    out: &mut Channel<MemSink>,
+    notes: &mut Channel<MemSink>,
     wanted: &Wanted<'_>,
 ) -> bool {
-    let alloc = rt.alloc();
-    let mut shelf = MemShelf::new(Vec::new(alloc), 4096, Vec::new(alloc), Vec::new(alloc));
-    let outcome = run(rt, alloc, &PAGES, words, &mut shelf, out, notes, &NoGate);
+    let outcome = run(rt, rt.alloc(), &PAGES, words, shelf, out, notes, &NoGate);
     outcome.status == wanted.status
-        && notes.taken() == wanted.note.as_bytes()
-        && out.taken().starts_with(wanted.front.as_bytes())
-        && (!wanted.front.is_empty() || out.taken().is_empty())
+        && taken(notes) == wanted.note.as_bytes()
+        && taken(out).starts_with(wanted.front.as_bytes())
+        && (!wanted.front.is_empty() || taken(out).is_empty())
 }
 
 // Whether the run of a line comes to what the line says.
-fn is_met<R: AllocGlobal + Threads + Wait + Sync>(rt: &R, line: &str) -> Result<bool, Fail> {
+fn is_met<R: AllocGlobal + Threads + Wait + Sync + Abort>(
+    rt: &R,
+    line: &str,
+) -> Result<bool, Fail> {
     let mut fields = line.split(';');
     let words = fields.next().unwrap_or("");
-    let bad_write = fields.next().unwrap_or("").parse::<u64>().ok();
+    let bad_write = fields.next().unwrap_or("");
     let wanted = Wanted {
         status: fields.next().unwrap_or("").parse::<u8>()?,
         front: fields.next().unwrap_or(""),
         note: fields.next().unwrap_or(""),
     };
     let words = words_of(rt.alloc(), words)?;
-    let mut out = sink_of(rt.alloc(), bad_write)?;
-    let mut notes = sink_of(rt.alloc(), None)?;
-    Ok(comes_to(rt, words.as_slice(), &mut out, &mut notes, &wanted))
+    let (bad_text, bad_note) = match bad_write.strip_prefix('n') {
+        Some(number) => (None, number.parse::<u64>().ok()),
+        None => (bad_write.parse::<u64>().ok(), None),
+    };
+    let mut out = sink_of(rt.alloc(), bad_text)?;
+    let mut notes = sink_of(rt.alloc(), bad_note)?;
+    let mut shelf = shelf_of(rt)?;
+    Ok(comes_to(
+        rt,
+        words.as_slice(),
+        &mut shelf,
+        &mut out,
+        &mut notes,
+        &wanted,
+    ))
 }
 
 #[test]
@@ -93,6 +159,6 @@ fn pages_are_shown_and_all_else_is_a_run(rt: HostRuntime) -> Result<(), Fail> {
 fn words_without_memory_have_their_note(rt: HostRuntime) -> Result<(), Fail> {
     let mut notes = sink_of(rt.alloc(), None)?;
     assert_eq!(rt; without_words(&mut notes), 7);
-    assert_eq!(rt; notes.taken(), b"gufi: no memory\n".as_slice());
+    assert_eq!(rt; taken(&notes), b"gufi: no memory\n".as_slice());
     Ok(())
 }

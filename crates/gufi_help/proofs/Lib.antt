@@ -1,0 +1,2 @@
+pub mod HeldNotes
+pub mod NumbersTold
