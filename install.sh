@@ -1,5 +1,5 @@
 #!/bin/sh
-# Installs the program, its manual page, its completions for bash and the examples: install.sh [--uninstall] [PREFIX]
+# Installs the program, its manual page, its completions for bash, zsh and fish, and the examples: install.sh [--uninstall] [PREFIX]
 #
 # PREFIX is /usr/local where none is given, and DESTDIR stands before it where it is set. PROGRAM names another program than the clone's,
 # which is proved and built first where that is needed. Each file is made whole beside its name, and all are put in place once all are
@@ -122,12 +122,19 @@ install_all() {
     stage=making
     make_folder "${list%/*}" || fail "$root/${list%/*} can't be made"
     copy bin/gufi 0755 "$program"
-    page=$(manual) && words=$("$program" --completions) || fail "the program's pages can't be had"
+    page=$(manual) && words=$("$program" --completions) && zsh=$("$program" --completions=zsh) && fish=$("$program" --completions=fish) ||
+        fail "the program's pages can't be had"
     make share/man/man1/gufi.1 0644 <<END
 $page
 END
     make share/bash-completion/completions/gufi 0644 <<END
 $words
+END
+    make share/zsh/site-functions/_gufi 0644 <<END
+$zsh
+END
+    make share/fish/vendor_completions.d/gufi.fish 0644 <<END
+$fish
 END
     for example in "$top"/examples/*; do
         mode=0644
@@ -148,7 +155,8 @@ END
     remove "$earlier"
     write_list "$mine$folders"
     stage=''
-    printf '%s\n' "$version is installed in $root: the program, the manual page, the completions for bash and the examples"
+    printf '%s
+' "$version is installed in $root: the program, the manual page, the completions for bash, zsh and fish, and the examples"
 }
 
 # Removes files, and what was made aside of them.

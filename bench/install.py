@@ -32,7 +32,8 @@ class Check:
     def __init__(self, program):
         self.program = program
         self.looked = self.failed = 0
-        pages = {word: subprocess.check_output([program, word]) for word in ("--man", "--completions", "--version")}
+        words = ("--man", "--version", "--completions", "--completions=zsh", "--completions=fish")
+        pages = {word: subprocess.check_output([program, word]) for word in words}
         version = pages["--version"].decode().strip()
         with open(TOP + "/CHANGELOG.md", encoding="utf-8") as file:
             date = next(line.split(", ")[1].strip() for line in file if line.startswith("## "))
@@ -41,6 +42,8 @@ class Check:
             "bin/gufi": (0o755, read(program)),
             "share/man/man1/gufi.1": (0o644, dated.encode()),
             "share/bash-completion/completions/gufi": (0o644, pages["--completions"]),
+            "share/zsh/site-functions/_gufi": (0o644, pages["--completions=zsh"]),
+            "share/fish/vendor_completions.d/gufi.fish": (0o644, pages["--completions=fish"]),
         }
         for name in os.listdir(TOP + "/examples"):
             file = TOP + "/examples/" + name

@@ -14,6 +14,8 @@ lone_page pages word =
     else if bytes_eq word (codes "--version") then Some pages.version.now
     else if bytes_eq word (codes "--man") then Some pages.manual.now
     else if bytes_eq word (codes "--completions") then Some pages.completions.now
+    else if bytes_eq word (codes "--completions=zsh") then Some pages.zsh_completions.now
+    else if bytes_eq word (codes "--completions=fish") then Some pages.fish_completions.now
     else None
 
 abbrev pub page_in : Option CommandPage → Option (List ℕ)

@@ -1,8 +1,10 @@
-//! The table of commands, words, options and statuses, of which each page is made.
+//! The table of commands, words, options, what stands behind START or in a script, and statuses, of which each page is made.
 
 /// Hands the table to the macro of a page: statuses, words that ask for pages, options in front of a command, then commands.
 ///
-/// A command is its name, what follows it, what it prints, its words and its options. A new one is one more row.
+/// A command is its name, what follows it, what it prints, its words and its options; then lists of what may stand behind these, each
+/// with its title: first those whose words completions offer there, then the others. A new one is one more row. `docs/check_help.py`
+/// compares the lists with the tables of the readers' definitions.
 macro_rules! table {
     ($page:ident) => {
         table! {
@@ -17,12 +19,48 @@ macro_rules! table {
             limit ("--limit" "=N" "how many rows of a trace may be rolled up into one piece; left out: 0")
             workers ("--workers" "=N" "how many walkers share a query, 1 to 32; left out: 1")
             now ("--now" "=SECONDS" "the moment from which -atime, -mtime and -ctime count; left out: they are refused")
+            columns ("columns"
+                ("path" "" "the path, a text")
+                ("name" "" "the base name, a text; that of the root is /")
+                ("type" "" "the type, a text: d, f, l, b, c, p or s, as of find -type")
+                ("inode" "" "the number of the inode")
+                ("mode" "" "the 12 bits of the mode, a decimal number")
+                ("nlink" "" "the number of links")
+                ("uid" "" "the owner, a number")
+                ("gid" "" "the group, a number")
+                ("size" "" "bytes")
+                ("blksize" "" "bytes of a block")
+                ("blocks" "" "blocks of 512 bytes")
+                ("atime" "" "the last access, in seconds since 1970")
+                ("mtime" "" "the last modification, in seconds since 1970")
+                ("ctime" "" "the last change, in seconds since 1970")
+                ("linkname" "" "the target of a link, a text")
+                ("level" "" "how many components the row lies below START")
+                ("xattrs" "" "the names of extended attributes, a text; * leaves it out"))
+            tables ("tables"
+                ("entries" "" "all but directories")
+                ("summary" "" "the directories")
+                ("rows" "" "both"))
+            conditions ("conditions, from high to low, and in parentheses"
+                ("regexp" " 'PATTERN'" "behind a column: the pattern is found in its bytes; one at most")
+                ("not" " CONDITION" "it isn't so")
+                ("and" "" "between two: both are so")
+                ("or" "" "between two: one is so"))
+            compares ("operators between a column and a number, or a text in single quotes"
+                ("=" "" "equal")
+                ("<>" "" "not equal")
+                ("!=" "" "not equal")
+                ("<" "" "less")
+                ("<=" "" "less or equal")
+                (">" "" "greater")
+                (">=" "" "greater or equal"))
         }
     };
     (
         $page:ident
         trace $trace:tt index $index:tt user $user:tt start $start:tt
         passwd $passwd:tt group $group:tt delim $delim:tt limit $limit:tt workers $workers:tt now $now:tt
+        columns $columns:tt tables $tables:tt conditions $conditions:tt compares $compares:tt
     ) => {
         $page! {
             ("0" "the whole text was written")
@@ -39,6 +77,8 @@ macro_rules! table {
             ("--version" "the version of the program")
             ("--man" "the manual page; docs/gufi.1 is made by it")
             ("--completions" "the completions for bash; examples/gufi.bash is made by it")
+            ("--completions=zsh" "those for zsh; examples/gufi.zsh is made by it")
+            ("--completions=fish" "those for fish; examples/gufi.fish is made by it")
             ;
             ("--inserted=FIRST,COUNT" "a wrapper put in so many words, from that word on: notes count the others alone")
             ;
@@ -46,45 +86,109 @@ macro_rules! table {
                 "paths of all that the principal can list by walking from the root"
                 [$trace ("UID" "a number")
                     ("GIDS" "- for none, or numbers separated by commas")
-                    ("DELIM" "the byte between the fields of the trace; left out: 0x1E")] []
+                    ("DELIM" "the byte between the fields of the trace; left out: 0x1E")]
+                [] [] []
             "find" "[OPTION].. INDEX USER START [EXPRESSION]"
                 "paths of the rows for which the expression is true"
-                [$index $user $start ("EXPRESSION" "primaries of find, as -name '*.rs'; left out: all rows")]
+                [$index $user $start ("EXPRESSION" "primaries and operators, as -name '*.rs'; left out: all rows")]
                 [$passwd $group $delim $limit $workers $now]
+                [("primaries, where N is a number to equal, +N for more, -N for less"
+                    ("-name" " PATTERN" "the base name matches; that of the root is /")
+                    ("-path" " PATTERN" "the whole path matches")
+                    ("-type" " T" "the type is d directory, f file, l link, b or c device, p pipe, s socket")
+                    ("-size" " N" "the size in blocks of 512 bytes, rounded up; Nc: in bytes; Nk, NM, NG: in KiB, MiB, GiB")
+                    ("-atime" " N" "whole days from the last access to --now")
+                    ("-mtime" " N" "whole days from the last modification to --now")
+                    ("-ctime" " N" "whole days from the last change to --now")
+                    ("-links" " N" "the number of links")
+                    ("-perm" " M" "the 12 bits of the mode are M, in octal; -M: all bits of M are set")
+                    ("-user" " NAME" "the owner; a number that is no name is itself")
+                    ("-group" " NAME" "the group; a number that is no name is itself")
+                    ("-nouser" "" "the owner has no name")
+                    ("-nogroup" "" "the group has no name")
+                    ("-mindepth" " DEPTH" "rows less deep below START aren't printed")
+                    ("-maxdepth" " DEPTH" "rows deeper below START aren't printed"))
+                ("operators, from high to low"
+                    ("!" " E" "E isn't true")
+                    ("-a" "" "between two, or nothing: both are true")
+                    ("-o" "" "between two: one is true"))]
+                [("parentheses, to be quoted" ("(" " E )" "E, before what stands around it"))]
             "query" "[OPTION].. INDEX USER START TEXT"
                 "columns of the rows that a SELECT chooses"
-                [$index $user $start ("TEXT" "a SELECT in one word, as 'SELECT size, path FROM entries'")]
+                [$index $user $start ("TEXT" "one word: SELECT COLUMN,.. FROM TABLE [WHERE CONDITION] [;], or * for the columns")]
                 [$passwd $group $delim $limit $workers]
+                [$columns $tables
+                    ("words, in capitals or not"
+                        ("select" " COLUMN,.." "what is printed of a row")
+                        ("from" " TABLE" "which rows")
+                        ("where" " CONDITION" "of which it is so"))
+                    $conditions]
+                [$compares]
             "agg" "[OPTION].. INDEX USER START TEXT"
                 "counts, sums and bounds of the rows that a SELECT chooses, by owner, group, type or level"
                 [$index $user $start
-                    ("TEXT" "a SELECT in one word, as 'SELECT uid, COUNT(*) FROM rows GROUP BY uid'")]
+                    ("TEXT" "one word: SELECT KEY, ITEM, .. FROM TABLE [WHERE CONDITION] GROUP BY KEY [;]")]
                 [$passwd $group $delim $limit $workers]
+                [("keys" ("uid" "" "the owner") ("gid" "" "the group") ("type" "" "the type")
+                        ("level" "" "how many components below START"))
+                    ("items" ("COUNT(*)" "" "how many rows")
+                        ("SUM(size)" "" "bytes of all")
+                        ("MIN(size)" "" "the least of them")
+                        ("MAX(size)" "" "the greatest")
+                        ("MIN(mtime)" "" "the earliest modification")
+                        ("MAX(mtime)" "" "the latest"))
+                    $tables
+                    ("words, in capitals or not"
+                        ("select" " KEY, ITEM, .." "what is printed of a group")
+                        ("from" " TABLE" "which rows")
+                        ("where" " CONDITION" "of which it is so")
+                        ("group" " BY KEY" "the same key, at the end")
+                        ("by" " KEY" "behind group"))
+                    $columns $conditions]
+                [$compares]
             "ls" "[OPTION].. INDEX USER START"
                 "names one level below the start"
                 [$index $user $start]
                 [("-l" "" "long lines: mode, links, owner, group, size, time and name")
                     ("-A" "" "names that begin with a dot too") $passwd $group $delim $limit $workers]
+                [] []
             "stat" "[OPTION].. INDEX USER START"
                 "the record of the start, and the sum of all that the user lists below it"
-                [$index $user $start] [$passwd $group $delim $limit $workers]
+                [$index $user $start] [$passwd $group $delim $limit $workers] [] []
             "stats" "[OPTION].. INDEX USER START REPORT"
                 "a report on all that the user lists below the start"
-                [$index $user $start ("REPORT" "levels, uids, gids or leaves")]
+                [$index $user $start ("REPORT" "one of the reports")]
                 [$passwd $group $delim $limit $workers]
-            "trace2index" "[OPTION].. TRACE" "the image of the index of a trace" [$trace] [$delim]
+                [("reports"
+                    ("levels" "" "a line for each depth below START")
+                    ("uids" "" "a line for each owner")
+                    ("gids" "" "a line for each group")
+                    ("leaves" "" "the paths of the directories below which there is none"))]
+                []
+            "trace2index" "[OPTION].. TRACE" "the image of the index of a trace" [$trace] [$delim] [] []
             "rollup" "--limit=N [OPTION].. INDEX"
                 "the image under a limit, and on standard error what is rolled up"
-                [$index] [("--limit" "=N" "how many rows may be rolled up into one piece; must be given") $delim]
+                [$index] [("--limit" "=N" "how many rows may be rolled up into one piece; must be given") $delim] [] []
             "session" "[OPTION].. SCRIPT"
                 "the replies to the asks of a script, whose commands publish indexes meanwhile"
-                [("SCRIPT" "a line for each command and ask; docs/guide.md has them")]
+                [("SCRIPT" "a file of such lines; %20 stands for a space in a word, and lines that begin with # say nothing")]
                 [$passwd $group $delim $workers $now
                     ("--cache" "=C" "how many of its last replies each lane keeps, 1 to 256; left out: none")]
+                []
+                [("lines of a script"
+                    ("publish" " LIMIT FILE" "publishes a trace, rolled up under the limit")
+                    ("rollup" " LIMIT" "publishes the last tree under another limit")
+                    ("refresh" " PATH FILE" "publishes the last tree with PATH, and all below it, replaced by a trace")
+                    ("ask" " LANE USER START FORM WORD.." "searches the last index, in lane 1 to 16")
+                    ("barrier" "" "ends a phase"))
+                ("forms of an ask"
+                    ("find" " [EXPRESSION]" "paths of the rows, as gufi find has them")
+                    ("total" " [EXPRESSION]" "the sum of the rows, as gufi stat has it")
+                    ("query" " TEXT" "columns of the rows, as gufi query has them"))]
             "gen" "[OPTION].. N"
                 "a generated trace"
                 [("N" "the number of directories, 1 to 200,000")]
-                [("--summary" "" "what a run over that trace comes to instead") $delim $workers]
+                [("--summary" "" "what a run over that trace comes to instead") $delim $workers] [] []
         }
     };
 }

@@ -10,6 +10,7 @@ mod commands;
 mod inserted;
 mod pages;
 mod program;
+mod shells;
 
 pub use channel::{Channel, HeldText};
 pub use inserted::{Inserted, numbers_are_told_as_counted};

@@ -5,6 +5,7 @@ ghost use Rattle.gufi_words.specs.WordTexts.{texts};
 ghost use Rattle.gufi_help.specs.Pages.{asks_help, lone_page, page_among, page_of};
 
 use crate::commands::table;
+use crate::shells::{bash, fish, zsh};
 
 /// The name of a command and its page.
 pub struct CommandPage {
@@ -18,6 +19,8 @@ pub struct Pages {
     pub version: &'static str,
     pub manual: &'static str,
     pub completions: &'static str,
+    pub zsh_completions: &'static str,
+    pub fish_completions: &'static str,
     pub commands: &'static [CommandPage],
 }
 
@@ -27,7 +30,7 @@ macro_rules! usage {
         $(($asked:literal $shown:literal))*;
         $(($front:literal $tells:literal))*;
         $($name:literal $synopsis:literal $prints:literal
-            $words:tt $options:tt)*
+            $words:tt $options:tt $offered:tt $others:tt)*
     ) => {
         concat!(
             "usage: gufi COMMAND [OPTION].. WORD..\n       gufi COMMAND --help\n\nprints\n",
@@ -48,7 +51,9 @@ macro_rules! command_pages {
         $(($front:literal $tells:literal))*;
         $($name:literal $synopsis:literal $prints:literal
             [$(($word:literal $is:literal))*]
-            [$(($option:literal $value:literal $gives:literal))*])*
+            [$(($option:literal $value:literal $gives:literal))*]
+            [$(($title:literal $(($item:literal $argument:literal $says:literal))*))*]
+            [$(($heading:literal $(($entry:literal $operand:literal $tells_of:literal))*))*])*
     ) => {
         [$(CommandPage {
             name: $name,
@@ -56,6 +61,8 @@ macro_rules! command_pages {
                 "usage: gufi ", $name, " ", $synopsis, "\n\nprints ", $prints, "\n\n",
                 $("  ", $word, "\n      ", $is, "\n",)*
                 $("  ", $option, $value, "\n      ", $gives, "\n",)*
+                $("\n", $title, "\n", $("  ", $item, $argument, "\n      ", $says, "\n",)*)*
+                $("\n", $heading, "\n", $("  ", $entry, $operand, "\n      ", $tells_of, "\n",)*)*
             ),
         }),*]
     };
@@ -68,7 +75,9 @@ macro_rules! manual {
         $(($front:literal $tells:literal))*;
         $($name:literal $synopsis:literal $prints:literal
             [$(($word:literal $is:literal))*]
-            [$(($option:literal $value:literal $gives:literal))*])*
+            [$(($option:literal $value:literal $gives:literal))*]
+            [$(($title:literal $(($item:literal $argument:literal $says:literal))*))*]
+            [$(($heading:literal $(($entry:literal $operand:literal $tells_of:literal))*))*])*
     ) => {
         concat!(
             ".\\\" Made by: gufi --man\n.TH GUFI 1\n.\\\" hyphens are printed as they are typed\n.tr -\\-\n",
@@ -79,6 +88,8 @@ macro_rules! manual {
                 ".SS gufi ", $name, " ", $synopsis, "\nPrints ", $prints, ".\n",
                 $(".TP\n.I ", $word, "\n", $is, "\n",)*
                 $(".TP\n.BR ", $option, " ", $value, "\n", $gives, "\n",)*
+                $(".PP\n", $title, ":\n", $(".TP\n.BR ", $item, " \"", $argument, "\"\n", $says, "\n",)*)*
+                $(".PP\n", $heading, ":\n", $(".TP\n.BR ", $entry, " \"", $operand, "\"\n", $tells_of, "\n",)*)*
             )*
             ".SH IN FRONT OF A COMMAND\n",
             $(".TP\n.B ", $front, "\n", $tells, "\n",)*
@@ -91,33 +102,14 @@ macro_rules! manual {
     };
 }
 
-macro_rules! completions {
-    (
-        $(($status:literal $means:literal))*;
-        $(($asked:literal $shown:literal))*;
-        $(($front:literal $tells:literal))*;
-        $($name:literal $synopsis:literal $prints:literal
-            $words:tt
-            [$(($option:literal $value:literal $gives:literal))*])*
-    ) => {
-        concat!(
-            "# Completions of gufi for bash. Made by: gufi --completions\n_gufi() {\n    local names=",
-            "'", $($name, " ",)* $($asked, " ",)* "'\n",
-            "    case $COMP_CWORD:${COMP_WORDS[1]} in\n    1:*) ;;\n",
-            $("    *:", $name, ") names='", $($option, " ",)* "--help' ;;\n",)*
-            "    *) names= ;;\n    esac\n",
-            "    COMPREPLY=($(compgen -W \"$names\" -- \"${COMP_WORDS[COMP_CWORD]}\"))\n}\n",
-            "complete -o default -F _gufi gufi\n",
-        )
-    };
-}
-
 /// The program's own pages, of one table.
 pub const PAGES: Pages = Pages {
     usage: table!(usage),
     version: "gufi 0.2.0\n",
     manual: table!(manual),
-    completions: table!(completions),
+    completions: table!(bash),
+    zsh_completions: table!(zsh),
+    fish_completions: table!(fish),
     commands: &table!(command_pages),
 };
 
@@ -137,6 +129,8 @@ fn lone_page(pages: &Pages, word: &str) -> Option<&'static str>
         "--version" => Some(pages.version),
         "--man" => Some(pages.manual),
         "--completions" => Some(pages.completions),
+        "--completions=zsh" => Some(pages.zsh_completions),
+        "--completions=fish" => Some(pages.fish_completions),
         _ => None,
     }
 }

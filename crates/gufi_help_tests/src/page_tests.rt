@@ -9,7 +9,7 @@ use std::thread::Threads;
 
 // Words, in which _ is a blank; the number of the write that fails, `n` before one of the note, or nothing; the status; how the text
 // begins, nothing where it is empty; the note. The one file is `i`, of the line TRACE.
-const RUNS: [&str; 40] = [
+const RUNS: [&str; 44] = [
     "--help;;0;usage: gufi COMMAND;",
     "-h;;0;usage: gufi COMMAND;",
     "help;;0;usage: gufi COMMAND;",
@@ -17,6 +17,10 @@ const RUNS: [&str; 40] = [
     "find --help;;0;usage: gufi find ;",
     "session -h;;0;usage: gufi session ;",
     "--man;;0;.\\\" Made by: gufi --man\n;",
+    "--completions;;0;# Completions of gufi for bash. ;",
+    "--completions=zsh;;0;#compdef gufi\n;",
+    "--completions=fish;;0;# Completions of gufi for fish. ;",
+    "--completions=sh;;2;;gufi: word 1 refused\n",
     "--help;1;4;;gufi: write fault\n",
     "fnd;;2;;gufi: word 1 refused\n",
     "fnd --help;;2;;gufi: word 1 refused\n",
@@ -54,6 +58,25 @@ const RUNS: [&str; 40] = [
 
 // A trace of its root alone.
 const TRACE: &[u8] = b"/r|d|1|493|2|0|0|0|0|0|0|0|0|\n";
+
+// Each word that a page lists behind START, or in a script, is taken. The lists are compared with the readers' by docs/check_help.py.
+const LISTED: [&str; 12] = [
+    "find --delim=| --now=0 i 0 / -name x -path x -type d -size 1 -atime 1 -mtime 1 -ctime 1 -links 1 -perm 7 -user 0 -group 0 -nouser \
+        -nogroup -maxdepth 1 ! -type d -a -type d -o -mindepth 0 ( -type d );;0;/\n;",
+    "query --delim=| i 0 / SELECT_path,name,type,inode,mode,nlink,uid,gid,size,blksize,blocks,atime,mtime,ctime,linkname,level,xattrs_FROM_rows;\
+        ;0;/\t/\td\t1\t493\t2\t0\t0\t0\t0\t0\t0\t0\t0\t\t0\t\n;",
+    "query --delim=| i 0 / SELECT_path_FROM_entries;;0;;",
+    "query --delim=| i 0 / select_path_from_summary_where_not_size_=_1_and_size_<>_1_and_size_!=_1_and_size_<_1_or_size_<=_1_and_size_>_1\
+        _and_size_>=_1_and_path_regexp_'x';;0;/\n;",
+    "agg --delim=| i 0 / SELECT_uid,COUNT(*),SUM(size),MIN(size),MAX(size),MIN(mtime),MAX(mtime)_FROM_rows_GROUP_BY_uid;;0;0\t1\t0\t0\t0\t0\t0\n;",
+    "agg --delim=| i 0 / SELECT_gid_FROM_rows_GROUP_BY_gid;;0;0\n;",
+    "agg --delim=| i 0 / SELECT_type_FROM_rows_GROUP_BY_type;;0;d\n;",
+    "agg --delim=| i 0 / SELECT_level_FROM_rows_GROUP_BY_level;;0;0\n;",
+    "stats --delim=| i 0 / levels;;0;level 0 dirs 1 ;",
+    "stats --delim=| i 0 / uids;;0;uid 0 dirs 1 ;",
+    "stats --delim=| i 0 / gids;;0;gid 0 dirs 1 ;",
+    "stats --delim=| i 0 / leaves;;0;/\n;",
+];
 
 // What a run is to come to.
 #[derive(Drop)]
@@ -149,6 +172,15 @@ fn is_met<R: AllocGlobal + Threads + Wait + Sync + Abort>(
 #[test]
 fn pages_are_shown_and_all_else_is_a_run(rt: HostRuntime) -> Result<(), Fail> {
     for line in RUNS {
+        let is_met = is_met(&rt, line)?;
+        assert!(rt; is_met, "{line}");
+    }
+    Ok(())
+}
+
+#[test]
+fn listed_words_are_taken(rt: HostRuntime) -> Result<(), Fail> {
+    for line in LISTED {
         let is_met = is_met(&rt, line)?;
         assert!(rt; is_met, "{line}");
     }

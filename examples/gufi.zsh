@@ -1,0 +1,80 @@
+#compdef gufi
+# Completions of gufi for zsh. Made by: gufi --completions=zsh
+_gufi_words() {
+    case $1:$2 in
+    names:*) echo 'walk find query agg ls stat stats trace2index rollup session gen --help --version --man --completions --completions=zsh --completions=fish ' ;;
+    options:walk) echo '--help' ;;
+    values:walk) echo '' ;;
+    behind:walk) echo '' ;;
+    options:find) echo '--passwd --group --delim --limit --workers --now --help' ;;
+    values:find) echo '--passwd=FILE --group=FILE --delim=BYTE --limit=N --workers=N --now=SECONDS ' ;;
+    behind:find) echo '-name -path -type -size -atime -mtime -ctime -links -perm -user -group -nouser -nogroup -mindepth -maxdepth ! -a -o ' ;;
+    options:query) echo '--passwd --group --delim --limit --workers --help' ;;
+    values:query) echo '--passwd=FILE --group=FILE --delim=BYTE --limit=N --workers=N ' ;;
+    behind:query) echo 'path name type inode mode nlink uid gid size blksize blocks atime mtime ctime linkname level xattrs entries summary rows select from where regexp not and or ' ;;
+    options:agg) echo '--passwd --group --delim --limit --workers --help' ;;
+    values:agg) echo '--passwd=FILE --group=FILE --delim=BYTE --limit=N --workers=N ' ;;
+    behind:agg) echo 'uid gid type level COUNT(*) SUM(size) MIN(size) MAX(size) MIN(mtime) MAX(mtime) entries summary rows select from where group by path name type inode mode nlink uid gid size blksize blocks atime mtime ctime linkname level xattrs regexp not and or ' ;;
+    options:ls) echo '-l -A --passwd --group --delim --limit --workers --help' ;;
+    values:ls) echo '-l -A --passwd=FILE --group=FILE --delim=BYTE --limit=N --workers=N ' ;;
+    behind:ls) echo '' ;;
+    options:stat) echo '--passwd --group --delim --limit --workers --help' ;;
+    values:stat) echo '--passwd=FILE --group=FILE --delim=BYTE --limit=N --workers=N ' ;;
+    behind:stat) echo '' ;;
+    options:stats) echo '--passwd --group --delim --limit --workers --help' ;;
+    values:stats) echo '--passwd=FILE --group=FILE --delim=BYTE --limit=N --workers=N ' ;;
+    behind:stats) echo 'levels uids gids leaves ' ;;
+    options:trace2index) echo '--delim --help' ;;
+    values:trace2index) echo '--delim=BYTE ' ;;
+    behind:trace2index) echo '' ;;
+    options:rollup) echo '--limit --delim --help' ;;
+    values:rollup) echo '--limit=N --delim=BYTE ' ;;
+    behind:rollup) echo '' ;;
+    options:session) echo '--passwd --group --delim --workers --now --cache --help' ;;
+    values:session) echo '--passwd=FILE --group=FILE --delim=BYTE --workers=N --now=SECONDS --cache=C ' ;;
+    behind:session) echo '' ;;
+    options:gen) echo '--summary --delim --workers --help' ;;
+    values:gen) echo '--summary --delim=BYTE --workers=N ' ;;
+    behind:gen) echo '' ;;
+    esac
+}
+_gufi() {
+    local command=$words[2] option= ended= place=0 at word
+    if ((CURRENT == 2)); then
+        compadd -- ${=$(_gufi_words names)}
+        return
+    fi
+    for ((at = 3; at < CURRENT; at++)); do
+        word=$words[at]
+        if [[ -n $option ]]; then
+            option=
+        elif [[ $place == 0 && -z $ended && $word == -- ]]; then
+            ended=yes
+        elif [[ $place == 0 && -z $ended && $word == -?* ]]; then
+            [[ " $(_gufi_words values $command)" != *" $word="* ]] || option=$word
+        else
+            place=$((place + 1))
+        fi
+    done
+    if [[ -n $option ]]; then
+        [[ $option == --passwd || $option == --group ]] && _files
+    elif [[ $place == 0 && -z $ended && ( $PREFIX == --passwd=* || $PREFIX == --group=* ) ]]; then
+        compset -P '*='
+        _files
+    elif [[ $place == 0 && -z $ended && $PREFIX == -* ]]; then
+        compadd -- ${=$(_gufi_words options $command)}
+    elif [[ $place == 0 && $command != gen ]]; then
+        _files
+    elif [[ $place -ge 3 ]]; then
+        if [[ $command == query || $command == agg ]]; then
+            compset -q
+            compset -P '*,'
+        fi
+        compadd -Q -M 'm:{a-zA-Z}={A-Za-z}' -- ${=$(_gufi_words behind $command)}
+    fi
+}
+if [[ $funcstack[1] == _gufi ]]; then
+    _gufi "$@"
+else
+    compdef _gufi gufi
+fi
