@@ -155,8 +155,7 @@ END
     remove "$earlier"
     write_list "$mine$folders"
     stage=''
-    printf '%s
-' "$version is installed in $root: the program, the manual page, the completions for bash, zsh and fish, and the examples"
+    printf '%s\n' "$version is installed in $root: the program, the manual page, the completions for bash, zsh and fish, and the examples"
 }
 
 # Removes files, and what was made aside of them.
