@@ -80,8 +80,8 @@ def make_room():
 def number_of(variable):
     """The number that sudo gave a variable."""
     text = os.environ.get(variable, "")
-    if not (text.isascii() and text.isdigit()):
-        refuse(77, "%s is no number" % variable)
+    if not (text.isascii() and text.isdigit() and len(text) <= 10 and int(text) < 1 << 32):
+        refuse(77, "%s is no number of a user or group" % variable)
     return int(text)
 
 
