@@ -210,7 +210,6 @@ CALLS = r"""
 2 gufi: word 2 refused; gufi stat -l i 0 /
 2 gufi: word 2 refused; gufi stat --workers=33 i 0 /
 2 gufi: word 2 refused; gufi query --now=1 i 0 / 'SELECT name FROM rows'
-2 gufi: word 2 refused; gufi query --header i 0 / 'SELECT name FROM rows'
 2 gufi: word 3 refused; gufi agg --limit i 0 / 'SELECT uid FROM rows GROUP BY uid'
 2 gufi: word 2 refused; gufi stats --cache=1 i 0 / levels
 2 gufi: word 2 refused; gufi trace2index --passwd=p t

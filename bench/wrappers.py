@@ -71,6 +71,8 @@ REFUSED = [
     (["ls", "-l", "/", "/"], 2, "gufi: word 4 refused"),
     (["find", "/..", "-name", "x"], 2, "gufi: word 2 refused"),
     (["find", "/", "-size", "1x"], 2, "gufi: word 4 BadNumber"),
+    (["--explain", "find", "/", "-size", "1x"], 2, "gufi: word 4 BadNumber\n  find / -size 1x\n               ^^\n"),
+    (["--explain=files", "find", "/"], 2, "gufi-ask: --explain=files is refused"),
     (["find", "/", "-name", "a", "$(id)"], 2, "gufi: word 5 UnknownPrimary"),
     (["find", "/", "; id"], 2, "gufi: word 3 UnknownPrimary"),
     (["find", "/", "-name"], 2, "gufi: word 4 MissingArgument"),

@@ -4,7 +4,8 @@
 The commands and their options, the primaries and operators of find, the columns, tables, words and signs of a SELECT, the keys and items of
 agg, the reports of stats and the lines of a script are read from the readers' definitions, under crates/*/specs. The page of each command
 has to list just these, and the completions of each shell those that they offer. The manual page and the completions in the clone have to
-be those that the program writes. The status is 1 where something is missing or too many.
+be those that the program writes. The table of rules by which `--explain` explains has to have each kind of fault that a note may name, and each
+limit. The status is 1 where something is missing or too many.
 """
 import argparse
 import pathlib
@@ -14,6 +15,22 @@ import sys
 
 TOP = pathlib.Path(__file__).resolve().parent.parent
 MADE = {"--man": "docs/gufi.1", "--completions": "examples/gufi.bash", "--completions=zsh": "examples/gufi.zsh", "--completions=fish": "examples/gufi.fish"}
+
+# Where the kinds are that notes name, by the tables that have their rules.
+KINDS = {
+    "WORD_KINDS": [("gufi_find/Faults", "find_kind_text")],
+    "TEXT_KINDS": [("gufi_select/Faults", "select_kind_text"), ("gufi_agg/Faults", "agg_kind_text")],
+    "LINE_KINDS": [
+        ("gufi_trace/TraceText", "trace_kind_text"),
+        ("gufi_trace/TraceText", "failure_text"),
+        ("gufi_users/Users", "user_kind_text"),
+        ("gufi_script/ScriptText", "script_kind_text"),
+    ],
+    "OFFSET_KINDS": [("gufi_image/Kinds", "image_kind_text")],
+}
+
+# Limits that have a status of their own, and those that are told as a file's.
+LIMITS = ("max_dirs", "max_entries", "max_trace", "max_image", "max_users", "max_user_lines", "max_script", "max_script_lines", "max_publishing")
 
 
 def definition(place, name):
@@ -73,6 +90,21 @@ def behind_readers():
     }
 
 
+def ruled(table):
+    """The names of a table of rules."""
+    text = (TOP / "crates/gufi_explain/src/table.rt").read_text(encoding="utf-8")
+    return re.findall(r'^    \("([^"]*)" "', re.search(r"pub const %s: .*\n((?:.+\n)+)" % table, text).group(1), re.M)
+
+
+def rules_wanted():
+    """What each table of rules has to have. A limit that is passed has a status of its own."""
+    for table, places in KINDS.items():
+        names = [re.sub(r"^\d+", "", word).split() for place, name in places for word in words_of(place, name)]
+        yield table, {name[0] for name in names if name} - {"TooMany"} | ({"Twice"} & set(ruled(table)))
+    text = (TOP / "crates/gufi_base/specs/Limits.antt").read_text(encoding="utf-8")
+    yield "LIMITS", {re.search(r"^%s = (\d+)" % name, text, re.M).group(1) for name in LIMITS}
+
+
 def listed_on(page):
     """The options that a page has, and what stands in its lists."""
     parts = page.split("\n\n")
@@ -111,6 +143,10 @@ def main():
             count += len(set(wanted_words))
             differ = set(found) ^ set(wanted_words)
             wrong += ["%s of %s: %s" % (what, command, " ".join(sorted(differ)))] if differ else []
+    for table, wanted in rules_wanted():
+        count += len(wanted)
+        differ = set(ruled(table)) ^ wanted
+        wrong += ["rules in %s: %s" % (table, " ".join(sorted(differ)))] if differ else []
     print("\n".join(wrong + ["%d words were compared, %d places differ" % (count, len(wrong))]))
     return 1 if wrong else 0
 

@@ -4,8 +4,9 @@
   sudo -u gufi gufi-ask COMMAND WORD..    the caller is he who called sudo
   gufi-ask --ssh NAME                     the forced command of a key of NAME's; what he sent is split as a shell quotes words
 
-`gufi-ask help` has the commands. No shell reads a word, and no process is started: this one becomes the program. What goes wrong
-before that ends with status 77 and a note, and a word that is refused here with status 2.
+`gufi-ask help` has the commands; `--explain` before one has a refusal of the program explained. No shell reads a word, and no process
+is started: this one becomes the program. What goes wrong before that ends with status 77 and a note, and a word that is refused here
+with status 2.
 """
 import os
 import sys
@@ -150,6 +151,13 @@ def options_of(words):
     return count
 
 
+def explained(words):
+    """The option that asks the program to explain a refusal, if it stands first, and the other words. Files are shown to nobody."""
+    if words[:1] == ["--explain=files"]:
+        refuse(2, "--explain=files is refused: it shows what stands in the site's files")
+    return (words[:1], words[1:]) if words[:1] == ["--explain"] else ([], words)
+
+
 def words_of_site(command, user):
     """The words that the site puts before START."""
     words = ["--passwd=%s/passwd" % SITE, "--group=%s/group" % SITE]
@@ -183,10 +191,11 @@ def answer(user, words):
     if page:
         os.write(1, page.encode())
         return 0
+    explain, words = explained(words)
     behind = 1 + options_of(words)
     site = words_of_site(words[0], user)
     inserted = "--inserted=%d,%d" % (behind + 1, len(site))
-    return become_program([inserted] + words[:behind] + site + words[behind:])
+    return become_program([inserted] + explain + words[:behind] + site + words[behind:])
 
 
 def main(words):

@@ -6,7 +6,7 @@
 #![tactic(auto)]
 
 use core::thread::Anything;
-use gufi_help::{Channel, PAGES, run, without_words};
+use gufi_help::{Channel, Watched, WatchedShelf, own_pages, run, without_words};
 use gufi_io::{FileShelf, NoGate, Shelf, Sink, StdSink};
 use std::alloc::Global;
 use std::io::ErrorKind;
@@ -30,8 +30,8 @@ fn has_room(alloc: Global) -> bool {
     Vec::<u8>::with_capacity(alloc, STACK).is_ok()
 }
 
-// What a run comes to. A call of its own, so that the proof of what the thread does doesn't go through the texts of the pages.
-fn answered<R: Threads + Wait + Sync, F: Shelf, K: Sink + Drop>(
+// What a run comes to, by the program's pages.
+fn answered<R: Threads + Wait + Sync, F: Shelf + Watched, K: Sink + Drop>(
     rt: &R,
     alloc: Global,
     words: &[String],
@@ -39,13 +39,14 @@ fn answered<R: Threads + Wait + Sync, F: Shelf, K: Sink + Drop>(
     out: &mut Channel<K>,
     notes: &mut Channel<K>,
 ) -> u8 {
-    let outcome = run(rt, alloc, &PAGES, words, shelf, out, notes, &NoGate);
+    let pages = own_pages();
+    let outcome = run(rt, alloc, &pages, words, shelf, out, notes, &NoGate);
     outcome.status
 }
 
 fn main(rt: HostRuntime) -> ExitCode {
     let answer = move || {
-        let mut shelf = FileShelf::new(&rt);
+        let mut shelf = WatchedShelf::new(rt.alloc(), FileShelf::new(&rt));
         let mut out = Channel::To(StdSink::output(rt.stdout()));
         let mut notes = Channel::To(StdSink::errors(rt.stderr()));
         let words = match words(&rt) {

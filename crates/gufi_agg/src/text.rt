@@ -1,19 +1,29 @@
 //! What is printed of groups.
 ghost use Rattle.std.specs.Prelude.{◌≡◌, ◌<◌, ◌++◌, ◌∷◌, All, IfOk, OnOk};
+ghost use Rattle.std.specs.Option.{option_copied};
 ghost use Rattle.gufi_agg.specs.Texts.{key_text, item_text, tabbed_items, group_line, agg_text};
 
 use crate::agg::{Agg, AggKey, Item};
 use crate::groups::Group;
 use gufi_base::{Memory, put, put_i64, put_u64, put_u128};
+use gufi_stats::{put_gid, put_uid};
+use gufi_users::Users;
 use std::alloc::Global;
 
-/// The number of a group: a letter as it is, a level from the start, and any other in decimal.
-fn put_key(out: &mut Vec<u8>, key: AggKey, number: u64, above: u32) -> Result<(), Memory>
+/// The number of a group: a letter as it is, a level from the start, and an owner or a group by name where there are tables.
+fn put_key(
+    out: &mut Vec<u8>,
+    key: AggKey,
+    number: u64,
+    above: u32,
+    names: Option<&Users>,
+) -> Result<(), Memory>
     requires letter { key ≡ AggKey.Letter → number < 256 }
-    ensures { OnOk result (out.new.items ≡ out.old.items ++ key_text key above number) }
+    ensures { OnOk result (out.new.items ≡ out.old.items ++ key_text (option_copied names.entry) key above number) }
 {
     match key {
-        AggKey::Uid | AggKey::Gid => put_u64(out, number),
+        AggKey::Uid => put_uid(out, number, names),
+        AggKey::Gid => put_gid(out, number, names),
         AggKey::Letter => put(out, &[number as u8]),
         AggKey::Level => put_u64(out, number.saturating_sub(u64::from(above))),
     }
@@ -49,24 +59,39 @@ fn put_items(out: &mut Vec<u8>, items: &[Item], group: &Group) -> Result<(), Mem
     Ok(())
 }
 
-fn put_line(out: &mut Vec<u8>, agg: &Agg, above: u32, group: &Group) -> Result<(), Memory>
+fn put_line(
+    out: &mut Vec<u8>,
+    agg: &Agg,
+    above: u32,
+    group: &Group,
+    names: Option<&Users>,
+) -> Result<(), Memory>
     requires letter { agg.now.key ≡ AggKey.Letter → group.now.key < 256 }
-    ensures { OnOk result (out.new.items ≡ out.old.items ++ group_line agg.now above group.now) }
+    ensures { OnOk result (out.new.items ≡ out.old.items ++ group_line (option_copied names.entry) agg.now above group.now) }
 {
-    put_key(out, agg.key(), group.key, above)?;
+    put_key(out, agg.key(), group.key, above, names)?;
     put_items(out, agg.items(), group)?;
     put(out, b"\n")
 }
 
 /// A line for each group: its number and its items, a tab between each. `above` says how many names stand above the start.
+///
+/// With tables an owner or a group is told by its name, or by its number where it has none. Lines stay in the order of
+/// numbers. A name may hold any byte but a colon and a newline, so a tab too, and may be written as another's number.
 #[tactic(auto, unfolding(crate::specs::Texts::agg_text))]
-pub fn agg_text(alloc: Global, groups: &[Group], agg: &Agg, above: u32) -> Result<Vec<u8>, Memory>
+pub fn agg_text(
+    alloc: Global,
+    groups: &[Group],
+    agg: &Agg,
+    above: u32,
+    names: Option<&Users>,
+) -> Result<Vec<u8>, Memory>
     requires letters { agg.now.key ≡ AggKey.Letter → All (λ group. group.key < 256) groups.now }
-    ensures { IfOk result (λ text. text.items ≡ agg_text agg.now above groups.now) }
+    ensures { IfOk result (λ text. text.items ≡ agg_text (option_copied names.entry) agg.now above groups.now) }
 {
     let mut text = Vec::new(alloc);
     'groups: for group in groups {
-        put_line(&mut text, agg, above, group)?;
+        put_line(&mut text, agg, above, group, names)?;
     }
     Ok(text)
 }

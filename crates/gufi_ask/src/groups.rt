@@ -1,5 +1,6 @@
 //! Groups of the rows that a principal lists: `agg`.
 ghost use Rattle.std.specs.Prelude.{◌≡◌, ◌≢◌, ◌<◌, length, All, Some, None, IfOk, IfErr, OnOk};
+ghost use Rattle.std.specs.Option.{option_copied};
 ghost use Rattle.gufi_tree.specs.Resolve.{resolve};
 ghost use Rattle.gufi_select.specs.Columns.{select_holds};
 ghost use Rattle.gufi_agg.specs.Grouped.{grouped_rows, key_number};
@@ -16,6 +17,7 @@ use gufi_prune::{Pruner, select_pruner};
 use gufi_select::{Select, SelectQuestion};
 use gufi_snap::Snapshot;
 use gufi_stats::{Depth, Gid, RowNumber, Uid};
+use gufi_users::Users;
 use gufi_walk::{Refusal, Walkers, answer};
 use std::alloc::Global;
 use std::sync::Wait;
@@ -80,31 +82,34 @@ fn groups_of<R: Threads + Wait + Sync, G: Gate + Sync>(
 fn lines_of_groups(
     alloc: Global,
     groups: &[Group],
+    names: Option<&Users>,
     agg: &Agg,
     start: &Path,
 ) -> Result<Vec<u8>, Memory>
     requires letters { agg.now.key ≡ AggKey.Letter → All (λ group. group.key < 256) groups.now }
-    ensures { IfOk result (λ text. text.items ≡ agg_text agg.now (length start.now) groups.now) }
+    ensures { IfOk result (λ text. text.items ≡ agg_text (option_copied names.entry) agg.now (length start.now) groups.now) }
 {
     match u32::try_from(start.depth()) {
-        Ok(above) => agg_text(alloc, groups, agg, above),
+        Ok(above) => agg_text(alloc, groups, agg, above, names),
         Err(_) => Err(Memory),
     }
 }
 
-/// A line for each group of the rows that the principal lists from the start and that an agg chooses.
+/// A line for each group of the rows that the principal lists from the start and that an agg chooses; with tables owners and groups
+/// are named.
 pub fn groups_text<R: Threads + Wait + Sync, G: Gate + Sync>(
     walkers: &Walkers<'_, R, G>,
     alloc: Global,
     snap: &Snapshot,
     who: &Principal,
     start: &Path,
+    names: Option<&Users>,
     agg: &Agg,
 ) -> Result<Vec<u8>, Refusal>
-    ensures { Replies result (ask_reply snap.now.tree who.now start.now (agg_ask agg.now)) }
+    ensures { Replies result (ask_reply snap.now.tree who.now start.now (agg_ask (option_copied names.entry) agg.now)) }
 {
     match groups_of(walkers, alloc, snap, who, start, agg) {
-        Ok(groups) => Ok(lines_of_groups(alloc, &groups, agg, start)?),
+        Ok(groups) => Ok(lines_of_groups(alloc, &groups, names, agg, start)?),
         Err(refusal) => Err(refusal),
     }
 }

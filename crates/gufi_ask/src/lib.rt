@@ -7,6 +7,7 @@
 mod groups;
 mod laws;
 mod paths;
+mod prefixed;
 mod reports;
 mod rows;
 mod snapshots;

@@ -1,5 +1,6 @@
 //! The paths of the rows that a principal lists: `walk` and `find`.
 ghost use Rattle.std.specs.Prelude.{◌≡◌, ◌≢◌, List, Some, None, IsTrue, IfOk, IfErr, OnOk};
+ghost use Rattle.std.specs.Option.{option_copied};
 ghost use Rattle.gufi_base.specs.declared.record.Row.{Row};
 ghost use Rattle.gufi_base.specs.Basics.{ascends};
 ghost use Rattle.gufi_base.specs.Rows.{row_cmp};
@@ -10,9 +11,10 @@ ghost use Rattle.gufi_walk.specs.Answer.{answer, refusal_of};
 ghost use Rattle.gufi_ask.specs.Asks.{walk_ask, find_ask, ask_reply};
 ghost use Rattle.gufi_ask.specs.Replies.{Replies};
 
+use crate::prefixed::prefixed_text;
 use crate::snapshots::make_room;
 use gufi_access::Principal;
-use gufi_base::{Always, Memory, Path};
+use gufi_base::{Always, Memory, Path, Text};
 use gufi_find::FindExpr;
 use gufi_io::Gate;
 use gufi_prune::find_pruner;
@@ -71,8 +73,8 @@ fn found_paths<R: Threads + Wait + Sync, G: Gate + Sync>(
     answer_paths(walkers, alloc, snap, who, start, &question, &skip)
 }
 
-/// The paths of the rows that the principal lists from the start and for which an expression is true.
-pub fn find_text<R: Threads + Wait + Sync, G: Gate + Sync>(
+/// The lines of the rows that the principal lists from the start and for which an expression is true.
+fn found_text<R: Threads + Wait + Sync, G: Gate + Sync>(
     walkers: &Walkers<'_, R, G>,
     alloc: Global,
     snap: Snapshot,
@@ -80,7 +82,7 @@ pub fn find_text<R: Threads + Wait + Sync, G: Gate + Sync>(
     start: &Path,
     expression: &FindExpr,
 ) -> Result<Vec<u8>, Refusal>
-    ensures { Replies result (ask_reply snap.tree who.now start.now (find_ask expression.now)) }
+    ensures { Replies result (ask_reply snap.tree who.now start.now (find_ask None expression.now)) }
 {
     match found_paths(walkers, alloc, &snap, who, start, expression) {
         Ok(paths) => Ok(text_of_paths(alloc, snap, paths)?),
@@ -88,5 +90,26 @@ pub fn find_text<R: Threads + Wait + Sync, G: Gate + Sync>(
             forget(snap);
             Err(refusal)
         }
+    }
+}
+
+/// The paths of the rows that the principal lists from the start and for which an expression is true, each behind a prefix where
+/// there is one. Then the root is the prefix alone.
+///
+/// With a prefix the rows are kept with their records, as those of a query are.
+pub fn find_text<R: Threads + Wait + Sync, G: Gate + Sync>(
+    walkers: &Walkers<'_, R, G>,
+    alloc: Global,
+    snap: Snapshot,
+    who: &Principal,
+    start: &Path,
+    prefix: Option<&Text>,
+    expression: &FindExpr,
+) -> Result<Vec<u8>, Refusal>
+    ensures { Replies result (ask_reply snap.tree who.now start.now (find_ask (option_copied prefix.entry) expression.now)) }
+{
+    match prefix {
+        None => found_text(walkers, alloc, snap, who, start, expression),
+        Some(prefix) => prefixed_text(walkers, alloc, snap, who, start, prefix, expression),
     }
 }

@@ -1,6 +1,8 @@
 //! Reports over the rows that a principal lists: `stats`.
-ghost use Rattle.std.specs.Prelude.{◌≡◌, ◌≢◌, true, Some, None, IfOk, IfErr, OnOk};
+ghost use Rattle.std.specs.Prelude.{◌≡◌, ◌≢◌, true, Option, Some, None, IfOk, IfErr, OnOk};
+ghost use Rattle.std.specs.Option.{option_copied};
 ghost use Rattle.gufi_tree.specs.Resolve.{resolve};
+ghost use Rattle.gufi_users.specs.Entries.{UserTables};
 ghost use Rattle.gufi_stats.specs.Grouped.{grouped};
 ghost use Rattle.gufi_walk.specs.Answer.{answer, refusal_of};
 ghost use Rattle.gufi_ask.specs.Asks.{stats_ask, ask_reply};
@@ -15,6 +17,7 @@ use gufi_stats::{
     uids_text,
 };
 use gufi_sums::NoSkip;
+use gufi_users::Users;
 use gufi_walk::{Refusal, Walkers, answer, answer_rows};
 use std::alloc::Global;
 use std::sync::Wait;
@@ -53,7 +56,7 @@ fn leaves_from<R: Threads + Wait + Sync, G: Gate + Sync>(
     who: &Principal,
     start: &Path,
 ) -> Result<Vec<u8>, Refusal>
-    ensures { Replies result (ask_reply snap.now.tree who.now start.now (stats_ask Report.Leaves)) }
+    ensures { (names : Option UserTables) → Replies result (ask_reply snap.now.tree who.now start.now (stats_ask names Report.Leaves)) }
 {
     // The tree's shape tells that the rows of an answer are in path order.
     let _tree = snap.tree();
@@ -63,16 +66,17 @@ fn leaves_from<R: Threads + Wait + Sync, G: Gate + Sync>(
     }
 }
 
-/// A report over all rows that the principal lists from the start.
+/// A report over all rows that the principal lists from the start; with tables owners and groups are named.
 pub fn report_text<R: Threads + Wait + Sync, G: Gate + Sync>(
     walkers: &Walkers<'_, R, G>,
     alloc: Global,
     snap: &Snapshot,
     who: &Principal,
     start: &Path,
+    names: Option<&Users>,
     report: Report,
 ) -> Result<Vec<u8>, Refusal>
-    ensures { Replies result (ask_reply snap.now.tree who.now start.now (stats_ask report)) }
+    ensures { Replies result (ask_reply snap.now.tree who.now start.now (stats_ask (option_copied names.entry) report)) }
 {
     // The tree's count tells that the rows of an answer are few.
     let _tree = snap.tree();
@@ -82,11 +86,11 @@ pub fn report_text<R: Threads + Wait + Sync, G: Gate + Sync>(
             Err(refusal) => Err(refusal),
         },
         Report::Uids => match counts_from::<Uid, R, G>(walkers, alloc, snap, who, start) {
-            Ok(counts) => Ok(uids_text(alloc, counts)?),
+            Ok(counts) => Ok(uids_text(alloc, counts, names)?),
             Err(refusal) => Err(refusal),
         },
         Report::Gids => match counts_from::<Gid, R, G>(walkers, alloc, snap, who, start) {
-            Ok(counts) => Ok(gids_text(alloc, counts)?),
+            Ok(counts) => Ok(gids_text(alloc, counts, names)?),
             Err(refusal) => Err(refusal),
         },
         Report::Leaves => leaves_from(walkers, alloc, snap, who, start),

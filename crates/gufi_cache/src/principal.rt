@@ -25,6 +25,7 @@ impl Model for SharedPrincipal {
 impl SharedPrincipal {
     ghost use Rattle.std.specs.Arc.{arc_value};
 
+    /// A principal to be shared: one allocation. After want of memory it is gone.
     pub fn of(alloc: Global, who: Principal) -> Result<SharedPrincipal, Memory>
         ensures { IfOk result (λ shared. shared ≡ who) }
     {

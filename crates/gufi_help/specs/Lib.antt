@@ -3,3 +3,4 @@ pub mod Shown
 pub mod Channels
 pub mod Inserted
 pub mod Runs
+pub mod Explaining

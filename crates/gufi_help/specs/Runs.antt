@@ -3,11 +3,12 @@ use Rattle.std.specs.Prelude.{◌≡◌, ◌≢◌, ◌≤◌, ◌⊎◌, ℕ, L
 use Rattle.std.specs.Io.KnownBytes.{Appends}
 use Rattle.gufi_io.specs.Causes.{Rose}
 use Rattle.gufi_io.specs.Files.{TakesFront}
+use Rattle.gufi_io.specs.Kept.{Keeps}
 use Rattle.gufi_io.specs.declared.shelf.Shelf.{Ghosts as ShelfOf}
 use Rattle.gufi_io.specs.declared.sink.Sink.{Ghosts as SinkOf}
 use Rattle.gufi_top.specs.Reasons.{Reason}
-use Rattle.gufi_top.specs.Verdict.{are_one_shot, command_in, MayRefuseWords}
-use Rattle.gufi_top.specs.Ends.{IsVerdictStatus, Ended, WriteFaulted, BrokenOff, TakesNote, read_fault_note, memory_note}
+use Rattle.gufi_top.specs.Verdict.{are_one_shot, command_in, files_ahead_of, MayRefuseWords}
+use Rattle.gufi_top.specs.Ends.{IsVerdictStatus, Ended, WriteFaulted, BrokenOff, Anywhere, FailedBehind, TakesNote, read_fault_note, memory_note}
 use Rattle.gufi_top.specs.Endings.{RefusalTells, TellsOneOf}
 use Rattle.gufi_top.specs.Complete.{Completes}
 use Rattle.gufi_top.specs.declared.ending.Outcome.{Outcome}
@@ -24,11 +25,11 @@ pub record HasRunWords {F K : Type 0} (shelf : ShelfOf F) (sink : SinkOf K) (wor
   pub refusal : outcome.status ≡ 2 → TellsOneOf sink (MayRefuseWords words) notes notes'
   pub known : outcome.status ≤ 8
   pub silent : IsTrue (are_one_shot words) → outcome.status ≢ 0 → outcome.status ≢ 4 → out' ≡ out
-  pub same : shelf.files after ≡ shelf.files before
+  pub kept : Keeps shelf before after
   pub absent : outcome.status ≡ 8 → Rose (shelf.absents before) (shelf.absents after)
-  pub read_fault : outcome.status ≡ 3 → Rose (shelf.faults before) (shelf.faults after) × BrokenOff sink (shelf.files before) words outcome out out' notes notes' read_fault_note
+  pub read_fault : outcome.status ≡ 3 → Rose (shelf.faults before) (shelf.faults after) × BrokenOff sink (FailedBehind shelf (files_ahead_of words) before after) (shelf.files before) words outcome out out' notes notes' read_fault_note
   pub write_fault : outcome.status ≡ 4 → WriteFaulted sink (shelf.files before) words outcome out out' notes notes'
-  pub memory : outcome.status ≡ 7 → BrokenOff sink (shelf.files before) words outcome out out' notes notes' memory_note
+  pub memory : outcome.status ≡ 7 → BrokenOff sink Anywhere (shelf.files before) words outcome out out' notes notes' memory_note
 
 module _ {K : Type 0} (sink : SinkOf (Channel K)) (inserted : Inserted) where
   -- How what is held of a note is told, by the status of the run: with that status and as the caller counts; with status 4 where

@@ -12,7 +12,7 @@ macro_rules! table {
             trace ("TRACE" "a line for each file and directory; docs/guide.md has its fields")
             index ("INDEX" "a trace, or an index image, which trace2index and rollup write")
             user ("USER" "a name of the passwd file, or UID, or UID:GID,..")
-            start ("START" "the path of the directory to begin at; / is the root")
+            start ("START" "the path of the directory to begin at, without ..; / is the root")
             passwd ("--passwd" "=FILE" "the passwd file, for names in USER; left out: no names")
             group ("--group" "=FILE" "the group file; left out: no groups")
             delim ("--delim" "=BYTE" "the byte between the fields of a trace; left out: 0x1E")
@@ -81,6 +81,8 @@ macro_rules! table {
             ("--completions=fish" "those for fish; examples/gufi.fish is made by it")
             ;
             ("--inserted=FIRST,COUNT" "a wrapper put in so many words, from that word on: notes count the others alone")
+            ("--explain" "behind that: where the command is refused, standard error tells more: the word, what is expected there, and the nearest name")
+            ("--explain=files" "the same, and of files their names and the line that is meant; through no wrapper")
             ;
             "walk" "TRACE UID GIDS [DELIM]"
                 "paths of all that the principal can list by walking from the root"
@@ -91,7 +93,7 @@ macro_rules! table {
             "find" "[OPTION].. INDEX USER START [EXPRESSION]"
                 "paths of the rows for which the expression is true"
                 [$index $user $start ("EXPRESSION" "primaries and operators, as -name '*.rs'; left out: all rows")]
-                [$passwd $group $delim $limit $workers $now]
+                [("--prefix" "=TEXT" "what stands in front of each path; the root is TEXT alone") $passwd $group $delim $limit $workers $now]
                 [("primaries, where N is a number to equal, +N for more, -N for less"
                     ("-name" " PATTERN" "the base name matches; that of the root is /")
                     ("-path" " PATTERN" "the whole path matches")
@@ -116,7 +118,10 @@ macro_rules! table {
             "query" "[OPTION].. INDEX USER START TEXT"
                 "columns of the rows that a SELECT chooses"
                 [$index $user $start ("TEXT" "one word: SELECT COLUMN,.. FROM TABLE [WHERE CONDITION] [;], or * for the columns")]
-                [$passwd $group $delim $limit $workers]
+                [("--escape" "" "what isn't printable ASCII in a text, and a backslash, as an escape of C")
+                    ("--header" "" "first a line with the names of the columns")
+                    ("--json" "" "an object of JSON a line, without --escape and --header")
+                    $passwd $group $delim $limit $workers]
                 [$columns $tables
                     ("words, in capitals or not"
                         ("select" " COLUMN,.." "what is printed of a row")
@@ -128,7 +133,7 @@ macro_rules! table {
                 "counts, sums and bounds of the rows that a SELECT chooses, by owner, group, type or level"
                 [$index $user $start
                     ("TEXT" "one word: SELECT KEY, ITEM, .. FROM TABLE [WHERE CONDITION] GROUP BY KEY [;]")]
-                [$passwd $group $delim $limit $workers]
+                [("--names" "" "owners and groups by name, where they have one") $passwd $group $delim $limit $workers]
                 [("keys" ("uid" "" "the owner") ("gid" "" "the group") ("type" "" "the type")
                         ("level" "" "how many components below START"))
                     ("items" ("COUNT(*)" "" "how many rows")
@@ -157,8 +162,8 @@ macro_rules! table {
                 [$index $user $start] [$passwd $group $delim $limit $workers] [] []
             "stats" "[OPTION].. INDEX USER START REPORT"
                 "a report on all that the user lists below the start"
-                [$index $user $start ("REPORT" "one of the reports")]
-                [$passwd $group $delim $limit $workers]
+                [$index $user $start ("REPORT" "levels, uids, gids or leaves")]
+                [("--names" "" "owners and groups by name, where they have one") $passwd $group $delim $limit $workers]
                 [("reports"
                     ("levels" "" "a line for each depth below START")
                     ("uids" "" "a line for each owner")

@@ -7,12 +7,16 @@
 
 mod channel;
 mod commands;
+mod explaining;
 mod inserted;
 mod pages;
 mod program;
+mod rules;
 mod shells;
+mod watched;
 
 pub use channel::{Channel, HeldText};
 pub use inserted::{Inserted, numbers_are_told_as_counted};
-pub use pages::{CommandPage, PAGES, Pages, page};
+pub use pages::{CommandPage, Pages, own_pages, page};
 pub use program::{run, without_words};
+pub use watched::{Failing, Watched, WatchedShelf};

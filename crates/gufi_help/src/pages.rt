@@ -5,15 +5,19 @@ ghost use Rattle.gufi_words.specs.WordTexts.{texts};
 ghost use Rattle.gufi_help.specs.Pages.{asks_help, lone_page, page_among, page_of};
 
 use crate::commands::table;
+use crate::rules::own_rules;
 use crate::shells::{bash, fish, zsh};
+use gufi_explain::Rules;
 
 /// The name of a command and its page.
+#[derive(Clone, Copy)]
 pub struct CommandPage {
     pub name: &'static str,
     pub page: &'static str,
 }
 
 /// The pages that the program answers itself.
+#[derive(Clone, Copy)]
 pub struct Pages {
     pub usage: &'static str,
     pub version: &'static str,
@@ -22,6 +26,8 @@ pub struct Pages {
     pub zsh_completions: &'static str,
     pub fish_completions: &'static str,
     pub commands: &'static [CommandPage],
+    /// By which refusals are explained.
+    pub rules: Rules,
 }
 
 macro_rules! usage {
@@ -102,16 +108,21 @@ macro_rules! manual {
     };
 }
 
-/// The program's own pages, of one table.
-pub const PAGES: Pages = Pages {
-    usage: table!(usage),
-    version: "gufi 0.2.0\n",
-    manual: table!(manual),
-    completions: table!(bash),
-    zsh_completions: table!(zsh),
-    fish_completions: table!(fish),
-    commands: &table!(command_pages),
-};
+const COMMANDS: &[CommandPage] = &table!(command_pages);
+
+/// The program's own pages, of one table. A call, so that no proof of a caller goes through their texts.
+pub fn own_pages() -> Pages {
+    Pages {
+        usage: table!(usage),
+        version: "gufi 0.2.0\n",
+        manual: table!(manual),
+        completions: table!(bash),
+        zsh_completions: table!(zsh),
+        fish_completions: table!(fish),
+        commands: COMMANDS,
+        rules: own_rules(),
+    }
+}
 
 fn asks_help(word: &str) -> bool
     ensures { result ≡ asks_help word.now }

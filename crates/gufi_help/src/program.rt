@@ -8,10 +8,15 @@ ghost use Rattle.gufi_help.specs.Shown.{IsShown, CutShort};
 ghost use Rattle.gufi_help.specs.Channels.{held_bytes, is_held_whole};
 ghost use Rattle.gufi_help.specs.Inserted.{inserted_of, renumbered};
 ghost use Rattle.gufi_help.specs.Runs.{HasRunWords, HasRunInserted, IsToldToCaller, TellsCallerOneOf};
+ghost use Rattle.gufi_help.specs.Explaining.{words_behind, asked_of, HasRunExplained};
+ghost use Rattle.gufi_explain.specs.Explained.{detail_of};
 
 use crate::channel::Channel;
+use crate::explaining::{Asked, run_explained};
 use crate::inserted::{Inserted, inserted_words, renumbered};
 use crate::pages::{Pages, page};
+use crate::watched::Watched;
+use gufi_explain::{Rules, detail_words};
 use gufi_io::{Gate, Shelf, Sink, write_whole};
 use gufi_top::{Outcome, gufi_run};
 use std::alloc::Global;
@@ -66,7 +71,7 @@ fn tell_word<K: Sink>(
 }
 
 // Writes the note of a run, which is held, and gives the status that is left by that.
-fn tell_caller<K: Sink>(
+pub(crate) fn tell_caller<K: Sink>(
     alloc: Global,
     inserted: Inserted,
     ran: u8,
@@ -107,11 +112,46 @@ fn run_inserted<R: Threads + Wait + Sync, F: Shelf, K: Sink + Drop, G: Gate + Sy
     Outcome { status, numbers }
 }
 
+// What the words come to behind the option that tells of words that were put in, where it stands there.
+fn run_behind<R: Threads + Wait + Sync, F: Shelf + Watched, K: Sink + Drop, G: Gate + Sync>(
+    rt: &R,
+    alloc: Global,
+    rules: &Rules,
+    inserted: Option<Inserted>,
+    words: &[String],
+    shelf: &mut F,
+    out: &mut Channel<K>,
+    notes: &mut Channel<K>,
+    gate: &G,
+) -> Outcome
+    ensures run { inserted ≡ None → detail_of (texts words.now) ≡ None
+        → HasRunWords F.Shelf ⟦<Channel<K> as Sink>⟧ (texts words.now) result shelf.old shelf.new out.old out.new notes.old notes.new }
+    ensures inserted { detail_of (texts words.now) ≡ None → IfSome inserted (λ inserted.
+        HasRunInserted ⟦<Channel<K> as Sink>⟧ inserted F.Shelf (texts words.now) result shelf.old shelf.new out.old out.new notes.old notes.new) }
+    ensures renumbered { detail_of (texts words.now) ≡ None → IfSome inserted (λ inserted. result.status ≡ 2
+        → TellsCallerOneOf ⟦<Channel<K> as Sink>⟧ inserted (MayRefuseWords (texts words.now)) notes.old notes.new) }
+    ensures explained { IfSome (detail_of (texts words.now)) (λ detail. HasRunExplained ⟦<Channel<K> as Sink>⟧ F.Shelf F.Watched rules.now inserted detail
+        (drop 1 (texts words.now)) result shelf.old shelf.new out.old out.new notes.old notes.new) }
+{
+    match detail_words(words) {
+        Some((detail, words)) => {
+            let asked = Asked { inserted, detail };
+            run_explained(rt, alloc, rules, asked, words, shelf, out, notes, gate)
+        }
+        None => match inserted {
+            Some(inserted) => run_inserted(rt, alloc, inserted, words, shelf, out, notes, gate),
+            None => gufi_run(rt, alloc, words, shelf, out, notes, gate),
+        },
+    }
+}
+
 /// Shows the page that the words ask for. All other words are `gufi_run`'s, in full.
 ///
 /// The option `--inserted=FIRST,COUNT` in front of a command tells that a wrapper put in words behind it: so many, from the word
 /// of that number on, the command being word 1. Where a note names a word, its number is then that which it has without them.
-pub fn run<R: Threads + Wait + Sync, F: Shelf, K: Sink + Drop, G: Gate + Sync>(
+///
+/// The option `--explain` behind it, or `--explain=files`, asks that an explanation stands behind the note.
+pub fn run<R: Threads + Wait + Sync, F: Shelf + Watched, K: Sink + Drop, G: Gate + Sync>(
     rt: &R,
     alloc: Global,
     pages: &Pages,
@@ -130,16 +170,21 @@ pub fn run<R: Threads + Wait + Sync, F: Shelf, K: Sink + Drop, G: Gate + Sync>(
     ensures page_alone { IsSome (page_of pages.now (texts words.now)) → (result.numbers.items ≡ []) × (shelf.new ≡ shelf.old) }
 
     // All that `gufi_run` promises, where no page is asked for and no words were put in.
-    ensures run { page_of pages.now (texts words.now) ≡ None → inserted_of (texts words.now) ≡ None
+    ensures run { page_of pages.now (texts words.now) ≡ None → inserted_of (texts words.now) ≡ None → detail_of (texts words.now) ≡ None
         → HasRunWords F.Shelf ⟦<Channel<K> as Sink>⟧ (texts words.now) result shelf.old shelf.new out.old out.new notes.old notes.new }
 
     // Where words were put in, all that it promises of the words behind the option, but that its note is told to the caller.
-    ensures inserted { page_of pages.now (texts words.now) ≡ None → IfSome (inserted_of (texts words.now)) (λ inserted.
-        HasRunInserted ⟦<Channel<K> as Sink>⟧ inserted F.Shelf (drop 1 (texts words.now)) result shelf.old shelf.new out.old out.new notes.old notes.new) }
+    ensures inserted { page_of pages.now (texts words.now) ≡ None → IfSome (inserted_of (texts words.now)) (λ inserted. detail_of (drop 1 (texts words.now)) ≡ None
+        → HasRunInserted ⟦<Channel<K> as Sink>⟧ inserted F.Shelf (drop 1 (texts words.now)) result shelf.old shelf.new out.old out.new notes.old notes.new) }
 
     // A refused word is then told with the number that the caller counts.
-    ensures renumbered { page_of pages.now (texts words.now) ≡ None → IfSome (inserted_of (texts words.now)) (λ inserted. result.status ≡ 2
+    ensures renumbered { page_of pages.now (texts words.now) ≡ None → IfSome (inserted_of (texts words.now)) (λ inserted. detail_of (drop 1 (texts words.now)) ≡ None → result.status ≡ 2
         → TellsCallerOneOf ⟦<Channel<K> as Sink>⟧ inserted (MayRefuseWords (drop 1 (texts words.now))) notes.old notes.new) }
+
+    // Where an explanation is asked for, all that `gufi_run` promises of the words behind the options, but that its note is held and told, and then explained.
+    ensures explained { page_of pages.now (texts words.now) ≡ None → IfSome (asked_of (texts words.now)) (λ detail.
+        HasRunExplained ⟦<Channel<K> as Sink>⟧ F.Shelf F.Watched pages.now.rules (inserted_of (texts words.now)) detail (drop 1 (words_behind (texts words.now)))
+        result shelf.old shelf.new out.old out.new notes.old notes.new) }
 {
     match page(pages, words) {
         Some(text) => {
@@ -149,9 +194,30 @@ pub fn run<R: Threads + Wait + Sync, F: Shelf, K: Sink + Drop, G: Gate + Sync>(
         }
         None => match inserted_words(words) {
             Some((inserted, behind)) => {
-                run_inserted(rt, alloc, inserted, behind, shelf, out, notes, gate)
+                let rules = &pages.rules;
+                run_behind(
+                    rt,
+                    alloc,
+                    rules,
+                    Some(inserted),
+                    behind,
+                    shelf,
+                    out,
+                    notes,
+                    gate,
+                )
             }
-            None => gufi_run(rt, alloc, words, shelf, out, notes, gate),
+            None => run_behind(
+                rt,
+                alloc,
+                &pages.rules,
+                None,
+                words,
+                shelf,
+                out,
+                notes,
+                gate,
+            ),
         },
     }
 }

@@ -1,5 +1,5 @@
 //! Pages and runs over one file, and sinks in memory: the status, how the text begins, and the note.
-use gufi_help::{Channel, PAGES, run, without_words};
+use gufi_help::{Channel, WatchedShelf, own_pages, run, without_words};
 use gufi_io::{MemShelf, MemSink, NoGate, names_differ};
 use std::alloc::{AllocError, Global};
 use std::process::Abort;
@@ -8,7 +8,7 @@ use std::test::Fail;
 use std::thread::Threads;
 
 // Words, in which _ is a blank; the number of the write that fails, `n` before one of the note, or nothing; the status; how the text
-// begins, nothing where it is empty; the note. The one file is `i`, of the line TRACE.
+// begins, nothing where it is empty; the note. The files are FILES.
 const RUNS: [&str; 44] = [
     "--help;;0;usage: gufi COMMAND;",
     "-h;;0;usage: gufi COMMAND;",
@@ -56,8 +56,15 @@ const RUNS: [&str; 44] = [
     "walk --inserted=2,1 i 102 -;;2;;gufi: word 2 refused\n",
 ];
 
-// A trace of its root alone.
-const TRACE: &[u8] = b"/r|d|1|493|2|0|0|0|0|0|0|0|0|\n";
+// A trace of its root alone; a passwd file; a trace whose second line is damaged.
+const FILES: [(&str, &str); 3] = [
+    ("i", "/r|d|1|493|2|0|0|0|0|0|0|0|0|\n"),
+    ("p", "ann:x:1:1::/:/\n"),
+    (
+        "d",
+        "/r|d|1|493|2|0|0|0|0|0|0|0|0|\n/r/secret|f|1|x|1|7|7|0|0|0|0|0|0|\n",
+    ),
+];
 
 // Each word that a page lists behind START, or in a script, is taken. The lists are compared with the readers' by docs/check_help.py.
 const LISTED: [&str; 12] = [
@@ -76,6 +83,127 @@ const LISTED: [&str; 12] = [
     "stats --delim=| i 0 / uids;;0;uid 0 dirs 1 ;",
     "stats --delim=| i 0 / gids;;0;gid 0 dirs 1 ;",
     "stats --delim=| i 0 / leaves;;0;/\n;",
+];
+
+// The words of runs that are explained, in which _ is a blank, as above; and all that standard error gets.
+const EXPLAINED: [[&str; 3]; 23] = [
+    [
+        "--explain stat --wrokers=4 i ann /",
+        "2",
+        "gufi: word 2 refused\n  stat --wrokers=4 i ann /\n       ^^^^^^^^^^^\n\
+         \x20 not an option of stat, whose options are --passwd --group --delim --limit --workers\n  nearest: --workers\n",
+    ],
+    [
+        "--explain find --workers 33 i ann /",
+        "2",
+        "gufi: word 3 refused\n  find --workers 33 i ann /\n                 ^^\n  the value of --workers is a number from 1 to 32\n",
+    ],
+    [
+        "--explain find --limit",
+        "2",
+        "gufi: word 3 refused\n  find --limit\n               ^\n  the value of --limit is missing: a number below 2^64\n",
+    ],
+    [
+        "--explain stat --limit=1 --limit=2 i 0 /",
+        "2",
+        "gufi: word 3 refused\n  stat --limit=1 --limit=2 i 0 /\n                 ^^^^^^^^^\n  --limit is given twice\n",
+    ],
+    [
+        "--explain ls -l=3 i 0 /",
+        "2",
+        "gufi: word 2 refused\n  ls -l=3 i 0 /\n     ^^^^\n  -l takes no value\n",
+    ],
+    [
+        "--explain walk -x i 102 -",
+        "2",
+        "gufi: word 2 refused\n  walk -x i 102 -\n       ^^\n  walk has no options\n",
+    ],
+    [
+        "--explain ls --delim=| i",
+        "2",
+        "gufi: word 4 refused\n  ls --delim=| i\n                 ^\n  USER is missing: a name of the passwd file, or UID, or UID:GID,..\n",
+    ],
+    [
+        "--explain walk i 1x -",
+        "2",
+        "gufi: word 3 refused\n  walk i 1x -\n         ^^\n  UID is a number\n",
+    ],
+    [
+        "--explain gen 5 6",
+        "2",
+        "gufi: word 3 refused\n  gen 5 6\n        ^\n  gen takes [OPTION].. N\n",
+    ],
+    [
+        "--explain stats i 0 / levles",
+        "2",
+        "gufi: word 5 refused\n  stats i 0 / levles\n              ^^^^^^\n  REPORT is levels, uids, gids or leaves\n  nearest: levels\n",
+    ],
+    [
+        "--explain stat --delim=| i eve /",
+        "2",
+        "gufi: word 4 refused\n  stat --delim=| i eve /\n                   ^^^\n\
+         \x20 USER is a name of the passwd file, or UID, or UID:GID,..\n  names need --passwd\n",
+    ],
+    [
+        "--explain stat --delim=| --passwd=p i eve /",
+        "2",
+        "gufi: word 5 refused\n  stat --delim=| --passwd=p i eve /\n                              ^^^\n\
+         \x20 USER is a name of the passwd file, or UID, or UID:GID,..\n  no such name in p\n",
+    ],
+    [
+        "--explain fnd i",
+        "2",
+        "gufi: word 1 refused\n  fnd i\n  ^^^\n  no command\n\
+         \x20 the commands are walk find query agg ls stat stats trace2index rollup session gen\n  nearest: find\n",
+    ],
+    [
+        "--explain",
+        "2",
+        "gufi: word 1 refused\n  COMMAND is missing\n  the commands are walk find query agg ls stat stats trace2index rollup session gen\n",
+    ],
+    [
+        "--explain find --delim=| i 0 / -nmae x",
+        "2",
+        "gufi: word 6 UnknownPrimary\n  find --delim=| i 0 / -nmae x\n                       ^^^^^\n\
+         \x20 a primary is wanted there, as -name, or !, or (\n  nearest: -name\n",
+    ],
+    [
+        "--explain query --delim=| i 0 / SELECT_nope_FROM_rows",
+        "2",
+        "gufi: word 6 at 7 UnknownColumn\n  SELECT nope FROM rows\n         ^\n  a column is wanted there\n  nearest: name\n",
+    ],
+    [
+        "--inserted=2,3 --explain find --delim=| i eve /",
+        "2",
+        "gufi: inserted word 4 refused\n  the word is the wrapper's\n",
+    ],
+    [
+        "--inserted=2,3 --explain find --delim=| i 0 / -type x",
+        "2",
+        "gufi: word 4 BadType\n  find / -type x\n               ^\n  one of d f l b c p s is wanted there\n",
+    ],
+    [
+        "--explain stat --delim=| i 0 /x/y",
+        "1",
+        "gufi: no such at depth 1\n  at /x\n  nothing of that name is there; START begins at the root of the index\n",
+    ],
+    ["--explain walk t 102 -", "8", "gufi: t not found\n"],
+    [
+        "--explain stat --delim=| d 9 /",
+        "5",
+        "gufi: d line 2 BadNumber 4\n  a field is no decimal number of its size\n  field 4 is the mode: a decimal number below 2^32\n",
+    ],
+    [
+        "--explain=files stat --delim=| d 9 /",
+        "5",
+        "gufi: d line 2 BadNumber 4\n  /r/secret|f|1|x|1|7|7|0|0|0|0|0|0|\n\
+         \x20 a field is no decimal number of its size\n  field 4 is the mode: a decimal number below 2^32\n",
+    ],
+    [
+        "--inserted=2,3 --explain=files stat --delim=| d 9 /",
+        "5",
+        "gufi: d line 2 BadNumber 4\n  a field is no decimal number of its size\n  field 4 is the mode: a decimal number below 2^32\n",
+    ],
 ];
 
 // What a run is to come to.
@@ -103,16 +231,18 @@ fn sink_of(alloc: Global, bad_write: Option<u64>) -> Result<Channel<MemSink>, Al
     Ok(Channel::To(sink))
 }
 
-fn shelf_of(rt: &(impl AllocGlobal + Abort)) -> Result<MemShelf, AllocError> {
+fn shelf_of(rt: &(impl AllocGlobal + Abort)) -> Result<WatchedShelf<MemShelf>, AllocError> {
     let alloc = rt.alloc();
     let mut files = Vec::new(alloc);
-    files.push((
-        String::from_str(alloc, "i")?,
-        Vec::from_slice(alloc, TRACE)?,
-    ))?;
+    for (name, text) in FILES {
+        files.push((
+            String::from_str(alloc, name)?,
+            Vec::from_slice(alloc, text.as_bytes())?,
+        ))?;
+    }
     assert!(rt; names_differ(&files));
     let shelf = MemShelf::new(files, 4096, Vec::new(alloc), Vec::new(alloc));
-    Ok(shelf)
+    Ok(WatchedShelf::new(alloc, shelf))
 }
 
 fn taken(channel: &Channel<MemSink>) -> &[u8] {
@@ -126,12 +256,13 @@ fn taken(channel: &Channel<MemSink>) -> &[u8] {
 fn comes_to<R: AllocGlobal + Threads + Wait + Sync>(
     rt: &R,
     words: &[String],
-    shelf: &mut MemShelf,
+    shelf: &mut WatchedShelf<MemShelf>,
     out: &mut Channel<MemSink>,
     notes: &mut Channel<MemSink>,
     wanted: &Wanted<'_>,
 ) -> bool {
-    let outcome = run(rt, rt.alloc(), &PAGES, words, shelf, out, notes, &NoGate);
+    let pages = own_pages();
+    let outcome = run(rt, rt.alloc(), &pages, words, shelf, out, notes, &NoGate);
     outcome.status == wanted.status
         && taken(notes) == wanted.note.as_bytes()
         && taken(out).starts_with(wanted.front.as_bytes())
@@ -167,6 +298,40 @@ fn is_met<R: AllocGlobal + Threads + Wait + Sync + Abort>(
         &mut notes,
         &wanted,
     ))
+}
+
+// Whether a run comes to the status and the note with its explanation.
+fn is_explained<R: AllocGlobal + Threads + Wait + Sync + Abort>(
+    rt: &R,
+    row: [&str; 3],
+) -> Result<bool, Fail> {
+    let [words, status, note] = row;
+    let words = words_of(rt.alloc(), words)?;
+    let wanted = Wanted {
+        status: status.parse::<u8>()?,
+        front: "",
+        note,
+    };
+    let mut out = sink_of(rt.alloc(), None)?;
+    let mut notes = sink_of(rt.alloc(), None)?;
+    let mut shelf = shelf_of(rt)?;
+    Ok(comes_to(
+        rt,
+        words.as_slice(),
+        &mut shelf,
+        &mut out,
+        &mut notes,
+        &wanted,
+    ))
+}
+
+#[test]
+fn refusals_are_explained(rt: HostRuntime) -> Result<(), Fail> {
+    for row in EXPLAINED {
+        let is_explained = is_explained(&rt, row)?;
+        assert!(rt; is_explained, "{}", row[0]);
+    }
+    Ok(())
 }
 
 #[test]

@@ -105,6 +105,8 @@ impl Shelf for MemShelf {
 
     ghost left = { shelf_left };
 
+    ghost opens = { shelf_opens };
+
     ghost faults = { shelf_faults };
 
     ghost absents = { shelf_absents };

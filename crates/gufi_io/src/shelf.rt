@@ -2,6 +2,7 @@
 ghost use Rattle.std.specs.Prelude.{◌≡◌, ◌≤◌, ◌<◌, ℕ, List, Option, Bool, true, is_ok, length, IfErr, IsTrue};
 ghost use Rattle.std.specs.Io.{ReadsAtMost};
 ghost use Rattle.std.specs.Io.KnownBytes.{ReadConsumes};
+ghost use Rattle.gufi_io.specs.Calls.{one_more};
 ghost use Rattle.gufi_io.specs.Causes.{HasCause, OpenFaultHasCause};
 ghost use Rattle.gufi_io.specs.Files.{Files, OpensHeld};
 
@@ -27,6 +28,9 @@ pub trait Shelf {
     /// The bytes left of the file in hand, where the shelf tells them.
     ghost left: { Self → Option (List ℕ) };
 
+    /// How often a file was to be opened.
+    ghost opens: { Self → ℕ };
+
     /// How often the shelf has failed.
     ghost faults: { Self → ℕ };
 
@@ -37,6 +41,7 @@ pub trait Shelf {
     fn open_file(&mut self, name: &str) -> Result<(), OpenFault>
         ensures hand { in_hand self.new ≡ is_ok result }
         ensures held { OpensHeld (files self.old) name.now (left self.new) result }
+        ensures number { opens self.new ≡ one_more (opens self.old) }
         ensures same { files self.new ≡ files self.old }
         ensures faults { faults self.old ≤ faults self.new }
         ensures absents { absents self.old ≤ absents self.new }
@@ -49,6 +54,7 @@ pub trait Shelf {
         ensures hand { in_hand self.new ≡ true }
         ensures bound { ReadsAtMost result buf.new }
         ensures bytes { ReadConsumes (left self.old) (left self.new) result buf.new }
+        ensures opens { opens self.new ≡ opens self.old }
         ensures same { files self.new ≡ files self.old }
         ensures absents { absents self.new ≡ absents self.old }
         ensures cause { HasCause (faults self.old) (faults self.new) result };

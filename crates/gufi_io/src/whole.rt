@@ -1,6 +1,7 @@
 //! Whole files and whole texts.
 ghost use Rattle.std.specs.Prelude.{◌≡◌, ◌≤◌, ◌<◌, ◌++◌, ℕ, List, length, vec_len, IfOk, IfErr, OnOk, OnErr, IsTrue, Err};
 ghost use Rattle.std.specs.Io.KnownBytes.{Appends};
+ghost use Rattle.gufi_io.specs.Calls.{one_more};
 ghost use Rattle.gufi_io.specs.Causes.{Rose};
 ghost use Rattle.gufi_io.specs.Files.{Holds, TakesFront};
 ghost use Rattle.gufi_io.specs.Kept.{Keeps};
@@ -68,6 +69,7 @@ pub fn read_rest<F: Shelf, T: TakeBytes>(
     ensures long { result ≡ Err RestError.TooLong → HasTakenTooMany (T.has_taken out.old) (F.files shelf.old) name.now max out.new }
     ensures cause { result ≡ Err RestError.ReadFault → Rose (F.faults shelf.old) (F.faults shelf.new) }
     ensures same { F.files shelf.new ≡ F.files shelf.old }
+    ensures opens { F.opens shelf.new ≡ F.opens shelf.old }
     ensures faults { F.faults shelf.old ≤ F.faults shelf.new }
     ensures absents { F.absents shelf.new ≡ F.absents shelf.old }
 {
@@ -129,6 +131,7 @@ pub fn read_all<F: Shelf>(
     ensures short { IfOk result (λ bytes. length bytes.items ≤ max) }
     ensures told { IfErr result (ReadErrorTells (F.files shelf.old) name.now max) }
     ensures cause { IfErr result (ReadErrorHasCause F.Shelf shelf.old shelf.new) }
+    ensures opens { F.opens shelf.new ≡ one_more (F.opens shelf.old) }
     ensures kept { Keeps F.Shelf shelf.old shelf.new }
 {
     shelf.open_file(name)?;

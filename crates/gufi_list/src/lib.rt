@@ -10,7 +10,7 @@ mod put;
 mod record;
 mod total;
 
-pub use listing::{LsLine, OneBelow, ls_text};
+pub use listing::{LsLine, OneBelow, ls_text, put_group, put_owner};
 pub use mode::mode_text;
 pub use record::stat_text;
 pub use total::total_text;

@@ -13,7 +13,8 @@ use gufi_rows::{RowLine, parts_of};
 use gufi_users::Users;
 use std::alloc::Global;
 
-fn put_user(out: &mut Vec<u8>, users: &Users, uid: u32) -> Result<(), Memory>
+/// Appends the name of an owner, or the number where it has none: the first name of the number in file order.
+pub fn put_owner(out: &mut Vec<u8>, users: &Users, uid: u32) -> Result<(), Memory>
     ensures { OnOk result (out.new.items ≡ out.old.items ++ owner_text users.now uid) }
 {
     match users.name_of_uid(uid) {
@@ -22,7 +23,8 @@ fn put_user(out: &mut Vec<u8>, users: &Users, uid: u32) -> Result<(), Memory>
     }
 }
 
-fn put_group(out: &mut Vec<u8>, users: &Users, gid: u32) -> Result<(), Memory>
+/// Appends the name of a group, or the number where it has none, in the same way.
+pub fn put_group(out: &mut Vec<u8>, users: &Users, gid: u32) -> Result<(), Memory>
     ensures { OnOk result (out.new.items ≡ out.old.items ++ group_text users.now gid) }
 {
     match users.name_of_gid(gid) {
@@ -42,7 +44,7 @@ fn put_owners(out: &mut Vec<u8>, users: &Users, meta: &Meta) -> Result<(), Memor
     ensures { OnOk result (out.new.items ≡ out.old.items ++ owners_column users.now meta.now) }
 {
     put(out, b" ")?;
-    put_user(out, users, meta.uid)?;
+    put_owner(out, users, meta.uid)?;
     put(out, b" ")?;
     put_group(out, users, meta.gid)
 }

@@ -1,11 +1,11 @@
 -- How far a run has come over the files that a shelf tells, and what is meant by numbers where it tells none.
-use Rattle.std.proofs.Common.{◌≡◌, ℕ, ◌+◌, ◌<◌, ◌≤◌, true, false, List, [], ◌∷◌, ◌++◌, length, map, take, drop, get_or, length-append, append_assoc, append-nil, le_refl, take_all, refl, sym, ap, ◌∙◌, subst, arith, drop_of_length-le, inl, inr}
-use Rattle.std.specs.Prelude.{Bool, slice_index_or, Option, Some, None, Result, Ok, Err, Vec, IfOk, OnOk, IsTrue, option_map}
+use Rattle.std.proofs.Common.{◌≡◌, ℕ, ◌+◌, ◌<◌, ◌≤◌, true, false, suc, List, [], ◌∷◌, ◌++◌, length, map, take, drop, get_or, length-append, append_assoc, append-nil, le_refl, take_all, refl, sym, ap, ◌∙◌, subst, arith, drop_of_length-le, inl, inr}
+use Rattle.std.specs.Prelude.{Option, Some, None, Result, Ok, Err, Vec, IfOk, OnOk, option_map}
 use Rattle.std.specs.declared.alloc.Global.{Global}
 use Rattle.std.specs.Arc.{arc_value}
 use Rattle.std.proofs.Math.Logic.{∥∥₁_map}
 use Rattle.std.proofs.lemmas.Bool.{false≢true}
-use Rattle.std.proofs.lemmas.List.{drop_more, get_or-map}
+use Rattle.std.proofs.lemmas.List.{drop_more}
 use Rattle.std.specs.Io.KnownBytes.{Appends}
 use Rattle.std.proofs.KnownBytes.{Appends-trans}
 use Rattle.gufi_io.specs.Files.{Files, TakesFront}
@@ -23,10 +23,13 @@ use Rattle.gufi_phases.specs.Sessions.{all_made, IsSession, Answered, acts_of, q
 use Rattle.gufi_phases.specs.Replies.{AreAlike}
 use Rattle.gufi_phases.specs.Keeping.{Keeping, keeping_none, keeping_behind, hits_in}
 use Rattle.gufi_phases.specs.declared.answer.Row.{Row}
+use Rattle.gufi_phases.specs.declared.publish.PhaseFault.{PhaseFault}
+use Rattle.gufi_phases.specs.declared.publish.PhaseFault.TheVariants as phase_faults
 use Rattle.gufi_phases.specs.declared.session.End.{End}
 use Rattle.gufi_phases.specs.declared.session.End.TheVariants as ends
 use Rattle.gufi_phases.specs.Lanes.{AreReady, HasMeant, IsTold, KeepAs}
-use Rattle.gufi_phases.specs.Loads.{phases_over, stop_over, total_size, with_loaded, stop_behind, LoadsAs, FailsOnlyIf, EndsWith, TakesText, end_of, EndHasCause, Ran, IsCutOff, CutHasCause}
+use Rattle.gufi_phases.specs.Made.{FullOnlyIf}
+use Rattle.gufi_phases.specs.Loads.{phases_over, stop_over, total_size, with_loaded, stop_behind, LoadsAs, BreaksIf, BreaksAt, EndsWith, TakesText, end_of, end_of_phase, EndHasCause, Ran, IsCutOff, CutHasCause}
 use Rattle.gufi_phases.proofs.Keepings.{keeping_so_far, AreKept, kept_more, long_more, ready_next}
 use Rattle.gufi_phases.proofs.Sessions.{IsReached, none_done, answered, phase_more, this_phase, this_whole, this_list, each_of_all}
 
@@ -63,18 +66,37 @@ takes_fault out out' text (load.Stopped stop) taken = taken
 takes_fault out out' text load.ReadFault taken = taken
 takes_fault out out' text load.Memory taken = taken
 
+pub takes_phase_fault : (out out' : Option (List ℕ)) (text : List ℕ) (fault : PhaseFault) → Appends out out' text → TakesText (end_of_phase fault) out out' text
+takes_phase_fault out out' text phase_faults.Full taken = taken
+takes_phase_fault out out' text phase_faults.Memory taken = taken
+
+pub phase_fault_cause : {F K : Type 0} (shelf : ShelfOf F) (old new : F) (sink : SinkOf K) (out out' : K) (fault : PhaseFault) → EndHasCause shelf old new sink out out' (end_of_phase fault)
+phase_fault_cause shelf old new sink out out' phase_faults.Full = tt
+phase_fault_cause shelf old new sink out out' phase_faults.Memory = tt
+
+-- which of these ends is that no more may be published
+pub load_not_full : {X : Type 0} (fault : LoadFault) → end_of fault ≡ ends.Full → X
+load_not_full (load.Stopped stop) is = cc
+load_not_full load.ReadFault is = cc
+load_not_full load.Memory is = cc
+
+pub phase_full : {X : Type 0} (fault : PhaseFault) → FullOnlyIf X fault → end_of_phase fault ≡ ends.Full → X
+phase_full phase_faults.Full reached is = reached
+phase_full phase_faults.Memory reached is = cc
+
 -- ---- where a phase isn't written
 
 module _ {C Q : Type 0} (rows : List Row) (lines : List (Vec ℕ Global)) (acts : List (Act C Q)) (numbers numbers' : List ℕ) where
-  module _ {P T : Type 0} {outcome : C → Option T → Result T (List ℕ)} {line : C → ℕ → Result ℕ (List ℕ) → List ℕ} {reply : Q → ℕ → ℕ → Option T → List ℕ} (loaded : P → Files → Result (List (Act C Q)) Stop) (reads : P → Bool) (told : Option Files) (plan : List P) (before out out' : Option (List ℕ)) (text : List ℕ) where
+  module _ {P T : Type 0} {outcome : C → Option T → Result T (List ℕ)} {line : C → ℕ → Result ℕ (List ℕ) → List ℕ} {reply : Q → ℕ → ℕ → Option T → List ℕ} (loaded : P → Files → Result (List (Act C Q)) Stop) (told : Option Files) (plan : List P) (broke : ℕ → Type 0) (before out out' : Option (List ℕ)) (text : List ℕ) where
     -- the phases so far are answered, and with this one where it is told
     pub cut_ends : (end : End) → IsCutOff rows lines acts numbers numbers' out out' end → Appends before out text
         → ((files : Files) → told ≡ Some files → Answered outcome line reply (phases_over loaded files plan) false numbers text)
         → ((own : List ℕ) (hits : ℕ) (begin : List ℕ) → IsTold rows lines acts own hits begin → numbers' ≡ numbers ++ own → (files : Files) → told ≡ Some files → Answered outcome line reply (phases_over loaded files plan) false numbers' (text ++ begin))
-        → Ran outcome line reply loaded reads told plan end numbers' before out'
+        → Ran outcome line reply loaded told plan broke end numbers' before out'
     cut_ends ends.Done cut taken here behind = absurd cut
     cut_ends (ends.Stopped stop) cut taken here behind = absurd cut
     cut_ends ends.ReadFault cut taken here behind = absurd cut
+    cut_ends ends.Full cut taken here behind = absurd cut
     cut_ends ends.WriteFault cut taken here behind = record {
       text = text ++ cut.1;
       answer = λ files is. behind cut.3.0 cut.0 cut.1 cut.3.1 cut.3.2 files is;
@@ -96,8 +118,12 @@ module _ {C Q : Type 0} (rows : List Row) (lines : List (Vec ℕ Global)) (acts 
   cut_cause shelf old new sink first out out' ends.Done cut later cause = absurd cut
   cut_cause shelf old new sink first out out' (ends.Stopped stop) cut later cause = absurd cut
   cut_cause shelf old new sink first out out' ends.ReadFault cut later cause = absurd cut
+  cut_cause shelf old new sink first out out' ends.Full cut later cause = absurd cut
   cut_cause shelf old new sink first out out' ends.WriteFault cut later cause = omega arith
   cut_cause shelf old new sink first out out' ends.Memory cut later cause = tt
+
+  pub cut_full : {X : Type 0} (out out' : Option (List ℕ)) (end : End) → IsCutOff rows lines acts numbers numbers' out out' end → end ≡ ends.Full → X
+  cut_full out out' end cut is = absurd (subst (IsCutOff rows lines acts numbers numbers' out out') is cut)
 
 -- ---- what is meant by numbers
 
@@ -134,6 +160,34 @@ rest_here plan at p inside here = drop_more plan at p inside ∙ ap (λ x. x ∷
 pub total_here : {P : Type 0} (size : P → ℕ) (plan : List P) (at : ℕ) (p : P) → at < length plan → p ≡ get_or plan at p → total_size size (drop at plan) ≡ size p + total_size size (drop (at + 1) plan)
 unfolding total_size
 total_here size plan at p inside here = ap (λ l. total_size size l) (rest_here plan at p inside here)
+
+-- ---- the states of the shelf
+
+pub breaks_to : {X Y : Type 0} (fault : LoadFault) → (X → Y) → BreaksIf X fault → BreaksIf Y fault
+breaks_to (load.Stopped stop) f broke = tt
+breaks_to load.ReadFault f broke = f broke
+breaks_to load.Memory f broke = tt
+
+module _ {P F : Type 0} (reads breaks : P → F → F → Type 0) (plan : List P) where
+  -- where the rest of the plan breaks from this state on, so does the whole from the first on
+  abbrev pub Leads : ℕ → F → F → Type 0
+  Leads at first here = (count : ℕ) (new : F) → BreaksAt reads breaks (drop at plan) count here new → BreaksAt reads breaks plan (at + count) first new
+
+  pub leads_first : (first : F) → Leads 0 first first
+  leads_first first count new broke = let same : count ≡ 0 + count = omega arith in subst (λ n. BreaksAt reads breaks plan n first new) same broke
+
+  module _ (at : ℕ) (p : P) (inside : at < length plan) (is : p ≡ get_or plan at p) (first here : F) (leads : Leads at first here) where
+    pub leads_more : (mid : F) → reads p here mid → Leads (at + 1) first mid
+    unfolding BreaksAt
+    leads_more mid read count new broke =
+        let same : at + suc count ≡ at + 1 + count = omega arith in
+        subst (λ n. BreaksAt reads breaks plan n first new) same (leads (suc count) new (subst (λ l. BreaksAt reads breaks l (suc count) here new) (sym (rest_here plan at p inside is)) (mid, read, broke)))
+
+    pub leads_break : (new : F) → breaks p here new → BreaksAt reads breaks plan at first new
+    unfolding BreaksAt
+    leads_break new broke =
+        let same : at + 0 ≡ at = omega arith in
+        subst (λ n. BreaksAt reads breaks plan n first new) same (leads 0 new (subst (λ l. BreaksAt reads breaks l 0 here new) (sym (rest_here plan at p inside is)) broke))
 
 module _ {P C Q : Type 0} (loaded : P → Files → Result (List (Act C Q)) Stop) (files : Files) where
   phases_none : phases_over loaded files [] ≡ []
@@ -227,6 +281,12 @@ module _
   over_whole : ((n : ℕ) → HasMeant means (all_made outcome None (phases_over loaded files plan)) n) → phases_over loaded files (drop at plan) ≡ [] → Answered outcome line reply (phases_over loaded files plan) true numbers text
   over_whole has none = answered_whole outcome line reply (phases_over loaded files plan) is.done numbers text (is.parts ∙ ap (λ l. is.done ++ l) none) (over_session has)
 
+  -- where the next phase isn't carried out
+  pub phase_fault_ends : (broke : ℕ → Type 0) → ((n : ℕ) → HasMeant means (all_made outcome None (phases_over loaded files plan)) n) → (fault : PhaseFault)
+      → EndsWith outcome line reply (phases_over loaded files plan) (stop_over loaded files plan) broke (end_of_phase fault) numbers text
+  phase_fault_ends broke has phase_faults.Full = over_front has
+  phase_fault_ends broke has phase_faults.Memory = over_front has
+
   none_left : length plan ≤ at → phases_over loaded files (drop at plan) ≡ []
   none_left past = ap (λ l. phases_over loaded files l) (drop_of_length-le plan past) ∙ phases_none loaded files
 
@@ -241,22 +301,21 @@ module _
 
   module _ (p : P) (inside : at < length plan) (here : p ≡ get_or plan at p) where
     -- where reading the files of the next phase failed
-    over_read : (reads : P → Bool) → ((n : ℕ) → HasMeant means (all_made outcome None (phases_over loaded files plan)) n) → reads p ≡ true
-        → (part : Answered outcome line reply (phases_over loaded files plan) false numbers text) × IsTrue (slice_index_or (map reads plan) part.count false)
-    over_read reads has may =
+    over_read : (broke : ℕ → Type 0) → ((n : ℕ) → HasMeant means (all_made outcome None (phases_over loaded files plan)) n) → broke at
+        → (part : Answered outcome line reply (phases_over loaded files plan) false numbers text) × broke part.count
+    over_read broke has this =
         let part = answered_first outcome line reply (phases_over loaded files plan) is.done (phases_over loaded files (drop at plan)) numbers text is.parts (over_session has) in
-        let this : get_or (map reads plan) at false ≡ true = get_or-map reads plan at p false inside ∙ (ap reads (sym here) ∙ may) in
-        (part.0, subst (λ n. get_or (map reads plan) n false ≡ true) (sym (part.1 ∙ is.many)) this)
+        (part.0, subst broke (sym (part.1 ∙ is.many)) this)
 
     -- where the next phase isn't loaded
-    pub fault_ends : (reads : P → Bool) → ((n : ℕ) → HasMeant means (all_made outcome None (phases_over loaded files plan)) n) → (fault : LoadFault) → LoadsAs (loaded p files) (Err fault) → FailsOnlyIf (reads p) fault
-        → EndsWith outcome line reply (phases_over loaded files plan) (stop_over loaded files plan) (map reads plan) (end_of fault) numbers text
-    fault_ends reads has (load.Stopped stop) loads may = (
+    pub fault_ends : (broke : ℕ → Type 0) → ((n : ℕ) → HasMeant means (all_made outcome None (phases_over loaded files plan)) n) → (fault : LoadFault) → LoadsAs (loaded p files) (Err fault) → BreaksIf (broke at) fault
+        → EndsWith outcome line reply (phases_over loaded files plan) (stop_over loaded files plan) broke (end_of fault) numbers text
+    fault_ends broke has (load.Stopped stop) loads this = (
       is.stop ∙ (stop_here loaded files plan at p inside here ∙ ap (λ r. stop_behind r (stop_over loaded files (drop (at + 1) plan))) loads),
       over_whole has (phases_here loaded files plan at p inside here ∙ ap (λ r. with_loaded r (phases_over loaded files (drop (at + 1) plan))) loads),
     )
-    fault_ends reads has load.ReadFault loads may = over_read reads has may
-    fault_ends reads has load.Memory loads may = over_front has
+    fault_ends broke has load.ReadFault loads this = over_read broke has this
+    fault_ends broke has load.Memory loads this = over_front has
 
     module _ (acts : List (Act C Q)) (loads : loaded p files ≡ Ok acts) where
       -- its acts stand before those of the rest

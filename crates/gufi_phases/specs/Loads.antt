@@ -1,5 +1,5 @@
 -- What a plan comes to over the files of a shelf, and how a run of it ends.
-use Rattle.std.specs.Prelude.{◌≡◌, ℕ, ◌+◌, ⊤, List, [], ◌∷◌, ◌++◌, ◌⊎◌, map, slice_index_or, Bool, true, false, IsTrue, Option, Some, None, Result, Ok, Err, Vec}
+use Rattle.std.specs.Prelude.{◌≡◌, ℕ, zero, suc, ◌+◌, ⊤, List, [], ◌∷◌, ◌++◌, ◌⊎◌, true, false, Option, Some, None, Result, Ok, Err, Vec}
 use Rattle.std.specs.declared.alloc.Global.{Global}
 use Rattle.std.specs.Io.KnownBytes.{Appends}
 use Rattle.gufi_io.specs.Causes.{Rose}
@@ -14,6 +14,8 @@ use Rattle.gufi_phases.specs.declared.load.Stop.{Stop}
 use Rattle.gufi_phases.specs.declared.load.Stop.TheVariants as stops
 use Rattle.gufi_phases.specs.declared.load.LoadFault.{LoadFault}
 use Rattle.gufi_phases.specs.declared.load.LoadFault.TheVariants as load
+use Rattle.gufi_phases.specs.declared.publish.PhaseFault.{PhaseFault}
+use Rattle.gufi_phases.specs.declared.publish.PhaseFault.TheVariants as phase_faults
 use Rattle.gufi_phases.specs.declared.session.End.{End}
 use Rattle.gufi_phases.specs.declared.session.End.TheVariants as ends
 
@@ -43,7 +45,7 @@ module _ {P C Q : Type 0} (loaded : P → Files → Result (List (Act C Q)) Stop
   stop_over [] = None
   stop_over (p ∷ plan) = stop_behind (loaded p files) (stop_over plan)
 
--- how many acts there are
+-- how many acts there are, or how many of one kind
 unfoldable pub total_size : {P : Type 0} → (P → ℕ) → List P → ℕ
 total_size size [] = 0
 total_size size (p ∷ plan) = size p + total_size size plan
@@ -65,12 +67,22 @@ module _ {F : Type 0} (shelf : ShelfOf F) (old new : F) where
   EndHasCause sink out out' (ends.Stopped stop) = StopHasCause stop
   EndHasCause sink out out' ends.ReadFault = Rose (shelf.faults old) (shelf.faults new)
   EndHasCause sink out out' ends.WriteFault = Rose (sink.faults out) (sink.faults out')
+  EndHasCause sink out out' ends.Full = ⊤
   EndHasCause sink out out' ends.Memory = ⊤
 
--- reading fails only where there may be a file to read
-abbrev pub FailsOnlyIf : Bool → LoadFault → Type 0
-FailsOnlyIf reads load.ReadFault = IsTrue reads
-FailsOnlyIf reads fault = ⊤
+-- ---- the states of a shelf: `reads` says whether reading a phase's files leads from one to another, `breaks` whether it fails there
+
+-- where reading failed, so it did
+abbrev pub BreaksIf : Type 0 → LoadFault → Type 0
+BreaksIf broke load.ReadFault = broke
+BreaksIf broke fault = ⊤
+
+module _ {P F : Type 0} (reads breaks : P → F → F → Type 0) where
+  -- From the first state on the files of so many phases were read, and those of the next one failed to be, which led to the last.
+  unfoldable pub BreaksAt : List P → ℕ → F → F → Type 0
+  BreaksAt [] count old new = ⊥
+  BreaksAt (p ∷ plan) zero old new = breaks p old new
+  BreaksAt (p ∷ plan) (suc count) old new = (mid : F) × reads p old mid × BreaksAt plan count mid new
 
 -- where a phase isn't written, a write fault comes only where its count rose
 abbrev pub CutHasCause : ℕ → ℕ → End → Type 0
@@ -82,6 +94,11 @@ abbrev pub end_of : LoadFault → End
 end_of (load.Stopped stop) = ends.Stopped stop
 end_of load.ReadFault = ends.ReadFault
 end_of load.Memory = ends.Memory
+
+-- how one that isn't carried out does
+abbrev pub end_of_phase : PhaseFault → End
+end_of_phase phase_faults.Full = ends.Full
+end_of_phase phase_faults.Memory = ends.Memory
 
 -- ---- what was written
 
@@ -106,17 +123,17 @@ module _ {C Q : Type 0} (rows : List Row) (lines : List (Vec ℕ Global)) (acts 
   IsCutOff end = ⊥
 
 module _ {T C Q : Type 0} (outcome : C → Option T → Result T (List ℕ)) (line : C → ℕ → Result ℕ (List ℕ) → List ℕ) (reply : Q → ℕ → ℕ → Option T → List ℕ) where
-  -- Where nothing failed, all phases are answered, up to that at which the files end the session. Where reading failed, those before
-  -- one that may read a file are; else some of the first. `reads` says of each phase of the plan whether it may.
-  abbrev pub EndsWith : List (List (Act C Q)) → Option Stop → List Bool → End → List ℕ → List ℕ → Type 0
-  EndsWith phases stop reads ends.Done numbers text = (stop ≡ None) × Answered outcome line reply phases true numbers text
-  EndsWith phases stop reads (ends.Stopped why) numbers text = (stop ≡ Some why) × Answered outcome line reply phases true numbers text
-  EndsWith phases stop reads ends.ReadFault numbers text = (part : Answered outcome line reply phases false numbers text) × IsTrue (slice_index_or reads part.count false)
-  EndsWith phases stop reads end numbers text = Answered outcome line reply phases false numbers text
+  -- Where nothing failed, all phases are answered, up to that at which the files end the session. Where reading failed, exactly those
+  -- before the one whose files it failed at; else some of the first. `broke` says whether it failed behind so many phases.
+  abbrev pub EndsWith : List (List (Act C Q)) → Option Stop → (ℕ → Type 0) → End → List ℕ → List ℕ → Type 0
+  EndsWith phases stop broke ends.Done numbers text = (stop ≡ None) × Answered outcome line reply phases true numbers text
+  EndsWith phases stop broke (ends.Stopped why) numbers text = (stop ≡ Some why) × Answered outcome line reply phases true numbers text
+  EndsWith phases stop broke ends.ReadFault numbers text = (part : Answered outcome line reply phases false numbers text) × broke part.count
+  EndsWith phases stop broke end numbers text = Answered outcome line reply phases false numbers text
 
-module _ {P T C Q : Type 0} (outcome : C → Option T → Result T (List ℕ)) (line : C → ℕ → Result ℕ (List ℕ) → List ℕ) (reply : Q → ℕ → ℕ → Option T → List ℕ) (loaded : P → Files → Result (List (Act C Q)) Stop) (reads : P → Bool) where
+module _ {P T C Q : Type 0} (outcome : C → Option T → Result T (List ℕ)) (line : C → ℕ → Result ℕ (List ℕ) → List ℕ) (reply : Q → ℕ → ℕ → Option T → List ℕ) (loaded : P → Files → Result (List (Act C Q)) Stop) where
   -- A run over what a shelf tells: the output took its text, and where the files are told it is that of the phases over them.
-  pub record Ran (told : Option Files) (plan : List P) (end : End) (numbers : List ℕ) (out out' : Option (List ℕ)) : Type 0 where
+  pub record Ran (told : Option Files) (plan : List P) (broke : ℕ → Type 0) (end : End) (numbers : List ℕ) (out out' : Option (List ℕ)) : Type 0 where
     pub text : List ℕ
-    pub answer : (files : Files) → told ≡ Some files → EndsWith outcome line reply (phases_over loaded files plan) (stop_over loaded files plan) (map reads plan) end numbers text
+    pub answer : (files : Files) → told ≡ Some files → EndsWith outcome line reply (phases_over loaded files plan) (stop_over loaded files plan) broke end numbers text
     pub taken : TakesText end out out' text

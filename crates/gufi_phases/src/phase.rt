@@ -1,8 +1,10 @@
 //! Phases: the publishing thread beside the lanes, joined, and what is then written.
-ghost use Rattle.std.specs.Prelude.{◌≡◌, ℕ, ◌+◌, ◌<◌, ◌≤◌, ◌-◌, ◌^◌, List, ◌++◌, map, length, All, IfOk, OnOk, IsTrue, option_map};
+ghost use Rattle.std.specs.Prelude.{◌≡◌, ℕ, ◌+◌, ◌<◌, ◌≤◌, ◌-◌, ◌^◌, List, ◌++◌, map, length, All, IfErr, IfOk, OnOk, IsTrue, option_map};
 ghost use Rattle.std.specs.Arc.{arc_value};
+ghost use Rattle.gufi_base.specs.Limits.{max_publishing};
 ghost use Rattle.gufi_hub.specs.Hub.{IsReady, published};
-ghost use Rattle.gufi_phases.specs.Phases.{EachMeans, NumbersFit, acts_text, command_lines, lanes as lanes_asked, last_of_acts, made};
+ghost use Rattle.gufi_phases.specs.Made.{FullOnlyIf};
+ghost use Rattle.gufi_phases.specs.Phases.{EachMeans, NumbersFit, acts_text, command_count, command_lines, lanes as lanes_asked, last_of_acts, made};
 ghost use Rattle.gufi_phases.specs.Keeping.{Keeping, hits_in, keeping_behind};
 ghost use Rattle.gufi_phases.specs.Lanes.{AreReady, HasMeant, IsServed, IsTold, KeepAs};
 ghost use Rattle.gufi_phases.specs.Replies.{BodiesBy};
@@ -11,7 +13,7 @@ use crate::act::{Act, Command, Wanted};
 use crate::answer::{Row, Served};
 use crate::keeping::Lane;
 use crate::lane::serve;
-use crate::publish::{Done, publish_all};
+use crate::publish::{Done, PhaseFault, publish_all};
 use crate::replies::{gather, in_order};
 use crate::visitors::{Jobs, jobs_for, visitors_for};
 use gufi_base::Memory;
@@ -120,7 +122,7 @@ fn finish<T: Drop, M: Meaning<T>, C: Drop, Q: Wanted<T> + Drop>(
     all: Vec<Result<Served, Memory>>,
     idle: Vec<Lane>,
     done: Done<T>,
-) -> Result<Phase<T>, Memory>
+) -> Result<Phase<T>, PhaseFault>
     requires idle { All (λ lane. count ≤ lane.number - 1) idle.items }
     ensures numbers { (before : ℕ → Keeping) (i low : ℕ) → low ≤ number → All (λ r. IfOk r (IsServed M.means Q.reply Q.head Q.key Q.body before i low acts.now)) all.items
         → IfOk result (λ p. (numbers : List ℕ) (hits : ℕ) (text : List ℕ) → IsTold p.rows.items p.lines.items acts.now numbers hits text → NumbersFit low number (lanes_asked acts.now) numbers) }
@@ -132,6 +134,7 @@ fn finish<T: Drop, M: Meaning<T>, C: Drop, Q: Wanted<T> + Drop>(
         → IfOk result (λ p. (numbers : List ℕ) (hits : ℕ) (text : List ℕ) → IsTold p.rows.items p.lines.items acts.now numbers hits text → (every : List T) → ((n : ℕ) → n ≤ number → HasMeant M.means every n)
         → (hits ≡ hits_in Q.key Q.body every before numbers acts.now) × KeepAs (keeping_behind Q.key Q.body every before numbers acts.now) (map (λ row. row.lane) p.rows.items ++ p.idle.items)) }
     ensures last { IfOk result (λ p. p.last ≡ done.last) }
+    ensures memory { IfErr result (λ fault. fault ≡ PhaseFault.Memory) }
 {
     let rows = gather::<T, M, C, Q>(alloc, all, number)?;
     let rows = in_order::<T, M, C, Q>(alloc, rows, count)?;
@@ -166,7 +169,7 @@ fn side_by_side<
     ask: u32,
 ) -> (
     Result<Vec<Result<Served, Memory>>, AllocError>,
-    (Publisher<T, M, W>, Result<Done<T>, Memory>),
+    (Publisher<T, M, W>, Result<Done<T>, PhaseFault>),
 )
     requires replies { BodiesBy A.Fn Q.body reply.now }
     requires ready { IsReady publisher }
@@ -180,6 +183,7 @@ fn side_by_side<
     ensures count { OnOk result.1.1 (published result.1.0 ≡ published publisher + length (made C.outcome (option_map arc_value last) acts.now)) }
     ensures last { IfOk result.1.1 (λ done. option_map arc_value done.last ≡ last_of_acts C.outcome (option_map arc_value last) acts.now) }
     ensures lines { IfOk result.1.1 (λ done. map (λ l. l.items) done.lines.items ≡ command_lines C.outcome C.line command (published publisher) (option_map arc_value last) acts.now) }
+    ensures full { IfErr result.1.1 (FullOnlyIf (max_publishing < published publisher + command_count acts.now)) }
 {
     join(
         rt,
@@ -188,13 +192,14 @@ fn side_by_side<
             ensures { (low : ℕ) (before : ℕ → Keeping) → All (λ job. (job.0.number ≡ low) × KeepAs before job.1.items) jobs.items
                 → IfOk result (λ all. All (λ r. IfOk r (IsServed M.means Q.reply Q.head Q.key Q.body before ask low acts.entry.now)) all.items) }
         { serve_all(rt, alloc, gate, reply, jobs, acts, ask) },
-        move || -> (Publisher<T, M, W>, Result<Done<T>, Memory>)
+        move || -> (Publisher<T, M, W>, Result<Done<T>, PhaseFault>)
             requires { IsReady publisher × (command + length acts.now < 2 ^ 32) × EachMeans M.means (published publisher) (made C.outcome (option_map arc_value last) acts.now) }
             ensures ready { IsReady result.0 }
             ensures grows { published publisher ≤ published result.0 }
             ensures count { OnOk result.1 (published result.0 ≡ published publisher + length (made C.outcome (option_map arc_value last) acts.entry.now)) }
             ensures last { IfOk result.1 (λ done. option_map arc_value done.last ≡ last_of_acts C.outcome (option_map arc_value last) acts.entry.now) }
             ensures lines { IfOk result.1 (λ done. map (λ l. l.items) done.lines.items ≡ command_lines C.outcome C.line command (published publisher) (option_map arc_value last) acts.entry.now) }
+            ensures full { IfErr result.1 (FullOnlyIf (max_publishing < published publisher + command_count acts.entry.now)) }
         { publish_all(rt, alloc, gate, publisher, last, acts, command) },
     )
 }
@@ -225,7 +230,7 @@ pub(crate) fn run_phase<
     acts: &[Act<C, Q>],
     command: u32,
     ask: u32,
-) -> (Publisher<T, M, W>, Result<Phase<T>, Memory>)
+) -> (Publisher<T, M, W>, Result<Phase<T>, PhaseFault>)
     requires replies { BodiesBy A.Fn Q.body reply.now }
     requires ready { IsReady publisher }
     requires room { (command + length acts.now < 2 ^ 32) × (ask + length acts.now < 2 ^ 32) }
@@ -242,28 +247,30 @@ pub(crate) fn run_phase<
     ensures kept { (before : ℕ → Keeping) → KeepAs before lanes.items
         → IfOk result.1 (λ p. (numbers : List ℕ) (hits : ℕ) (text : List ℕ) → IsTold p.rows.items p.lines.items acts.now numbers hits text → (every : List T) → ((n : ℕ) → n ≤ published result.0 → HasMeant M.means every n)
         → (hits ≡ hits_in Q.key Q.body every before numbers acts.now) × KeepAs (keeping_behind Q.key Q.body every before numbers acts.now) (map (λ row. row.lane) p.rows.items ++ p.idle.items)) }
+    ensures full { IfErr result.1 (FullOnlyIf (max_publishing < published publisher + command_count acts.now)) }
 {
     let mut publisher = publisher;
     if !are_ascending(&lanes) {
-        return (publisher, Err(Memory));
+        return (publisher, Err(PhaseFault::Memory));
     }
     let count = lane_count(acts);
     let visitors = match visitors_for(alloc, &mut publisher, count) {
         Ok(visitors) => visitors,
-        Err(fault) => return (publisher, Err(fault)),
+        Err(_) => return (publisher, Err(PhaseFault::Memory)),
     };
     let Jobs { jobs, idle } = match jobs_for(alloc, visitors, lanes, count) {
         Ok(jobs) => jobs,
-        Err(fault) => return (publisher, Err(fault)),
+        Err(_) => return (publisher, Err(PhaseFault::Memory)),
     };
     let (served, (publisher, done)) = side_by_side(
         rt, alloc, gate, reply, publisher, jobs, last, acts, command, ask,
     );
     let Ok(served) = served else {
-        return (publisher, Err(Memory));
+        return (publisher, Err(PhaseFault::Memory));
     };
-    let Ok(done) = done else {
-        return (publisher, Err(Memory));
+    let done = match done {
+        Ok(done) => done,
+        Err(fault) => return (publisher, Err(fault)),
     };
     let number = publisher.number();
     let phase = finish::<T, M, C, Q>(alloc, acts, number, count, served, idle, done);

@@ -1,15 +1,55 @@
 //! What the publishing thread of a phase does.
-ghost use Rattle.std.specs.Prelude.{◌≡◌, ◌+◌, ◌<◌, ◌≤◌, ◌^◌, List, map, length, IfOk, OnOk, option_map};
+ghost use Rattle.std.specs.Prelude.{◌≡◌, ◌+◌, ◌<◌, ◌≤◌, ◌^◌, List, map, length, IfErr, IfOk, OnOk, option_map};
 ghost use Rattle.std.specs.Arc.{arc_value};
+ghost use Rattle.gufi_base.specs.Limits.{max_publishing};
 ghost use Rattle.gufi_hub.specs.Hub.{IsReady, published};
-ghost use Rattle.gufi_phases.specs.Phases.{EachMeans, command_lines, commands_in, last_after, last_behind, last_of_acts, line_of, made, news, news_of, numbered};
+ghost use Rattle.gufi_phases.specs.Made.{FullOnlyIf};
+ghost use Rattle.gufi_phases.specs.Phases.{EachMeans, command_count, command_lines, commands_in, last_after, last_behind, last_of_acts, line_of, made, news, news_of, numbered};
 
 use crate::act::{Act, Command, Made};
 use gufi_base::Memory;
-use gufi_hub::{Meaning, Publisher};
+use gufi_hub::{Meaning, PublishFault, Publisher};
 use gufi_io::{Gate, GateKind};
-use std::alloc::Global;
+use std::alloc::{AllocError, AllocFailed, Global};
 use std::sync::{Arc, Wait};
+
+/// Why a phase isn't carried out.
+#[derive(Drop)]
+pub(crate) enum PhaseFault {
+    /// There is one more item than may be published.
+    Full,
+    Memory,
+}
+
+impl From<Memory> for PhaseFault {
+    ghost use Rattle.gufi_phases.specs.declared.publish.PhaseFault.TheVariants.{Memory};
+
+    ghost from_gives = { λ _ fault. fault ≡ Memory };
+
+    fn from(_: Memory) -> PhaseFault {
+        PhaseFault::Memory
+    }
+}
+
+impl From<AllocError> for PhaseFault {
+    ghost use Rattle.gufi_phases.specs.declared.publish.PhaseFault.TheVariants.{Memory};
+
+    ghost from_gives = { λ _ fault. fault ≡ Memory };
+
+    fn from(_: AllocError) -> PhaseFault {
+        PhaseFault::Memory
+    }
+}
+
+impl<T: Drop> From<AllocFailed<T>> for PhaseFault {
+    ghost use Rattle.gufi_phases.specs.declared.publish.PhaseFault.TheVariants.{Memory};
+
+    ghost from_gives = { λ _ fault. fault ≡ Memory };
+
+    fn from(_: AllocFailed<T>) -> PhaseFault {
+        PhaseFault::Memory
+    }
+}
 
 /// Carries out one command: its line. The last publication is then its own, where it has one.
 fn publish_one<T: Drop, M: Meaning<T>, C: Command<T>, R: Wait, W: Wait + Drop>(
@@ -19,7 +59,7 @@ fn publish_one<T: Drop, M: Meaning<T>, C: Command<T>, R: Wait, W: Wait + Drop>(
     last: &mut Option<Arc<T>>,
     command: &C,
     number: u32,
-) -> Result<Vec<u8>, Memory>
+) -> Result<Vec<u8>, PhaseFault>
     requires ready { IsReady publisher.old }
     requires meant { EachMeans M.means (published publisher.old) (news (C.outcome command.now (option_map arc_value last.old))) }
     ensures ready { IsReady publisher.new }
@@ -27,18 +67,20 @@ fn publish_one<T: Drop, M: Meaning<T>, C: Command<T>, R: Wait, W: Wait + Drop>(
     ensures count { OnOk result (published publisher.new ≡ published publisher.old + length (news (C.outcome command.now (option_map arc_value last.old)))) }
     ensures last { OnOk result (option_map arc_value last.new ≡ last_behind (option_map arc_value last.old) (C.outcome command.now (option_map arc_value last.old))) }
     ensures line { IfOk result (λ text. text.items ≡ C.line command.now number (numbered (published publisher.old) (C.outcome command.now (option_map arc_value last.old)))) }
+    ensures full { IfErr result (FullOnlyIf (max_publishing ≤ published publisher.old)) }
 {
     match command.carry_out(alloc, last)? {
-        Made::Refused { text } => command.refused_line(alloc, number, &text),
+        Made::Refused { text } => Ok(command.refused_line(alloc, number, &text)?),
         Made::Added { item } => {
             let item = Arc::new(alloc, item)?;
             let kept = Arc::try_clone(&item)?;
             match publisher.publish(rt, item) {
                 Ok(published) => {
                     *last = Some(kept);
-                    command.added_line(alloc, number, published)
+                    Ok(command.added_line(alloc, number, published)?)
                 }
-                Err(_) => Err(Memory),
+                Err(PublishFault::Full { .. }) => Err(PhaseFault::Full),
+                Err(PublishFault::Memory { .. }) => Err(PhaseFault::Memory),
             }
         }
     }
@@ -61,7 +103,7 @@ fn publish_act<
     last: &mut Option<Arc<T>>,
     act: &Act<C, Q>,
     number: u32,
-) -> Result<Vec<u8>, Memory>
+) -> Result<Vec<u8>, PhaseFault>
     requires ready { IsReady publisher.old }
     requires meant { EachMeans M.means (published publisher.old) (news_of C.outcome (option_map arc_value last.old) act.now) }
     ensures ready { IsReady publisher.new }
@@ -69,6 +111,7 @@ fn publish_act<
     ensures count { OnOk result (published publisher.new ≡ published publisher.old + length (news_of C.outcome (option_map arc_value last.old) act.now)) }
     ensures last { OnOk result (option_map arc_value last.new ≡ last_after C.outcome (option_map arc_value last.old) act.now) }
     ensures line { IfOk result (λ text. text.items ≡ line_of C.outcome C.line number (published publisher.old) (option_map arc_value last.old) act.now) }
+    ensures full { IfErr result (FullOnlyIf (max_publishing < published publisher.old + commands_in act.now)) }
 {
     match act {
         Act::Publish { command } => {
@@ -106,7 +149,7 @@ fn publish_acts<
     last: &mut Option<Arc<T>>,
     acts: &[Act<C, Q>],
     first: u32,
-) -> Result<Vec<Vec<u8>>, Memory>
+) -> Result<Vec<Vec<u8>>, PhaseFault>
     requires ready { IsReady publisher.old }
     requires room { first + length acts.now < 2 ^ 32 }
     requires meant { EachMeans M.means (published publisher.old) (made C.outcome (option_map arc_value last.old) acts.now) }
@@ -115,6 +158,7 @@ fn publish_acts<
     ensures count { OnOk result (published publisher.new ≡ published publisher.old + length (made C.outcome (option_map arc_value last.old) acts.now)) }
     ensures last { OnOk result (option_map arc_value last.new ≡ last_of_acts C.outcome (option_map arc_value last.old) acts.now) }
     ensures lines { IfOk result (λ lines. map (λ l. l.items) lines.items ≡ command_lines C.outcome C.line first (published publisher.old) (option_map arc_value last.old) acts.now) }
+    ensures full { IfErr result (FullOnlyIf (max_publishing < published publisher.old + command_count acts.now)) }
 {
     let mut lines = Vec::with_capacity(alloc, acts.len())?;
     let mut number = first;
@@ -150,7 +194,7 @@ pub(crate) fn publish_all<
     last: Option<Arc<T>>,
     acts: &[Act<C, Q>],
     first: u32,
-) -> (Publisher<T, M, W>, Result<Done<T>, Memory>)
+) -> (Publisher<T, M, W>, Result<Done<T>, PhaseFault>)
     requires ready { IsReady publisher }
     requires room { first + length acts.now < 2 ^ 32 }
     requires meant { EachMeans M.means (published publisher) (made C.outcome (option_map arc_value last) acts.now) }
@@ -159,6 +203,7 @@ pub(crate) fn publish_all<
     ensures count { OnOk result.1 (published result.0 ≡ published publisher + length (made C.outcome (option_map arc_value last) acts.now)) }
     ensures last { IfOk result.1 (λ done. option_map arc_value done.last ≡ last_of_acts C.outcome (option_map arc_value last) acts.now) }
     ensures lines { IfOk result.1 (λ done. map (λ l. l.items) done.lines.items ≡ command_lines C.outcome C.line first (published publisher) (option_map arc_value last) acts.now) }
+    ensures full { IfErr result.1 (FullOnlyIf (max_publishing < published publisher + command_count acts.now)) }
 {
     let (mut publisher, mut last) = (publisher, last);
     match publish_acts(rt, alloc, gate, &mut publisher, &mut last, acts, first) {

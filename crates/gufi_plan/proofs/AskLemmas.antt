@@ -26,7 +26,7 @@ use Rattle.gufi_plan.proofs.PlanLemmas.{mapped_ok}
 use Rattle.gufi_plan.specs.Asks.{search_in, searches_in, searches_of, AsksTell, AreShort, HasShortWords}
 
 -- a step that goes on, and what it goes on with
-went_on : {A B E : Type 0} (given : Result A E) (next : A → Result B E) (y : B) → (given >>= next) ≡ Ok y → (x : A) × (given ≡ Ok x) × (next x ≡ Ok y)
+pub went_on : {A B E : Type 0} (given : Result A E) (next : A → Result B E) (y : B) → (given >>= next) ≡ Ok y → (x : A) × (given ≡ Ok x) × (next x ≡ Ok y)
 went_on (Ok x) next y e = (x, refl, e)
 went_on (Err fault) next y e = absurd cc
 

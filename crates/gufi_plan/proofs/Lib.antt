@@ -1,4 +1,5 @@
 pub mod PlanLemmas
 pub mod AskLemmas
+pub mod BoundLemmas
 pub mod Sharing
 mod Worked

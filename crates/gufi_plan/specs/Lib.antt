@@ -1,5 +1,6 @@
 pub mod Plan
 pub mod Asks
+pub mod Bounds
 pub mod Faults
 pub mod Settings
 pub mod Phases

@@ -3,6 +3,7 @@ ghost use Rattle.std.specs.Prelude.{◌≡◌, ◌≤◌};
 ghost use Rattle.gufi_base.specs.Limits.{max_script_lines};
 ghost use Rattle.gufi_plan.specs.Plan.{act_count};
 ghost use Rattle.gufi_plan.specs.Asks.{AsksTell};
+ghost use Rattle.gufi_plan.specs.Bounds.{IsBounded};
 
 use crate::search::SharedSearch;
 use gufi_base::{Items, Path, Text};
@@ -21,8 +22,8 @@ pub enum PlannedAct {
     Ask { lane: u32, search: SharedSearch },
 }
 
-/// The phases of a script. Together they have at most as many acts as a script may have lines, and asks of the same form and words
-/// search for the same.
+/// The phases of a script. Together they have at most as many acts as a script may have lines, and at most 1,000 of these publish;
+/// lanes are 1 to 16, and asks of the same form and words search for the same.
 #[derive(Drop)]
 pub struct SessionPlan {
     phases: Vec<Items<PlannedAct>>,
@@ -35,6 +36,7 @@ impl Model for SessionPlan {
     ghost use Rattle.gufi_formula.specs.FormulaCodes.{formula_coded};
     ghost use Rattle.gufi_plan.specs.Plan.{Plan, act_count};
     ghost use Rattle.gufi_plan.specs.Asks.{AsksTell};
+    ghost use Rattle.gufi_plan.specs.Bounds.{IsBounded};
 
     ghost Value = { Plan };
 
@@ -42,13 +44,14 @@ impl Model for SessionPlan {
 
     ghost view = { λ p. p.phases.items };
 
-    ghost invariant = { λ p. (act_count p.phases.items ≤ max_script_lines) × AsksTell p.phases.items };
+    ghost invariant = { λ p. (act_count p.phases.items ≤ max_script_lines) × AsksTell p.phases.items × IsBounded p.phases.items };
 }
 
 impl SessionPlan {
     pub(crate) fn of(phases: Vec<Items<PlannedAct>>) -> SessionPlan
         requires few { act_count phases.items ≤ max_script_lines }
         requires told { AsksTell phases.items }
+        requires bounded { IsBounded phases.items }
         ensures { result ≡ phases.items }
     {
         SessionPlan { phases }
@@ -59,6 +62,7 @@ impl SessionPlan {
         ensures phases { result.now ≡ self.now }
         ensures few { act_count self.now ≤ max_script_lines }
         ensures told { AsksTell self.now }
+        ensures bounded { IsBounded self.now }
     {
         self.phases.as_slice()
     }

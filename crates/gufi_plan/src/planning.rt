@@ -7,6 +7,7 @@ ghost use Rattle.gufi_plan.specs.Plan.{Plan, act_count, with_act, plan};
 ghost use Rattle.gufi_plan.specs.Settings.{setting_of};
 ghost use Rattle.gufi_plan.specs.Phases.{behind};
 ghost use Rattle.gufi_plan.specs.Asks.{AsksTell};
+ghost use Rattle.gufi_plan.specs.Bounds.{IsBounded};
 
 use crate::act::{PlannedAct, SessionPlan};
 use crate::fault::error_at;
@@ -44,6 +45,7 @@ impl Phases {
     fn ended(self) -> Result<SessionPlan, AllocError>
         requires few { act_count self.done.items + length self.current.items ≤ max_script_lines }
         requires told { AsksTell (behind self.done.items self.current.items ([] ∷ [])) }
+        requires bounded { IsBounded (behind self.done.items self.current.items ([] ∷ [])) }
         ensures { IfOk result (λ phases. phases ≡ behind self.done.items self.current.items ([] ∷ [])) }
     {
         let mut phases = self.done;

@@ -34,7 +34,7 @@ fn words_of(alloc: Global, line: &str) -> Result<Vec<Bytes>, AllocError> {
     Ok(words)
 }
 
-fn users(alloc: Global) -> Result<Users, Fail> {
+pub(crate) fn users(alloc: Global) -> Result<Users, Fail> {
     let passwd = read_passwd(alloc, b"ana:x:1001:1001:::\n")?;
     let groups = read_group(alloc, b"lab:x:500:ana\n")?;
     Ok(Users::of(alloc, passwd, groups)?)

@@ -23,6 +23,7 @@ mod term;
 mod token;
 mod word;
 
+pub use column::Column;
 pub use fault::{SelectError, SelectKind};
 pub use laws::{conditions_read_back, hints_tell_conditions};
 pub use projection::{SelectLine, select_text};

@@ -49,6 +49,13 @@ impl Select {
         }
     }
 
+    /// What is printed of a row, in order.
+    pub fn columns(&self) -> &[Column]
+        ensures { result.now ≡ self.now.columns }
+    {
+        self.columns.as_slice()
+    }
+
     /// The question that it is to rows.
     pub fn question(&self) -> SelectQuestion<'_>
         ensures { result ≡ self.now }

@@ -1,21 +1,23 @@
 -- What comes of reading the files of a phase in order, where the shelf tells them.
-use Rattle.std.proofs.Common.{◌≡◌, ℕ, ◌+◌, ◌<◌, ◌≤◌, Bool, true, List, [], ◌∷◌, ◌++◌, length, take, drop, map, get_or, length-append, refl, sym, ap, ◌∙◌, subst, arith}
-use Rattle.std.specs.Prelude.{Option, Some, None, is_some, Result, Ok, Err}
+use Rattle.std.proofs.Common.{◌≡◌, ℕ, ◌+◌, ◌<◌, ◌≤◌, Bool, List, [], ◌∷◌, ◌++◌, length, take, drop, map, get_or, length-append, refl, sym, ap, ◌∙◌, subst, inl, inr, arith}
+use Rattle.std.specs.Prelude.{Option, Some, None, Result, Ok, Err}
 use Rattle.std.proofs.lemmas.Bool.{le-ltb, lt-ltb}
-use Rattle.std.proofs.lemmas.List.Folds.{list_any_at}
 use Rattle.std.proofs.lemmas.List.{drop_more, take_more, drop_all, take_all, map-append}
 use Rattle.gufi_base.specs.Limits.{max_trace}
 use Rattle.gufi_base.specs.Basics.{◌>>=◌, ◌>>◌, refuse}
 use Rattle.gufi_io.specs.Files.{Files, Holds, Lacks, HoldsFront}
+use Rattle.gufi_io.specs.declared.shelf.Shelf.{Ghosts as ShelfOf}
 use Rattle.gufi_phases.specs.declared.load.Stop.{Stop}
 use Rattle.gufi_phases.specs.declared.load.Stop.TheVariants.{NoFile, TooLong}
 use Rattle.gufi_phases.specs.declared.load.LoadFault.{LoadFault}
 use Rattle.gufi_phases.specs.declared.load.LoadFault.TheVariants.{Stopped, ReadFault, Memory}
-use Rattle.gufi_phases.specs.Loads.{LoadsAs, FailsOnlyIf}
+use Rattle.gufi_phases.specs.Phases.{commands_in, command_count}
+use Rattle.gufi_phases.specs.Loads.{LoadsAs}
 use Rattle.gufi_plan.specs.declared.act.PlannedAct.{PlannedAct}
-use Rattle.gufi_session.specs.Run.{with_file, after_act, named_file, reads_files, phase_bytes}
+use Rattle.gufi_plan.specs.Bounds.{publishing_in, publishing_among}
+use Rattle.gufi_session.specs.Run.{with_file, after_act, named_file, phase_bytes}
 use Rattle.gufi_session.specs.Loaded.{LoadedAct, loaded, loaded_phase, load_phase}
-use Rattle.gufi_session.specs.Loading.{IsStopOf}
+use Rattle.gufi_session.specs.Loading.{IsStopOf, ActReads, ActBreaks, ActsRead, ActsBreak, PhaseReads, PhaseBreaks}
 
 -- ---- one file
 
@@ -92,14 +94,56 @@ one_stops files phase at before act acts fault inside here is stops =
     subst (λ r. LoadsAs (r >>= all) (Err fault)) (sym whole)
     (stop_loads ((after_act files before (named_file act) >>= later) >>= all) fault (stops_on (after_act files before (named_file act) >>= later) all fault (stops_on (after_act files before (named_file act)) later fault stops)))
 
--- ---- where reading fails
+-- ---- the states of the shelf
 
-pub may_fail : (fault : LoadFault) → FailsOnlyIf true fault
-may_fail (Stopped stop) = tt
-may_fail ReadFault = refl
-may_fail Memory = tt
+-- the act at a place is the first of the rest
+acts_here : (phase : List PlannedAct) (at : ℕ) (act : PlannedAct) → at < length phase → act ≡ get_or phase at act → drop at phase ≡ act ∷ drop (at + 1) phase
+acts_here phase at act inside here = drop_more phase at act inside ∙ ap (λ x. x ∷ drop (at + 1) phase) (sym here)
 
-pub one_fails : (phase : List PlannedAct) (at : ℕ) (act : PlannedAct) (fault : LoadFault) → at < length phase → act ≡ get_or phase at act → FailsOnlyIf (is_some (named_file act)) fault → FailsOnlyIf (reads_files phase) fault
-one_fails phase at act (Stopped stop) inside here may = tt
-one_fails phase at act ReadFault inside here may = list_any_at (λ a. is_some (named_file a)) phase at act inside (ap (λ a. is_some (named_file a)) (sym here) ∙ may)
-one_fails phase at act Memory inside here may = tt
+commands_append : (acts : List LoadedAct) (step : LoadedAct) → command_count (acts ++ step ∷ []) ≡ command_count acts + commands_in step
+unfolding command_count
+commands_append [] step = omega arith
+commands_append (act ∷ acts) step = let later = commands_append acts step in omega arith
+
+-- no act is loaded yet
+pub commands_none : (phase : List PlannedAct) (acts : List LoadedAct) → acts ≡ [] → command_count acts + publishing_among phase ≡ publishing_among phase
+unfolding command_count
+commands_none phase acts none = let zero : command_count acts ≡ 0 = ap command_count none in omega arith
+
+-- the commands of the acts that are loaded so far, and of those that are left
+pub commands_more : (phase : List PlannedAct) (at : ℕ) (act : PlannedAct) (acts more : List LoadedAct) (step : LoadedAct) → at < length phase → act ≡ get_or phase at act → commands_in step ≡ publishing_in act → more ≡ acts ++ step ∷ []
+    → command_count acts + publishing_among (drop at phase) ≡ publishing_among phase → command_count more + publishing_among (drop (at + 1) phase) ≡ publishing_among phase
+unfolding publishing_among command_count
+commands_more phase at act acts more step inside here same added before =
+    let left : publishing_among (drop at phase) ≡ publishing_in act + publishing_among (drop (at + 1) phase) = ap publishing_among (acts_here phase at act inside here) in
+    let made : command_count more ≡ command_count acts + commands_in step = ap command_count added ∙ commands_append acts step in
+    omega arith
+
+pub commands_all : (phase : List PlannedAct) (at : ℕ) (acts : List LoadedAct) → length phase ≤ at → command_count acts + publishing_among (drop at phase) ≡ publishing_among phase → command_count acts ≡ publishing_among phase
+unfolding publishing_among
+commands_all phase at acts past is = let none : publishing_among (drop at phase) ≡ 0 = ap publishing_among (drop_all at phase past) in omega arith
+
+module _ {F : Type 0} (shelf : ShelfOf F) (phase : List PlannedAct) where
+  -- what is read of the rest from this state on is read of the phase from the first on, and so where it fails
+  pub record LeadsOn (at before : ℕ) (first here : F) : Type 0 where
+    pub reads : (new : F) → ActsRead shelf before (drop at phase) here new → PhaseReads shelf phase first new
+    pub breaks : (new : F) → ActsBreak shelf before (drop at phase) here new → PhaseBreaks shelf phase first new
+
+  pub leads_from : (first : F) → LeadsOn 0 0 first first
+  leads_from first = record { reads = λ new read. read; breaks = λ new broke. broke }
+
+  pub reads_all : (at before : ℕ) (first here : F) → length phase ≤ at → LeadsOn at before first here → PhaseReads shelf phase first here
+  unfolding ActsRead
+  reads_all at before first here past leads = leads.reads here (subst (λ l. ActsRead shelf before l here here) (sym (drop_all at phase past)) refl)
+
+  module _ (at before : ℕ) (act : PlannedAct) (inside : at < length phase) (is : act ≡ get_or phase at act) (first here : F) (leads : LeadsOn at before first here) where
+    pub leads_past : (after : ℕ) (mid : F) → ActReads shelf (named_file act) before after here mid → LeadsOn (at + 1) after first mid
+    unfolding ActsRead ActsBreak
+    leads_past after mid read = record {
+      reads = λ new rest. leads.reads new (subst (λ l. ActsRead shelf before l here new) (sym (acts_here phase at act inside is)) (after, mid, read, rest));
+      breaks = λ new rest. leads.breaks new (subst (λ l. ActsBreak shelf before l here new) (sym (acts_here phase at act inside is)) (inr (after, mid, read, rest)));
+    }
+
+    pub leads_off : (new : F) → ActBreaks shelf (named_file act) here new → PhaseBreaks shelf phase first new
+    unfolding ActsBreak
+    leads_off new broke = leads.breaks new (subst (λ l. ActsBreak shelf before l here new) (sym (acts_here phase at act inside is)) (inl broke))

@@ -1,6 +1,6 @@
 -- A run of phases that are loaded from the files is the run of the plan.
-use Rattle.std.proofs.Common.{◌≡◌, ℕ, zero, suc, ◌+◌, ◌≤◌, Bool, true, false, List, [], ◌∷◌, length, take, map, refl, sym, ap, ◌∙◌, subst, arith}
-use Rattle.std.specs.Prelude.{slice_index_or, Option, Some, None, Result, Ok, Err, IsTrue}
+use Rattle.std.proofs.Common.{◌≡◌, ℕ, ◌+◌, ◌≤◌, Bool, true, false, List, [], ◌∷◌, length, take, map, refl, sym, ap, ◌∙◌, subst}
+use Rattle.std.specs.Prelude.{Option, Some, None, Result, Ok, Err, IsTrue}
 use Rattle.std.proofs.lemmas.List.{length-map, take-map}
 use Rattle.gufi_base.specs.Basics.{◌>>=◌}
 use Rattle.gufi_io.specs.Files.{Files}
@@ -10,16 +10,22 @@ use Rattle.gufi_phases.specs.declared.session.End.TheVariants as ends
 use Rattle.gufi_phases.specs.Loads.{phases_over, stop_over, total_size, with_loaded, stop_behind, EndsWith}
 use Rattle.gufi_phases.specs.Sessions as sessions
 use Rattle.gufi_plan.specs.Plan.{Plan, act_count}
+use Rattle.gufi_plan.specs.Bounds.{publishing_among, publishing_of}
 use Rattle.gufi_plan.specs.declared.act.PlannedAct.{PlannedAct}
-use Rattle.gufi_session.specs.Run.{Run, run_of, run_behind, reads_files, phase_bytes}
+use Rattle.gufi_session.specs.Run.{Run, run_of, run_behind, phase_bytes}
 use Rattle.gufi_session.specs.Loaded.{LoadedAct, loaded_phase, load_phase, command_outcome, command_line, search_reply}
-use Rattle.gufi_session.specs.Ends.{Answered, SessionEndsWith, MayEndSession, MayBreakOff, reads_behind}
+use Rattle.gufi_session.specs.Ends.{Answered, SessionEndsWith, MayEndSession}
 use Rattle.gufi_session.proofs.Joined.{answered}
 
 pub total_counts : (plan : Plan) → total_size (λ (phase : List PlannedAct). length phase) plan ≡ act_count plan
 unfolding total_size act_count
 total_counts [] = refl
 total_counts (phase ∷ plan) = ap (λ n. length phase + n) (total_counts plan)
+
+pub total_publishing : (plan : Plan) → total_size publishing_among plan ≡ publishing_of plan
+unfolding total_size publishing_of
+total_publishing [] = refl
+total_publishing (phase ∷ plan) = ap (λ n. publishing_among phase + n) (total_publishing plan)
 
 -- ---- the phases that are loaded, and the file at which they end
 
@@ -42,22 +48,6 @@ stop_same : (files : Files) (plan : Plan) → stop_over load_phase files plan �
 unfolding stop_over load_phase run_of
 stop_same files [] = refl
 stop_same files (phase ∷ plan) = stops_behind files phase (stop_over load_phase files plan) (run_of files plan) (phase_bytes files 0 phase) (stop_same files plan)
-
--- ---- the phases that name files
-
-reads_step : (phase : List PlannedAct) (rest : Run) (reads : List Bool) (bytes : Result ℕ Stop) (count : ℕ) → ((n : ℕ) → n ≤ length rest.plan → slice_index_or reads n false ≡ true → reads_behind rest.plan rest.stop n ≡ true)
-    → count ≤ length (run_behind phase rest bytes).plan → slice_index_or (reads_files phase ∷ reads) count false ≡ true → reads_behind (run_behind phase rest bytes).plan (run_behind phase rest bytes).stop count ≡ true
-unfolding reads_behind
-reads_step phase rest reads (Ok n) zero later within is = is
-reads_step phase rest reads (Ok n) (suc count) later within is = later count (omega arith) is
-reads_step phase rest reads (Err stop) zero later within is = refl
-reads_step phase rest reads (Err stop) (suc count) later within is = absurd (omega arith)
-
-reads_same : (files : Files) (plan : Plan) (count : ℕ) → count ≤ length (run_of files plan).plan → slice_index_or (map reads_files plan) count false ≡ true → reads_behind (run_of files plan).plan (run_of files plan).stop count ≡ true
-unfolding run_of reads_behind
-reads_same files [] zero within is = is
-reads_same files [] (suc count) within is = is
-reads_same files (phase ∷ plan) count within is = reads_step phase (run_of files plan) (map reads_files plan) (phase_bytes files 0 phase) count (reads_same files plan) within is
 
 -- ---- how they end
 
@@ -82,32 +72,18 @@ in_whole : (files : Files) (plan : Plan) (numbers text : List ℕ) → AnsweredP
 in_whole files plan numbers text is =
     let part = in_part files plan true numbers text is in subst (λ n. Answered files (run_of files plan) n numbers text) (part.2 refl) part.3
 
-pub ends_same : (files : Files) (plan : Plan) (end : End) (numbers text : List ℕ)
-    → EndsWith command_outcome command_line search_reply (phases_over load_phase files plan) (stop_over load_phase files plan) (map reads_files plan) end numbers text
-    → SessionEndsWith files (run_of files plan) end numbers text
-ends_same files plan ends.Done numbers text is = (sym (stop_same files plan) ∙ is.0, in_whole files plan numbers text is.1)
-ends_same files plan (ends.Stopped stop) numbers text is = (sym (stop_same files plan) ∙ is.0, in_whole files plan numbers text is.1)
-ends_same files plan ends.ReadFault numbers text is = let part = in_part files plan false numbers text is.0 in (part.0, part.3)
-ends_same files plan ends.WriteFault numbers text is = let part = in_part files plan false numbers text is in (part.0, part.3)
-ends_same files plan ends.Memory numbers text is = let part = in_part files plan false numbers text is in (part.0, part.3)
+ends_same : (broke : ℕ → Type 0) (files : Files) (plan : Plan) (end : End) (numbers text : List ℕ)
+    → EndsWith command_outcome command_line search_reply (phases_over load_phase files plan) (stop_over load_phase files plan) broke end numbers text
+    → SessionEndsWith broke files (run_of files plan) end numbers text
+ends_same broke files plan ends.Done numbers text is = (sym (stop_same files plan) ∙ is.0, in_whole files plan numbers text is.1)
+ends_same broke files plan (ends.Stopped stop) numbers text is = (sym (stop_same files plan) ∙ is.0, in_whole files plan numbers text is.1)
+ends_same broke files plan ends.ReadFault numbers text is = let part = in_part files plan false numbers text is.0 in (part.0, part.3, subst broke (sym part.1) is.1)
+ends_same broke files plan ends.WriteFault numbers text is = let part = in_part files plan false numbers text is in (part.0, part.3)
+ends_same broke files plan ends.Full numbers text is = let part = in_part files plan false numbers text is in (part.0, part.3)
+ends_same broke files plan ends.Memory numbers text is = let part = in_part files plan false numbers text is in (part.0, part.3)
 
--- where reading failed, before a phase that names a file
-breaks_same : (files : Files) (plan : Plan) (end : End) (numbers text : List ℕ)
-    → EndsWith command_outcome command_line search_reply (phases_over load_phase files plan) (stop_over load_phase files plan) (map reads_files plan) end numbers text
-    → MayBreakOff (Some files) plan end numbers text
-breaks_same files plan ends.Done numbers text is = tt
-breaks_same files plan (ends.Stopped stop) numbers text is = tt
-breaks_same files plan ends.ReadFault numbers text is =
-    let part = in_part files plan false numbers text is.0 in (part.0, part.3, reads_same files plan part.0 part.3.within (subst (λ n. slice_index_or (map reads_files plan) n false ≡ true) (sym part.1) is.1))
-breaks_same files plan ends.WriteFault numbers text is = tt
-breaks_same files plan ends.Memory numbers text is = tt
-
-pub may_break : (told : Option Files) (plan : Plan) (end : End) (numbers text : List ℕ)
-    → ((files : Files) → told ≡ Some files → EndsWith command_outcome command_line search_reply (phases_over load_phase files plan) (stop_over load_phase files plan) (map reads_files plan) end numbers text)
-    → MayBreakOff told plan end numbers text
-may_break None plan end numbers text is = tt
-may_break (Some files) plan end numbers text is = breaks_same files plan end numbers text (is files refl)
-
-pub may_end : (told : Option Files) (plan : Plan) (end : End) (numbers text : List ℕ) → ((files : Files) → told ≡ Some files → SessionEndsWith files (run_of files plan) end numbers text) → MayEndSession told plan end numbers text
-may_end None plan end numbers text is = tt
-may_end (Some files) plan end numbers text is = is files refl
+pub may_end : (broke : ℕ → Type 0) (told : Option Files) (plan : Plan) (end : End) (numbers text : List ℕ)
+    → ((files : Files) → told ≡ Some files → EndsWith command_outcome command_line search_reply (phases_over load_phase files plan) (stop_over load_phase files plan) broke end numbers text)
+    → MayEndSession broke told plan end numbers text
+may_end broke None plan end numbers text is = tt
+may_end broke (Some files) plan end numbers text is = ends_same broke files plan end numbers text (is files refl)

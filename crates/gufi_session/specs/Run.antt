@@ -1,6 +1,5 @@
 -- How far the files let a session run.
-use Rattle.std.specs.Prelude.{ℕ, ◌+◌, Bool, nat_lt, is_some, List, [], ◌∷◌, length, Option, Some, None, Result, Ok, Err}
-use Rattle.std.specs.List.{list_any}
+use Rattle.std.specs.Prelude.{ℕ, ◌+◌, nat_lt, List, [], ◌∷◌, length, Option, Some, None, Result, Ok, Err}
 use Rattle.gufi_io.specs.Files.{Files}
 use Rattle.gufi_base.specs.Limits.{max_trace}
 use Rattle.gufi_base.specs.Basics.{◌>>=◌, ◌>>◌, refuse}
@@ -15,10 +14,6 @@ named_file (Publish delim limit file) = Some file
 named_file (Rollup limit) = None
 named_file (Refresh delim path file) = Some file
 named_file (Ask lane search) = None
-
--- whether a phase names a file
-abbrev pub reads_files : List PlannedAct → Bool
-reads_files phase = list_any (λ act. is_some (named_file act)) phase
 
 -- A file ends the run where it isn't held, or where with it the bytes of its phase pass their limit.
 abbrev pub with_file : ℕ → List ℕ → Option (List ℕ) → Result ℕ Stop

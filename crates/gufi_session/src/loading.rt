@@ -1,12 +1,15 @@
 //! The files of a phase.
-ghost use Rattle.std.specs.Prelude.{◌≡◌, ◌≤◌, ◌+◌, Some, is_some, length, IfOk, IfErr};
+ghost use Rattle.std.specs.Prelude.{◌≡◌, ◌≤◌, ◌+◌, Some, length, IfOk, IfErr, OnOk};
 ghost use Rattle.gufi_base.specs.Limits.{max_trace};
-ghost use Rattle.gufi_io.specs.Files.{Files};
+ghost use Rattle.gufi_io.specs.Calls.{one_more};
+ghost use Rattle.gufi_io.specs.Files.{Files, Holds};
 ghost use Rattle.gufi_io.specs.Kept.{Keeps};
-ghost use Rattle.gufi_phases.specs.Loads.{LoadsAs, FailsOnlyIf, LoadFaultHasCause};
+ghost use Rattle.gufi_phases.specs.Phases.{commands_in, command_count};
+ghost use Rattle.gufi_phases.specs.Loads.{LoadsAs, BreaksIf, LoadFaultHasCause};
+ghost use Rattle.gufi_plan.specs.Bounds.{publishing_in, publishing_among};
 ghost use Rattle.gufi_session.specs.Loaded.{load_phase};
-ghost use Rattle.gufi_session.specs.Loading.{ReadsAs, ActLoadsAs};
-ghost use Rattle.gufi_session.specs.Run.{named_file, reads_files};
+ghost use Rattle.gufi_session.specs.Loading.{ReadsAs, ActLoadsAs, FailsToRead, ActReads, ActBreaks, PhaseReads, PhaseBreaks};
+ghost use Rattle.gufi_session.specs.Run.{named_file};
 
 use crate::publishing::Publishing;
 use crate::reply::Asking;
@@ -35,7 +38,10 @@ fn read_file<F: Shelf>(
 ) -> Result<Vec<u8>, LoadFault>
     requires { before ≤ max_trace }
     ensures told { (files : Files) → F.files shelf.old ≡ Some files → ReadsAs before file.now (files file.now) result }
+    ensures whole { IfOk result (λ bytes. Holds (F.files shelf.old) file.now bytes.items) }
     ensures within { IfOk result (λ bytes. before + length bytes.items ≤ max_trace) }
+    ensures breaks { IfErr result (BreaksIf (FailsToRead F.Shelf shelf.old shelf.new)) }
+    ensures opens { F.opens shelf.new ≡ one_more (F.opens shelf.old) }
     ensures cause { IfErr result (LoadFaultHasCause F.Shelf shelf.old shelf.new) }
     ensures kept { Keeps F.Shelf shelf.old shelf.new }
 {
@@ -68,7 +74,9 @@ fn load_act<F: Shelf>(
     requires { before ≤ max_trace }
     ensures told { (files : Files) → F.files shelf.old ≡ Some files → ActLoadsAs files before act.now result }
     ensures within { IfOk result (λ step. step.1 ≤ max_trace) }
-    ensures reads { IfErr result (FailsOnlyIf (is_some (named_file act.now))) }
+    ensures command { IfOk result (λ step. commands_in step.0 ≡ publishing_in act.now) }
+    ensures reads { IfOk result (λ step. ActReads F.Shelf (named_file act.now) before step.1 shelf.old shelf.new) }
+    ensures breaks { IfErr result (BreaksIf (ActBreaks F.Shelf (named_file act.now) shelf.old shelf.new)) }
     ensures cause { IfErr result (LoadFaultHasCause F.Shelf shelf.old shelf.new) }
     ensures kept { Keeps F.Shelf shelf.old shelf.new }
 {
@@ -124,7 +132,9 @@ fn load_acts<F: Shelf>(
 ) -> Result<Vec<Act<Publishing, Asking>>, LoadFault>
     ensures told { (files : Files) → F.files shelf.old ≡ Some files → LoadsAs (load_phase phase.now files) result }
     ensures size { IfOk result (λ acts. length acts.items ≡ length phase.now) }
-    ensures reads { IfErr result (FailsOnlyIf (reads_files phase.now)) }
+    ensures commands { IfOk result (λ acts. command_count acts.items ≡ publishing_among phase.now) }
+    ensures reads { OnOk result (PhaseReads F.Shelf phase.now shelf.old shelf.new) }
+    ensures breaks { IfErr result (BreaksIf (PhaseBreaks F.Shelf phase.now shelf.old shelf.new)) }
     ensures cause { IfErr result (LoadFaultHasCause F.Shelf shelf.old shelf.new) }
     ensures kept { Keeps F.Shelf shelf.old shelf.new }
 {
@@ -148,14 +158,19 @@ fn load_acts<F: Shelf>(
 
 impl<F: Shelf> Load<Publishing, Asking, F> for Items<PlannedAct> {
     ghost use Rattle.std.specs.Prelude.{length};
+    ghost use Rattle.gufi_plan.specs.Bounds.{publishing_among};
     ghost use Rattle.gufi_session.specs.Loaded.{load_phase};
-    ghost use Rattle.gufi_session.specs.Run.{reads_files};
+    ghost use Rattle.gufi_session.specs.Loading.{PhaseReads, PhaseBreaks};
 
     ghost loaded = { load_phase };
 
     ghost size = { λ phase. length phase };
 
-    ghost reads = { reads_files };
+    ghost commands = { publishing_among };
+
+    ghost reads = { PhaseReads F.Shelf };
+
+    ghost breaks = { PhaseBreaks F.Shelf };
 
     fn load(
         &self,

@@ -1,9 +1,11 @@
 //! The run of a plan.
-ghost use Rattle.std.specs.Prelude.{◌≡◌, ◌≤◌, Some};
+ghost use Rattle.std.specs.Prelude.{◌≡◌, ◌≢◌, ◌≤◌, Some};
 ghost use Rattle.gufi_io.specs.Files.{Files};
+ghost use Rattle.gufi_io.specs.Kept.{Keeps};
 ghost use Rattle.gufi_phases.specs.Loads.{EndHasCause};
 ghost use Rattle.gufi_session.specs.Ends.{SessionEnded};
 ghost use Rattle.gufi_session.specs.Hits.{session_hits};
+ghost use Rattle.gufi_session.specs.Loading.{FailsBehind};
 
 use crate::publishing::Publishing;
 use crate::reply::{Asking, body_from};
@@ -36,10 +38,12 @@ pub fn run_session<R: Threads + Wait + Sync, F: Shelf, K: Sink, G: Gate + Sync>(
     gate: &G,
 ) -> Ended
     requires { cache ≤ 256 }
-    ensures ended { SessionEnded (F.files shelf.old) plan.now result.end result.numbers.items (K.taken out.old) (K.taken out.new) }
+    ensures ended { SessionEnded (F.files shelf.old) plan.now (λ count. FailsBehind F.Shelf plan.now count shelf.old shelf.new) result.end result.numbers.items (K.taken out.old) (K.taken out.new) }
     ensures hits { (files : Files) → F.files shelf.old ≡ Some files → result.end ≡ End.Done → result.hits ≡ session_hits files plan.now cache result.numbers.items }
     ensures cause { EndHasCause F.Shelf shelf.old shelf.new K.Sink out.old out.new result.end }
-    ensures same { F.files shelf.new ≡ F.files shelf.old }
+    // No plan has more publishing commands than may be published.
+    ensures never_full { result.end ≢ End.Full }
+    ensures kept { Keeps F.Shelf shelf.old shelf.new }
 {
     let walkers = Walkers::of(rt, gate, workers);
     // Three hold a publication: a search's pin, the publisher as long as it is the latest, and the loop over the phases as the

@@ -81,6 +81,10 @@ impl Contents {
         })
     }
 
+    pub(crate) fn keeps_sums(&self) -> bool {
+        self.sums.is_some()
+    }
+
     /// The tree in which a directory and all below it, so many in all, are replaced by another tree, with its sums.
     ///
     /// Rows and sums outside and of the part are shared. Only the directories above it are summed again. Where either has no sums,

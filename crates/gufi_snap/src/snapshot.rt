@@ -169,6 +169,11 @@ impl Snapshot {
         self.contents.tree()
     }
 
+    /// Whether sums are kept, so that each costs `O(1)`. What a snapshot stands for doesn't hang on it, so no clause tells.
+    pub fn keeps_sums(&self) -> bool {
+        self.contents.keeps_sums()
+    }
+
     /// How many rows a piece may have.
     pub fn limit(&self) -> u64
         ensures { result ≡ self.now.limit }

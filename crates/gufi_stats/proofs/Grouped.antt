@@ -111,11 +111,12 @@ grouped-none seen key = refl
 
 -- ---- the lines
 
-lines-mapped : (word : List ℕ) (key : Row → ℕ) (rows : List Row) (ns : List ℕ) → group_lines word (entries (group_sum (λ meta. meta) key rows) ns) ≡ flat_map (group_line word key rows) ns
+lines-mapped : (label : ℕ → List ℕ) (key : Row → ℕ) (rows : List Row) (ns : List ℕ)
+    → group_lines label (entries (group_sum (λ meta. meta) key rows) ns) ≡ flat_map (group_line label key rows) ns
 unfolding total total_seen
-lines-mapped word key rows [] = refl
-lines-mapped word key rows (n ∷ ns) = ap (λ (t : List ℕ). group_line word key rows n ++ t) (lines-mapped word key rows ns)
+lines-mapped label key rows [] = refl
+lines-mapped label key rows (n ∷ ns) = ap (λ (t : List ℕ). group_line label key rows n ++ t) (lines-mapped label key rows ns)
 
-pub lines-grouped : (word : List ℕ) (key : Row → ℕ) (rows : List Row) (groups : List (ℕ × Summary)) → groups ≡ grouped key rows → group_lines word groups ≡ by_key word key rows
+pub lines-grouped : (label : ℕ → List ℕ) (key : Row → ℕ) (rows : List Row) (groups : List (ℕ × Summary)) → groups ≡ grouped key rows → group_lines label groups ≡ by_key label key rows
 unfolding grouped_seen by_key
-lines-grouped word key rows groups is = ap (group_lines word) is ∙ lines-mapped word key rows (numbers key rows)
+lines-grouped label key rows groups is = ap (group_lines label) is ∙ lines-mapped label key rows (numbers key rows)

@@ -230,13 +230,13 @@ rows-joined seen key rows more groups other new own others put =
     put ∙ (λ i. all_joined 0 (own i) (others i))
     ∙ subst (λ (k : Row → ℕ). all_joined 0 (grouped_seen seen k rows) (grouped_seen seen key more) ≡ grouped_seen seen k (rows ++ more)) (less-nothing key) (grouped-joined seen key 0 rows more)
 
-pub lines-less : (word : List ℕ) (key : Row → ℕ) (less : ℕ) (rows : List Row) (groups : List (ℕ × Summary)) → groups ≡ grouped key rows
-    → group_lines word (all_joined less [] groups) ≡ by_key word (λ row. key row - less) rows
-lines-less word key less rows groups is =
+pub lines-less : (label : ℕ → List ℕ) (key : Row → ℕ) (less : ℕ) (rows : List Row) (groups : List (ℕ × Summary)) → groups ≡ grouped key rows
+    → group_lines label (all_joined less [] groups) ≡ by_key label (λ row. key row - less) rows
+lines-less label key less rows groups is =
     let lower : Row → ℕ = λ row. key row - less in
-    lines-grouped word lower rows (all_joined less [] groups)
+    lines-grouped label lower rows (all_joined less [] groups)
     ((λ i. all_joined less (grouped-none (λ meta. meta) lower i) (is i)) ∙ grouped-joined (λ meta. meta) key less [] rows)
 
 -- where nothing is taken off the numbers
-pub by_key-less : (word : List ℕ) (key : Row → ℕ) (rows : List Row) → by_key word (λ row. key row - 0) rows ≡ by_key word key rows
-by_key-less word key rows = ap (λ (k : Row → ℕ). by_key word k rows) (less-nothing key)
+pub by_key-less : (label : ℕ → List ℕ) (key : Row → ℕ) (rows : List Row) → by_key label (λ row. key row - 0) rows ≡ by_key label key rows
+by_key-less label key rows = ap (λ (k : Row → ℕ). by_key label k rows) (less-nothing key)

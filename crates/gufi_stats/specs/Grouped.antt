@@ -1,5 +1,5 @@
 -- The sums of rows by a number, as they are kept.
-use Rattle.std.specs.Prelude.{ℕ, ◌==◌, List, ◌++◌, length, map, filter, unwrap_or, codes, decimal}
+use Rattle.std.specs.Prelude.{ℕ, ◌==◌, List, ◌++◌, length, map, filter, unwrap_or, codes}
 use Rattle.std.specs.List.{flat_map, sum_by}
 use Rattle.std.specs.Map.{lookup}
 use Rattle.std.specs.Ordering.{nat_cmp, is_eq}
@@ -56,8 +56,9 @@ rows_counted groups = sum_by (λ group. rows_in group.1) groups
 abbrev pub sum_in : List (ℕ × Summary) → ℕ → Summary
 sum_in groups n = unwrap_or (lookup (λ m. is_eq (nat_cmp n m)) groups) empty
 
-abbrev pub sum_line : List ℕ → ℕ × Summary → List ℕ
-sum_line word group = line (word ++ codes " " ++ decimal group.0 ++ codes " " ++ counts_text group.1)
+-- the counts behind what tells the number
+abbrev pub sum_line : (ℕ → List ℕ) → ℕ × Summary → List ℕ
+sum_line label group = line (label group.0 ++ codes " " ++ counts_text group.1)
 
-abbrev pub group_lines : List ℕ → List (ℕ × Summary) → List ℕ
-group_lines word groups = flat_map (sum_line word) groups
+abbrev pub group_lines : (ℕ → List ℕ) → List (ℕ × Summary) → List ℕ
+group_lines label groups = flat_map (sum_line label) groups

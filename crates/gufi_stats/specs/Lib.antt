@@ -1,3 +1,5 @@
+pub mod Named
+pub mod Labels
 pub mod Reports
 pub mod Numbers
 pub mod Grouped

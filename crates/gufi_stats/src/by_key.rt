@@ -2,8 +2,10 @@
 
 ghost use Rattle.std.specs.Prelude.{◌≡◌, ◌^◌, ◌<◌, length, IfOk};
 ghost use Rattle.gufi_stats.specs.Grouped.{number_of, grouped};
+ghost use Rattle.gufi_stats.specs.Labels.{label_text};
 ghost use Rattle.gufi_stats.specs.Reports.{by_key};
 
+use crate::label::Label;
 use crate::sums::NumberSums;
 use gufi_base::{Memory, Row};
 use std::alloc::Global;
@@ -40,16 +42,16 @@ fn groups_of(alloc: Global, rows: &[Row], key: Key) -> Result<NumberSums, Memory
     Ok(groups)
 }
 
-/// A line for each number that a row has, ascending: the word, the number, and the counts of those rows.
+/// A line for each number that a row has, ascending: its label, and the counts of those rows.
 pub(crate) fn lines_by(
     alloc: Global,
-    word: &[u8],
+    label: Label<'_>,
     rows: &[Row],
     key: Key,
 ) -> Result<Vec<u8>, Memory>
     requires { length rows.now < 2 ^ 40 }
-    ensures { IfOk result (λ text. text.items ≡ by_key word.now (number_of key) rows.now) }
+    ensures { IfOk result (λ text. text.items ≡ by_key (label_text label.entry) (number_of key) rows.now) }
 {
     let groups = groups_of(alloc, rows, key)?;
-    groups.lines(alloc, word, 0)
+    groups.lines(alloc, label, 0)
 }

@@ -4,8 +4,10 @@ ghost use Rattle.std.specs.Prelude.{◌≡◌, ◌-◌, ◌^◌, ◌<◌, List, 
 ghost use Rattle.gufi_base.specs.declared.record.Row.{Row};
 ghost use Rattle.gufi_stats.specs.Grouped.{grouped, rows_counted};
 ghost use Rattle.gufi_stats.specs.GroupLaws.{grouped-counted, grouped-reordered};
+ghost use Rattle.gufi_stats.specs.Labels.{label_text};
 ghost use Rattle.gufi_stats.specs.Reports.{by_key};
 
+use crate::label::Label;
 use crate::number::RowNumber;
 use crate::sums::NumberSums;
 use gufi_base::{Memory, RowRef, Yield};
@@ -62,11 +64,16 @@ impl<K: RowNumber> Yield for Counts<K> {
 }
 
 impl<K: RowNumber> Counts<K> {
-    /// A line for each number less so many, ascending: the word, the number, and the counts of those rows.
-    pub(crate) fn lines(self, alloc: Global, word: &[u8], less: usize) -> Result<Vec<u8>, Memory>
+    /// A line for each number less so many, ascending: its label, and the counts of those rows.
+    pub(crate) fn lines(
+        self,
+        alloc: Global,
+        label: Label<'_>,
+        less: usize,
+    ) -> Result<Vec<u8>, Memory>
         requires { (rows : List Row) × (self ≡ grouped K.number rows) × (length rows < 2 ^ 40) }
-        ensures { IfOk result (λ text. (rows : List Row) → self ≡ grouped K.number rows → text.items ≡ by_key word.now (λ row. K.number row - less) rows) }
+        ensures { IfOk result (λ text. (rows : List Row) → self ≡ grouped K.number rows → text.items ≡ by_key (label_text label.entry) (λ row. K.number row - less) rows) }
     {
-        self.groups.lines(alloc, word, less as u64)
+        self.groups.lines(alloc, label, less as u64)
     }
 }

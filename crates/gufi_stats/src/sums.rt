@@ -1,11 +1,13 @@
 //! Sums by a number, to which rows and other sums are joined.
 
-ghost use Rattle.std.specs.Prelude.{◌≡◌, ℕ, ◌+◌, ◌^◌, ◌<◌, ◌++◌, [], codes, decimal, IfOk, OnOk, OnErr};
+ghost use Rattle.std.specs.Prelude.{◌≡◌, ℕ, ◌+◌, ◌^◌, ◌<◌, ◌++◌, [], IfOk, OnOk, OnErr};
 ghost use Rattle.gufi_sums.specs.Total.{meta_total, rows_in, IsBounded};
 ghost use Rattle.gufi_stats.specs.Grouped.{sum_in, rows_counted, group_lines, sum_line};
 ghost use Rattle.gufi_stats.specs.Joined.{joined, all_joined, AreBounded};
+ghost use Rattle.gufi_stats.specs.Labels.{label_text};
 
-use gufi_base::{Memory, Meta, put_u64};
+use crate::label::{Label, put_label};
+use gufi_base::{Memory, Meta};
 use gufi_sums::{Summary, put_counts};
 use std::alloc::Global;
 use std::collections::BTreeMap;
@@ -159,36 +161,38 @@ impl NumberSums {
         Ok(())
     }
 
-    /// A line for each number less so many, ascending: the word, the number, and the counts of the rows.
-    pub(crate) fn lines(self, alloc: Global, word: &[u8], less: u64) -> Result<Vec<u8>, Memory>
+    /// A line for each number less so many, ascending: its label, and the counts of the rows.
+    pub(crate) fn lines(self, alloc: Global, label: Label<'_>, less: u64) -> Result<Vec<u8>, Memory>
         requires { rows_counted self < 2 ^ 40 }
-        ensures { IfOk result (λ text. text.items ≡ group_lines word.now (all_joined less [] self)) }
+        ensures { IfOk result (λ text. text.items ≡ group_lines (label_text label.entry) (all_joined less [] self)) }
     {
         let sums = self.into_sums()?;
         let mut lower = BTreeMap::new(alloc);
         join_all(&mut lower, &sums, less)?;
-        lines_of(alloc, word, &lower)
+        lines_of(alloc, label, &lower)
     }
 }
 
-fn put_line(out: &mut Vec<u8>, word: &[u8], number: u64, sum: &Summary) -> Result<(), Memory>
-    ensures { OnOk result (out.new.items ≡ out.old.items ++ sum_line word.now (number, sum.now)) }
+fn put_line(out: &mut Vec<u8>, label: Label<'_>, number: u64, sum: &Summary) -> Result<(), Memory>
+    ensures { OnOk result (out.new.items ≡ out.old.items ++ sum_line (label_text label.entry) (number, sum.now)) }
 {
-    out.extend_from_slice(word)?;
-    out.push(b' ')?;
-    put_u64(out, number)?;
+    put_label(out, label, number)?;
     out.push(b' ')?;
     put_counts(out, sum)?;
     out.push(b'\n')?;
     Ok(())
 }
 
-fn lines_of(alloc: Global, word: &[u8], sums: &BTreeMap<u64, Summary>) -> Result<Vec<u8>, Memory>
-    ensures { IfOk result (λ text. text.items ≡ group_lines word.now sums.now.entries) }
+fn lines_of(
+    alloc: Global,
+    label: Label<'_>,
+    sums: &BTreeMap<u64, Summary>,
+) -> Result<Vec<u8>, Memory>
+    ensures { IfOk result (λ text. text.items ≡ group_lines (label_text label.entry) sums.now.entries) }
 {
     let mut text = Vec::new(alloc);
     for (number, sum) in sums {
-        put_line(&mut text, word, *number, sum)?;
+        put_line(&mut text, label, *number, sum)?;
     }
     Ok(text)
 }

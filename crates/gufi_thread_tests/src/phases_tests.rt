@@ -107,6 +107,9 @@ impl<F: Shelf> Load<Put, Which, F> for Planned {
 
     ghost size = { λ _. 4 };
 
+    ghost commands = { λ _. 1 };
+
+    #[tactic(auto, unfolding(gufi_phases::specs::Phases::command_count))]
     fn load(&self, alloc: Global, shelf: &mut F) -> Result<Vec<Act<Put, Which>>, LoadFault> {
         match read_all(alloc, shelf, self.file.as_str(), 8) {
             Ok(bytes) => match four_acts(alloc, self.lane, bytes.len() as u64) {
@@ -160,6 +163,9 @@ impl<F: Shelf> Load<Put, Which, F> for Step {
 
     ghost size = { λ p. option_map_or (λ value. 1) p.publishes 2 };
 
+    ghost commands = { λ p. option_map_or (λ value. 1) p.publishes 0 };
+
+    #[tactic(auto, unfolding(gufi_phases::specs::Phases::command_count))]
     fn load(&self, alloc: Global, _shelf: &mut F) -> Result<Vec<Act<Put, Which>>, LoadFault> {
         match acts_of(alloc, self.publishes) {
             Ok(acts) => Ok(acts),

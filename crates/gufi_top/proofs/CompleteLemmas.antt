@@ -13,12 +13,13 @@ use Rattle.gufi_roll.specs.CanRoll.{roll_flags, roll_report, report_text}
 use Rattle.gufi_gen.proofs.MadeBack.{generated_read, roots_listed}
 use Rattle.gufi_phases.specs.declared.load.Stop.{Stop}
 use Rattle.gufi_plan.specs.Plan.{Plan}
+use Rattle.gufi_session.specs.Run.{run_of}
 use Rattle.gufi_words.specs.declared.command.Common.{Common}
 use Rattle.gufi_words.specs.declared.command.Command.{Command}
 use Rattle.gufi_words.specs.declared.command.Command.TheVariants as commands
 use Rattle.gufi_walk.specs.declared.refusal.Refusal.{Refusal}
 use Rattle.gufi_top.specs.Reasons.{Reason, trace_in, index_in}
-use Rattle.gufi_top.specs.Verdict.{Written, Verdict, writes, runs, Asking, stat_asking, find_asking, ls_asking, stats_asking, report_of, query_asking, agg_asking, replied, ask_over, trace2index_over, rollup_over, session_plan, max_cache, run_over, session_over, summary_of, generated_tree, summary_over, gen_verdict, command_over, verdict}
+use Rattle.gufi_top.specs.Verdict.{Written, Verdict, writes, runs, Asking, stat_asking, find_asking, ls_asking, stats_asking, report_of, form_of, query_asking, agg_asking, replied, ask_over, trace2index_over, rollup_over, session_plan, max_cache, run_over, session_over, summary_of, generated_tree, summary_over, gen_verdict, command_over, verdict}
 use Rattle.gufi_top.specs.Ends.{told_verdict, RunEnds, EndsWith, EndedBy, IsVerdictStatus}
 use Rattle.gufi_top.specs.Endings.{HasRun}
 use Rattle.gufi_top.specs.Complete.{AskIsAnswerable, SessionIsAnswerable, IsAnswerable, IsAnswered, Completes}
@@ -61,12 +62,12 @@ command_answered (commands.Walk trace uid gids delim) files can = answered_by _ 
 command_answered (commands.Trace2index trace delim) files can = answered_if (trace_in delim trace files) (λ tree. record { out = image_text tree 0; notes = [] }) can
 command_answered (commands.Rollup index delim limit) files can =
     answered_if (index_in delim limit index files) (λ snap. record { out = image_text snap.tree limit; notes = report_text (roll_report snap.tree (roll_flags snap.tree limit)) }) can
-command_answered (commands.Query common text) files can = ask_answered common (query_asking common.user_at text) files can
-command_answered (commands.Agg common text) files can = ask_answered common (agg_asking common.user_at text) files can
-command_answered (commands.Find common now words) files can = ask_answered common (find_asking common.user_at now words) files can
+command_answered (commands.Query common escape header json text) files can = ask_answered common (query_asking common.user_at (form_of escape header json) text) files can
+command_answered (commands.Agg common names text) files can = ask_answered common (agg_asking common.user_at names text) files can
+command_answered (commands.Find common now prefix words) files can = ask_answered common (find_asking common.user_at now prefix words) files can
 command_answered (commands.Ls common long all) files can = ask_answered common (ls_asking long all) files can
 command_answered (commands.Stat common) files can = ask_answered common stat_asking files can
-command_answered (commands.Stats common report) files can = ask_answered common (stats_asking (report_of report)) files can
+command_answered (commands.Stats common names report) files can = ask_answered common (stats_asking names (report_of report)) files can
 command_answered (commands.Session passwd group delim workers now cache script) files can = session_answered files (min cache max_cache) (session_plan passwd group delim now script files) can
 command_answered (commands.Gen n delim workers summary) files can = gen_answered n delim summary (gen_written generated_read roots_listed n delim summary can.0 can.1 can.2)
 
@@ -81,7 +82,7 @@ session_zero stop kept status note none ends = (subst (λ s. RunEnds s kept stat
 status_zero : (given : Result Verdict Reason) (status : ℕ) (numbers text note : List ℕ) → IsAnswered given → EndsWith given status numbers text note → status ≡ 0
 status_zero (Err why) status numbers text note can ends = absurd can
 status_zero (Ok (writes whole)) status numbers text note can ends = ends.0
-status_zero (Ok (runs files run cache)) status numbers text note can ends = session_zero run.stop _ status note can ends.1
+status_zero (Ok (runs files plan cache)) status numbers text note can ends = session_zero (run_of files plan).stop _ status note can ends.1
 
 -- a verdict's status, or one of the three others
 kinds : (status : ℕ) → IsVerdictStatus status ⊎ (status ≡ 3) ⊎ (status ≡ 4) ⊎ (status ≡ 7)
@@ -90,8 +91,8 @@ kinds status =
     (cases_eq status 7)) (cases_eq status 4)) (cases_eq status 3)
 
 module _ {F K : Type 0} (shelf : ShelfOf F) (sink : SinkOf K) where
-  by_kind : (given : Result Verdict Reason) (status : ℕ) (numbers : List ℕ) (before after : F) (out out' notes notes' : K) → IsAnswered given
-      → HasRun shelf sink (Some given) status numbers before after out out' notes notes'
+  by_kind : {ahead : ℕ} (given : Result Verdict Reason) (status : ℕ) (numbers : List ℕ) (before after : F) (out out' notes notes' : K) → IsAnswered given
+      → HasRun shelf sink ahead (Some given) status numbers before after out out' notes notes'
       → ¬ Rose (shelf.faults before) (shelf.faults after) → ¬ Rose (sink.faults out) (sink.faults out') → ¬ Rose (sink.faults notes) (sink.faults notes')
       → IsVerdictStatus status ⊎ (status ≡ 3) ⊎ (status ≡ 4) ⊎ (status ≡ 7) → ((status ≡ 0) × EndedBy sink (Some given) status numbers out out' notes notes') ⊎ (status ≡ 7)
   by_kind given status numbers before after out out' notes notes' can run read wrote noted (inl good) =
@@ -100,8 +101,8 @@ module _ {F K : Type 0} (shelf : ShelfOf F) (sink : SinkOf K) where
   by_kind given status numbers before after out out' notes notes' can run read wrote noted (inr (inr (inl is))) = absurd (⊎_elim wrote noted (run.write_fault is).ends.cause)
   by_kind given status numbers before after out out' notes notes' can run read wrote noted (inr (inr (inr is))) = inr is
 
-  pub completes : (words : List (List ℕ)) (status : ℕ) (numbers : List ℕ) (before after : F) (out out' notes notes' : K)
-      → HasRun shelf sink (told_verdict (shelf.files before) words) status numbers before after out out' notes notes' → Completes shelf sink words status numbers before after out out' notes notes'
-  completes words status numbers before after out out' notes notes' run files command told are can read wrote noted =
+  pub completes : {ahead : ℕ} (words : List (List ℕ)) (status : ℕ) (numbers : List ℕ) (before after : F) (out out' notes notes' : K)
+      → HasRun shelf sink ahead (told_verdict (shelf.files before) words) status numbers before after out out' notes notes' → Completes shelf sink words status numbers before after out out' notes notes'
+  completes {ahead = ahead} words status numbers before after out out' notes notes' run files command told are can read wrote noted =
       by_kind (verdict words files) status numbers before after out out' notes notes' (commands_answered words files command are can)
-      (subst (λ o. HasRun shelf sink (told_verdict o words) status numbers before after out out' notes notes') told run) read wrote noted (kinds status)
+      (subst (λ o. HasRun shelf sink ahead (told_verdict o words) status numbers before after out out' notes notes') told run) read wrote noted (kinds status)

@@ -1,6 +1,6 @@
 -- What `walk`, `find` and the other asks write where nothing is refused.
-use Rattle.std.proofs.Common.{◌≡◌, ℕ, true, List, [], ◌∷◌, refl, ap, ◌∙◌}
-use Rattle.std.specs.Prelude.{Option, Result, Ok, ok_or, filter}
+use Rattle.std.proofs.Common.{◌≡◌, ℕ, ℤ, true, List, [], ◌∷◌, refl, ap, ◌∙◌}
+use Rattle.std.specs.Prelude.{Option, Some, None, Result, Ok, ok_or, filter}
 use Rattle.gufi_base.specs.declared.record.Row.{Row}
 use Rattle.gufi_base.specs.Basics.{◌>>=◌, result_map_err}
 use Rattle.gufi_base.specs.Paths.{Components}
@@ -11,19 +11,22 @@ use Rattle.gufi_tree.specs.Tree.{Directory}
 use Rattle.gufi_tree.specs.Resolve.{resolve, is_found}
 use Rattle.gufi_snap.specs.Snap.{Snap}
 use Rattle.gufi_users.specs.Entries.{UserTables}
-use Rattle.gufi_find.specs.Expressions.{Find}
+use Rattle.gufi_users.specs.Users.{principal_of}
+use Rattle.gufi_find.specs.Expressions.{Find, find_holds}
+use Rattle.gufi_find.specs.Reading.{read_find}
 use Rattle.gufi_find.specs.declared.fault.FindError.{FindError}
 use Rattle.gufi_words.specs.declared.word.WordError.{WordError}
 use Rattle.gufi_words.specs.CommandWords.{read_words}
 use Rattle.gufi_words.specs.declared.command.Common.{Common}
 use Rattle.gufi_words.specs.declared.command.Command.{Command}
+use Rattle.gufi_words.specs.declared.command.Command.TheVariants as commands
 use Rattle.gufi_io.specs.Files.{Files}
 use Rattle.gufi_walk.specs.Answer.{answer, listed_rows}
-use Rattle.gufi_ask.specs.Asks.{Ask, walk_ask, find_ask, ask_holds, ask_text}
-use Rattle.gufi_top.specs.Reasons.{Reason, word_refused, words_reason, find_reason, trace_in}
+use Rattle.gufi_ask.specs.Asks.{Ask, walk_ask, find_ask, found_lines, ask_holds, ask_text}
+use Rattle.gufi_top.specs.Reasons.{Reason, word_refused, words_reason, find_reason, tables_in, trace_in, index_in}
 use Rattle.gufi_top.specs.Verdict.{Asking, writes_only, replied, asked, asked_if, walk_over, user_in, asked_by, index_over, ask_over, find_asking, command_over, command_in, verdict}
 use Rattle.gufi_top.specs.Complete.{AskIsAnswerable}
-use Rattle.gufi_top.specs.Laws.{WalkWritesTheListedRows, FindWritesTheListedRows}
+use Rattle.gufi_top.specs.Laws.{WalkWritesTheListedRows, FindWritesTheListedRows, FindWritesTheListedRowsBehindItsPrefix}
 use Rattle.gufi_ask.proofs.AskLemmas.{reply_found}
 use Rattle.gufi_top.proofs.GenLemmas.{none_refused}
 
@@ -65,18 +68,31 @@ walk_writes words files trace uid gids delim tree are means found =
     ∙ walk_text trace (principal uid gids) delim files tree means found
     ∙ ap (λ rows. writes_only (path_lines rows)) (filter_all (listed_rows tree (principal uid gids) []))
 
-pub find_writes : FindWritesTheListedRows
-unfolding command_over answer
-find_writes words files common now tests tables snap who expression are users means named read found =
+-- what a find writes, with a prefix or without
+find_writes_behind : (prefix : Option (List ℕ)) (words : List (List ℕ)) (files : Files) (common : Common) (now : Option ℤ) (tests : List (List ℕ)) (tables : UserTables) (snap : Snap) (who : Principal) (expression : Find)
+    → read_words words ≡ Ok (commands.Find common now prefix tests) → tables_in common.passwd common.group files ≡ Ok tables → index_in common.delim common.limit common.index files ≡ Ok snap
+    → principal_of tables common.user ≡ Some who → read_find tests tables now ≡ Ok expression → is_found (resolve snap.tree who common.start) ≡ true
+    → verdict words files ≡ writes_only (found_lines prefix (answer snap.tree who common.start (find_holds expression)))
+unfolding command_over
+find_writes_behind prefix words files common now tests tables snap who expression are users means named read found =
     verdict_of words files _ are
-    ∙ asking_text common (find_asking common.user_at now tests) files (record {
+    ∙ asking_text common (find_asking common.user_at now prefix tests) files (record {
       tables = tables;
       snap = snap;
       who = who;
-      ask = find_ask expression;
+      ask = find_ask prefix expression;
       users = users;
       index = means;
       user = named;
-      words = ap (λ (r : Result Find FindError). result_map_err (find_reason common.user_at) r >>= λ e. Ok (find_ask e)) read;
+      words = ap (λ (r : Result Find FindError). result_map_err (find_reason common.user_at) r >>= λ e. Ok (find_ask prefix e)) read;
       found = found;
     })
+
+pub find_writes : FindWritesTheListedRows
+unfolding answer
+find_writes = find_writes_behind None
+
+pub find_writes_prefixed : FindWritesTheListedRowsBehindItsPrefix
+unfolding answer
+find_writes_prefixed words files common now prefix tests tables snap who expression are users means named read found =
+    find_writes_behind (Some prefix) words files common now tests tables snap who expression are users means named read found

@@ -1,21 +1,28 @@
 -- Lemmas on how a run goes.
-use Rattle.std.proofs.Common.{◌≡◌, ℕ, List, [], refl, ◌∙◌, inl, inr}
-use Rattle.std.specs.Prelude.{Option, Some, None, option_map, Result, Ok, Err, IfErr, Vec}
+use Rattle.std.proofs.Common.{◌≡◌, ℕ, Bool, true, false, List, [], refl, ◌∙◌, subst, inl, inr}
+use Rattle.std.specs.Prelude.{⊤, Option, Some, None, option_map, Result, Ok, Err, IfErr, Vec}
 use Rattle.std.specs.declared.alloc.Global.{Global}
+use Rattle.std.proofs.lemmas.Bool.{false≢true}
 use Rattle.gufi_io.specs.Files.{Files}
 use Rattle.gufi_io.specs.declared.shelf.Shelf.{Ghosts as ShelfOf}
 use Rattle.gufi_io.specs.declared.sink.Sink.{Ghosts as SinkOf}
-use Rattle.gufi_base.specs.Basics.{result_map_err}
+use Rattle.gufi_base.specs.Basics.{◌>>=◌, result_map_err}
+use Rattle.gufi_base.specs.Paths.{Components}
 use Rattle.gufi_access.specs.declared.class.Principal.{Principal}
+use Rattle.gufi_access.specs.Access.{principal}
+use Rattle.gufi_words.specs.declared.command.Common.{Common}
 use Rattle.gufi_words.specs.declared.command.Command.{Command}
+use Rattle.gufi_words.specs.declared.command.Command.TheVariants as variants
 use Rattle.gufi_words.specs.declared.word.WordError.{WordError}
 use Rattle.gufi_words.specs.declared.word.WordError.TheVariants as word_errors
 use Rattle.gufi_tree.specs.Tree.{Directory}
 use Rattle.gufi_snap.specs.Snap.{Snap}
-use Rattle.gufi_ask.specs.Asks.{walk_ask}
-use Rattle.gufi_top.specs.Reasons.{Reason, word_refused, words_reason, trace_in, index_in}
+use Rattle.gufi_walk.specs.declared.refusal.Refusal.{Refusal}
+use Rattle.gufi_plan.specs.Plan.{Plan}
+use Rattle.gufi_ask.specs.Asks.{Ask, walk_ask}
+use Rattle.gufi_top.specs.Reasons.{Reason, word_refused, words_reason, tables_in, trace_in, index_in}
 use Rattle.gufi_image.specs.Image.{image_text}
-use Rattle.gufi_top.specs.Verdict.{writes_only, asked, walk_over, trace2index_over, rolled_up, rollup_over, command_over, command_in, verdict, MayRefuse, MayRefuseWords, are_one_shot, is_one_shot}
+use Rattle.gufi_top.specs.Verdict.{Verdict, writes, runs, writes_only, replied, asked, asked_if, walk_over, user_in, Asking, asked_by, index_over, ask_over, stat_asking, find_asking, ls_asking, stats_asking, report_of, form_of, query_asking, agg_asking, trace2index_over, rolled_up, rollup_over, summary_of, generated_tree, summary_over, gen_verdict, command_over, command_in, verdict, MayRefuse, MayRefuseWords, are_one_shot, is_one_shot, files_ahead, files_ahead_of}
 use Rattle.gufi_top.specs.Calls.{Gives, GivesOver, IsOfBytes, IsOfWords, OfWordsOnlyBy}
 use Rattle.gufi_top.specs.Views.{text_view}
 use Rattle.gufi_top.specs.Ends.{told_verdict}
@@ -59,6 +66,56 @@ rollup_err told index delim limit e read = over_err told (λ s. s) text_view e (
 
 pub ruleset chaining = (walk_ok, walk_err, trace2index_ok, trace2index_err, rollup_ok, rollup_err)
 
+-- ---- a command that is no session
+
+abbrev IsText : Result Verdict Reason → Type 0
+IsText (Err why) = ⊤
+IsText (Ok (writes whole)) = ⊤
+IsText (Ok (runs files plan cache)) = ⊥
+
+then_writes : {A : Type 0} (r : Result A Reason) (next : A → Result Verdict Reason) → ((x : A) → IsText (next x)) → IsText (r >>= next)
+then_writes (Ok x) next each = each x
+then_writes (Err why) next each = tt
+
+reply_writes : (reply : Result (List ℕ) Refusal) → IsText (replied reply)
+reply_writes (Ok text) = tt
+reply_writes (Err refusal) = tt
+
+asked_writes : (tree : List Directory) (who : Principal) (start : Components) (ask : Ask) → IsText (asked tree who start ask)
+unfolding asked
+asked_writes tree who start ask = reply_writes _
+
+ask_writes : (common : Common) (asking : Asking) (files : Files) → IsText (ask_over common asking files)
+unfolding ask_over index_over
+ask_writes common asking files =
+    then_writes (tables_in common.passwd common.group files) (λ tables. index_over common asking tables files) (λ tables.
+    then_writes (index_in common.delim common.limit common.index files) (asked_by common asking tables) (λ snap.
+    then_writes (user_in common tables) (λ who. asked_if snap.tree who common.start (asking tables)) (λ who.
+    then_writes (asking tables) (asked snap.tree who common.start) (asked_writes snap.tree who common.start))))
+
+gen_writes : (n delim : ℕ) (summary : Bool) → IsText (gen_verdict n delim summary)
+unfolding summary_over
+gen_writes n delim true = then_writes (generated_tree n delim) (λ tree. replied (summary_of tree)) (λ tree. reply_writes (summary_of tree))
+gen_writes n delim false = tt
+
+command_writes : (command : Command) (files : Files) → is_one_shot command ≡ true → IsText (command_over command files)
+unfolding command_over walk_over trace2index_over rollup_over
+command_writes (variants.Walk trace uid gids delim) files one =
+    then_writes (trace_in delim trace files) (λ tree. asked tree (principal uid gids) [] walk_ask) (λ tree. asked_writes tree (principal uid gids) [] walk_ask)
+command_writes (variants.Trace2index trace delim) files one = then_writes (trace_in delim trace files) (λ tree. writes_only (image_text tree 0)) (λ tree. tt)
+command_writes (variants.Rollup index delim limit) files one = then_writes (index_in delim limit index files) (λ snap. rolled_up limit snap.tree) (λ snap. tt)
+command_writes (variants.Query common escape header json text) files one = ask_writes common (query_asking common.user_at (form_of escape header json) text) files
+command_writes (variants.Agg common names text) files one = ask_writes common (agg_asking common.user_at names text) files
+command_writes (variants.Find common now prefix words) files one = ask_writes common (find_asking common.user_at now prefix words) files
+command_writes (variants.Ls common long all) files one = ask_writes common (ls_asking long all) files
+command_writes (variants.Stat common) files one = ask_writes common stat_asking files
+command_writes (variants.Stats common names report) files one = ask_writes common (stats_asking names (report_of report)) files
+command_writes (variants.Session passwd group delim workers now cache script) files one = absurd (false≢true one)
+command_writes (variants.Gen n delim workers summary) files one = gen_writes n delim summary
+
+pub runs_nothing : (command : Command) → is_one_shot command ≡ true → (over files : Files) (plan : Plan) (cache : ℕ) → command_over command over ≡ Ok (runs files plan cache) → ⊥
+runs_nothing command one over files plan cache is = subst IsText is (command_writes command over one)
+
 -- ---- the words
 
 pub command_ok : (words : Result Command WordError) (command : Command) → words ≡ Ok command → Gives {A = Command} (λ c. c) (Ok command) (result_map_err words_reason words)
@@ -89,10 +146,13 @@ unfolding verdict
 command_told None words command read = refl
 command_told (Some files) words command read = rw read refl
 
+ahead_ok : (words : List (List ℕ)) (command : Command) → Gives {A = Command} (λ c. c) (Ok command) (command_in words) → files_ahead_of words ≡ files_ahead command
+ahead_ok words command read = rw read refl
+
 pub words_run : {F K : Type 0} (shelf : ShelfOf F) (sink : SinkOf K) (told : Option Files) (words : List (List ℕ)) (command : Command) {status : ℕ} {numbers : List ℕ} {before after : F} {out out' notes notes' : K}
-    → Gives {A = Command} (λ c. c) (Ok command) (command_in words) → HasRun shelf sink (option_map (command_over command) told) status numbers before after out out' notes notes'
-    → HasRun shelf sink (told_verdict told words) status numbers before after out out' notes notes'
-words_run shelf sink told words command read run = rw (command_told told words command read) run
+    → Gives {A = Command} (λ c. c) (Ok command) (command_in words) → HasRun shelf sink (files_ahead command) (option_map (command_over command) told) status numbers before after out out' notes notes'
+    → HasRun shelf sink (files_ahead_of words) (told_verdict told words) status numbers before after out out' notes notes'
+words_run shelf sink told words command read run = rw (command_told told words command read, ahead_ok words command read) run
 
 pub words_ok : {K : Type 0} (sink : SinkOf K) (words : List (List ℕ)) (command : Command) (notes notes' : K) → Gives {A = Command} (λ c. c) (Ok command) (command_in words)
     → TellsOneOf sink (MayRefuse command) notes notes' → TellsOneOf sink (MayRefuseWords words) notes notes'

@@ -1,17 +1,19 @@
 -- Lemmas on commands with a USER and a START.
-use Rattle.std.proofs.Common.{List, refl}
+use Rattle.std.proofs.Common.{◌≡◌, ℕ, List, refl}
 use Rattle.std.specs.Prelude.{Option, Result, Ok, Err, IfErr}
 use Rattle.gufi_io.specs.Files.{Files}
-use Rattle.gufi_base.specs.Basics.{◌>>=◌}
+use Rattle.gufi_base.specs.Basics.{◌>>=◌, result_map_err}
 use Rattle.gufi_access.specs.declared.class.Principal.{Principal}
 use Rattle.gufi_tree.specs.Tree.{Directory}
 use Rattle.gufi_snap.specs.Snap.{Snap}
 use Rattle.gufi_users.specs.Entries.{UserTables}
 use Rattle.gufi_words.specs.declared.command.Common.{Common}
-use Rattle.gufi_top.specs.Reasons.{Reason, tables_in, index_in}
-use Rattle.gufi_top.specs.Verdict.{Asking, asked, asked_if, user_in, asked_by, index_over, ask_over, AskMayRefuse}
+use Rattle.gufi_top.specs.Reasons.{Reason, select_reason, tables_in, index_in}
+use Rattle.gufi_top.specs.Verdict.{Asking, asked, asked_if, user_in, asked_by, index_over, ask_over, written_in, AskMayRefuse}
 use Rattle.gufi_find.specs.Expressions.{Find}
+use Rattle.gufi_select.specs.declared.fault.SelectError.{SelectError}
 use Rattle.gufi_select.specs.Columns.{Select}
+use Rattle.gufi_forms.specs.declared.form.Form.{Form}
 use Rattle.gufi_agg.specs.Aggs.{Agg}
 use Rattle.gufi_base.specs.Paths.{Components}
 use Rattle.gufi_ask.specs.Asks.{Ask, find_ask, query_ask, agg_ask}
@@ -50,36 +52,42 @@ module _ {A : Type 0} (ask_of : A → Ask) where
   query_err tree who start read halts.ReadFault is = tt
   query_err tree who start read halts.Memory is = tt
 
-pub expression_ok : (tree : List Directory) (who : Principal) (start : Components) (read : Result Find Reason) (expression : Find) (r : Result Output Halt)
-    → Gives {A = Find} (λ f. f) (Ok expression) read → Gives text_view r (asked tree who start (find_ask expression))
-    → Gives text_view r (asked_if tree who start (read >>= λ f. Ok (find_ask f)))
-expression_ok = query_ok find_ask
+pub expression_ok : (prefix : Option (List ℕ)) (tree : List Directory) (who : Principal) (start : Components) (read : Result Find Reason) (expression : Find) (r : Result Output Halt)
+    → Gives {A = Find} (λ f. f) (Ok expression) read → Gives text_view r (asked tree who start (find_ask prefix expression))
+    → Gives text_view r (asked_if tree who start (read >>= λ f. Ok (find_ask prefix f)))
+expression_ok prefix = query_ok (find_ask prefix)
 
-pub expression_err : (tree : List Directory) (who : Principal) (start : Components) (read : Result Find Reason) (e : Halt)
-    → Gives {A = Find} (λ f. f) (Err e) read → Gives text_view (Err e) (asked_if tree who start (read >>= λ f. Ok (find_ask f)))
-expression_err = query_err find_ask
+pub expression_err : (prefix : Option (List ℕ)) (tree : List Directory) (who : Principal) (start : Components) (read : Result Find Reason) (e : Halt)
+    → Gives {A = Find} (λ f. f) (Err e) read → Gives text_view (Err e) (asked_if tree who start (read >>= λ f. Ok (find_ask prefix f)))
+expression_err prefix = query_err (find_ask prefix)
 
 pub ruleset expressions = (expression_ok, expression_err)
 
-pub select_ok : (tree : List Directory) (who : Principal) (start : Components) (read : Result Select Reason) (select : Select) (r : Result Output Halt)
-    → Gives {A = Select} (λ s. s) (Ok select) read → Gives text_view r (asked tree who start (query_ask select))
-    → Gives text_view r (asked_if tree who start (read >>= λ s. Ok (query_ask s)))
-select_ok = query_ok query_ask
+-- a SELECT that is read, and then taken in a form
+pub select_read : (read : Result Select SelectError) (select : Select) (user_at : ℕ) (form : Form) (r : Result Select Halt)
+    → read ≡ Ok select → Gives {A = Select} (λ s. s) r (written_in user_at form select)
+    → Gives {A = Select} (λ s. s) r (result_map_err (select_reason user_at) read >>= written_in user_at form)
+select_read read select user_at form r is given = rw is given
 
-pub select_err : (tree : List Directory) (who : Principal) (start : Components) (read : Result Select Reason) (e : Halt)
-    → Gives {A = Select} (λ s. s) (Err e) read → Gives text_view (Err e) (asked_if tree who start (read >>= λ s. Ok (query_ask s)))
-select_err = query_err query_ask
+pub select_ok : (form : Form) (tree : List Directory) (who : Principal) (start : Components) (read : Result Select Reason) (select : Select) (r : Result Output Halt)
+    → Gives {A = Select} (λ s. s) (Ok select) read → Gives text_view r (asked tree who start (query_ask form select))
+    → Gives text_view r (asked_if tree who start (read >>= λ s. Ok (query_ask form s)))
+select_ok form = query_ok (query_ask form)
+
+pub select_err : (form : Form) (tree : List Directory) (who : Principal) (start : Components) (read : Result Select Reason) (e : Halt)
+    → Gives {A = Select} (λ s. s) (Err e) read → Gives text_view (Err e) (asked_if tree who start (read >>= λ s. Ok (query_ask form s)))
+select_err form = query_err (query_ask form)
 
 pub ruleset selects = (select_ok, select_err)
 
-pub agg_ok : (tree : List Directory) (who : Principal) (start : Components) (read : Result Agg Reason) (agg : Agg) (r : Result Output Halt)
-    → Gives {A = Agg} (λ a. a) (Ok agg) read → Gives text_view r (asked tree who start (agg_ask agg))
-    → Gives text_view r (asked_if tree who start (read >>= λ a. Ok (agg_ask a)))
-agg_ok = query_ok agg_ask
+pub agg_ok : (names : Option UserTables) (tree : List Directory) (who : Principal) (start : Components) (read : Result Agg Reason) (agg : Agg) (r : Result Output Halt)
+    → Gives {A = Agg} (λ a. a) (Ok agg) read → Gives text_view r (asked tree who start (agg_ask names agg))
+    → Gives text_view r (asked_if tree who start (read >>= λ a. Ok (agg_ask names a)))
+agg_ok names = query_ok (agg_ask names)
 
-pub agg_err : (tree : List Directory) (who : Principal) (start : Components) (read : Result Agg Reason) (e : Halt)
-    → Gives {A = Agg} (λ a. a) (Err e) read → Gives text_view (Err e) (asked_if tree who start (read >>= λ a. Ok (agg_ask a)))
-agg_err = query_err agg_ask
+pub agg_err : (names : Option UserTables) (tree : List Directory) (who : Principal) (start : Components) (read : Result Agg Reason) (e : Halt)
+    → Gives {A = Agg} (λ a. a) (Err e) read → Gives text_view (Err e) (asked_if tree who start (read >>= λ a. Ok (agg_ask names a)))
+agg_err names = query_err (agg_ask names)
 
 pub ruleset aggs = (agg_ok, agg_err)
 

@@ -1,14 +1,15 @@
 -- Lemmas on steps over the files, one behind another.
-use Rattle.std.proofs.Common.{ℕ, List, refl, arith}
+use Rattle.std.proofs.Common.{◌≡◌, ◌≤◌, ℕ, zero, suc, ◌+◌, List, le_refl, refl, ap, ◌∙◌, arith}
 use Rattle.std.specs.Prelude.{Option, Some, None, Result, Ok, Err, Vec}
 use Rattle.std.specs.declared.alloc.Global.{Global}
+use Rattle.gufi_io.specs.Calls.{one_more, many_more}
 use Rattle.gufi_io.specs.Files.{Files}
 use Rattle.gufi_io.specs.Kept.{Keeps}
 use Rattle.gufi_io.specs.declared.shelf.Shelf.{Ghosts as ShelfOf}
 use Rattle.gufi_base.specs.Basics.{◌>>=◌}
 use Rattle.gufi_users.specs.Entries.{PasswdEntry, GroupEntry, UserTables}
 use Rattle.gufi_top.specs.Reasons.{Reason, optional_file, passwd_within, group_within, passwd_in, group_in, tables_with, tables_beside, tables_in}
-use Rattle.gufi_top.specs.Calls.{Gives, GivesOver, HaltHasCause, IsOfBytes}
+use Rattle.gufi_top.specs.Calls.{Gives, GivesOver, HaltHasCause, IsOfBytes, Opens}
 use Rattle.gufi_top.specs.Views.{bytes_view}
 use Rattle.gufi_top.specs.declared.halt.Halt.{Halt}
 use Rattle.gufi_top.specs.declared.halt.Halt.TheVariants as halts
@@ -60,6 +61,37 @@ module _ {F : Type 0} (shelf : ShelfOf F) where
   cause_of_bytes old new (halts.Refused status note) (good, other) = (good, λ is. absurd (other is))
   cause_of_bytes old new halts.ReadFault h = absurd h
   cause_of_bytes old new halts.Memory h = tt
+
+-- ---- how many files were to be opened
+
+pub more_on : (at first second both : ℕ) → both ≡ first + second → many_more (many_more at first) second ≡ many_more at both
+unfolding many_more
+more_on at zero second both is = let same : both ≡ second = omega arith in rw same refl
+more_on at (suc first) second both is = let same : both ≡ suc (first + second) = omega arith in rw same (more_on (one_more at) first second (first + second) refl)
+
+module _ {F : Type 0} (shelf : ShelfOf F) where
+  opens_exactly : {A : Type 0} (r : Result A Halt) (count : ℕ) (old new : F) → shelf.opens new ≡ many_more (shelf.opens old) count → Opens shelf r count old new
+  opens_exactly (Ok x) count old new is = is
+  opens_exactly (Err e) count old new is = (count, le_refl count, is)
+
+  pub opens_both : {A : Type 0} (r : Result A Halt) (first second : ℕ) (old mid new : F)
+      → shelf.opens mid ≡ many_more (shelf.opens old) first → shelf.opens new ≡ many_more (shelf.opens mid) second → Opens shelf r (first + second) old new
+  opens_both r first second old mid new one two =
+      opens_exactly r (first + second) old new (two ∙ ap (λ (at : ℕ). many_more at second) one ∙ more_on (shelf.opens old) first second (first + second) refl)
+
+  pub opens_first : (first second : ℕ) (old new : F) → shelf.opens new ≡ many_more (shelf.opens old) first → (opened : ℕ) × (opened ≤ first + second) × (shelf.opens new ≡ many_more (shelf.opens old) opened)
+  opens_first first second old new one = (first, omega arith, one)
+
+  -- and then a script
+  pub opens_script : {A : Type 0} (r : Result A Halt) (first second : ℕ) (old mid new : F)
+      → shelf.opens mid ≡ many_more (shelf.opens old) (first + second) → shelf.opens new ≡ one_more (shelf.opens mid) → Opens shelf r (first + (second + 1)) old new
+  unfolding many_more
+  opens_script r first second old mid new both last =
+      opens_exactly r (first + (second + 1)) old new (last ∙ ap one_more both ∙ more_on (shelf.opens old) (first + second) 1 (first + (second + 1)) (omega arith))
+
+  pub opens_users : (first second : ℕ) (old new : F) → (opened : ℕ) × (opened ≤ first + second) × (shelf.opens new ≡ many_more (shelf.opens old) opened)
+      → (opened : ℕ) × (opened ≤ first + (second + 1)) × (shelf.opens new ≡ many_more (shelf.opens old) opened)
+  opens_users first second old new is = (is.0, (let few = is.1 in omega arith), is.2)
 
 -- ---- the files of users
 

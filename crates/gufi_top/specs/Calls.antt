@@ -1,5 +1,6 @@
 -- What the program's own calls give: the value of a step, or the reason for which it gives none.
 use Rattle.std.specs.Prelude.{◌≡◌, ◌≢◌, ◌≤◌, ℕ, List, ◌++◌, ⊤, Option, Some, None, Result, Ok, Err}
+use Rattle.gufi_io.specs.Calls.{many_more}
 use Rattle.gufi_io.specs.Files.{Files}
 use Rattle.gufi_io.specs.declared.shelf.Shelf.{Ghosts as ShelfOf}
 use Rattle.gufi_io.specs.Causes.{Rose}
@@ -39,6 +40,11 @@ abbrev pub HaltHasCause : {F : Type 0} → ShelfOf F → F → F → Halt → Ty
 HaltHasCause shelf old new (halts.Refused status note) = IsRefusal status × (status ≡ 8 → Rose (shelf.absents old) (shelf.absents new))
 HaltHasCause shelf old new halts.ReadFault = Rose (shelf.faults old) (shelf.faults new)
 HaltHasCause shelf old new halts.Memory = ⊤
+
+-- so many files were to be opened; where that halts, at most so many
+abbrev pub Opens : {A F : Type 0} → ShelfOf F → Result A Halt → ℕ → F → F → Type 0
+Opens shelf (Ok x) count old new = shelf.opens new ≡ many_more (shelf.opens old) count
+Opens shelf (Err e) count old new = (opened : ℕ) × (opened ≤ count) × (shelf.opens new ≡ many_more (shelf.opens old) opened)
 
 -- a reason that no shelf causes
 abbrev pub IsOfBytes : Halt → Type 0

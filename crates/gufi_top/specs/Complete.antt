@@ -20,7 +20,7 @@ use Rattle.gufi_words.specs.declared.command.Command.{Command}
 use Rattle.gufi_words.specs.declared.command.Command.TheVariants as commands
 use Rattle.gufi_top.specs.Reasons.{Reason, tables_in, trace_in, index_in}
 use Rattle.gufi_ask.specs.Asks.{Ask}
-use Rattle.gufi_top.specs.Verdict.{Verdict, writes, runs, Asking, stat_asking, find_asking, ls_asking, stats_asking, report_of, query_asking, agg_asking, session_plan, verdict}
+use Rattle.gufi_top.specs.Verdict.{Verdict, writes, runs, Asking, stat_asking, find_asking, ls_asking, stats_asking, report_of, form_of, query_asking, agg_asking, session_plan, verdict}
 use Rattle.gufi_top.specs.Ends.{EndedBy}
 
 -- ---- of the words and the files
@@ -51,12 +51,12 @@ abbrev pub IsAnswerable : Command → Files → Type 0
 IsAnswerable (commands.Walk trace uid gids delim) files = WalkIsAnswerable trace (principal uid gids) delim files
 IsAnswerable (commands.Trace2index trace delim) files = IsTrue (is_ok (trace_in delim trace files))
 IsAnswerable (commands.Rollup index delim limit) files = IsTrue (is_ok (index_in delim limit index files))
-IsAnswerable (commands.Query common text) files = AskIsAnswerable common (query_asking common.user_at text) files
-IsAnswerable (commands.Agg common text) files = AskIsAnswerable common (agg_asking common.user_at text) files
-IsAnswerable (commands.Find common now words) files = AskIsAnswerable common (find_asking common.user_at now words) files
+IsAnswerable (commands.Query common escape header json text) files = AskIsAnswerable common (query_asking common.user_at (form_of escape header json) text) files
+IsAnswerable (commands.Agg common names text) files = AskIsAnswerable common (agg_asking common.user_at names text) files
+IsAnswerable (commands.Find common now prefix words) files = AskIsAnswerable common (find_asking common.user_at now prefix words) files
 IsAnswerable (commands.Ls common long all) files = AskIsAnswerable common (ls_asking long all) files
 IsAnswerable (commands.Stat common) files = AskIsAnswerable common stat_asking files
-IsAnswerable (commands.Stats common report) files = AskIsAnswerable common (stats_asking (report_of report)) files
+IsAnswerable (commands.Stats common names report) files = AskIsAnswerable common (stats_asking names (report_of report)) files
 IsAnswerable (commands.Session passwd group delim workers now cache script) files = SessionIsAnswerable files (session_plan passwd group delim now script files)
 IsAnswerable (commands.Gen n delim workers summary) files = (1 ≤ n) × (n ≤ 200000) × IsTrue (may_delimit delim)
 
@@ -66,7 +66,7 @@ IsAnswerable (commands.Gen n delim workers summary) files = (1 ≤ n) × (n ≤ 
 abbrev pub IsAnswered : Result Verdict Reason → Type 0
 IsAnswered (Err why) = ⊥
 IsAnswered (Ok (writes whole)) = ⊤
-IsAnswered (Ok (runs files run cache)) = run.stop ≡ None
+IsAnswered (Ok (runs files plan cache)) = (run_of files plan).stop ≡ None
 
 -- ---- of the run
 

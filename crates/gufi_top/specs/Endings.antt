@@ -3,6 +3,7 @@ use Rattle.std.specs.Prelude.{◌≡◌, ◌⊎◌, ◌≤◌, ℕ, List, Option
 use Rattle.std.specs.Io.KnownBytes.{Appends}
 use Rattle.gufi_io.specs.Causes.{Rose}
 use Rattle.gufi_io.specs.Files.{TakesFront}
+use Rattle.gufi_io.specs.Kept.{Keeps}
 use Rattle.gufi_io.specs.declared.shelf.Shelf.{Ghosts as ShelfOf}
 use Rattle.gufi_io.specs.declared.sink.Sink.{Ghosts as SinkOf}
 use Rattle.gufi_phases.specs.declared.load.Stop.{Stop}
@@ -10,19 +11,19 @@ use Rattle.gufi_phases.specs.declared.session.End.{End}
 use Rattle.gufi_phases.specs.declared.session.End.TheVariants as ends
 use Rattle.gufi_top.specs.Reasons.{Reason, stop_reason}
 use Rattle.gufi_top.specs.Verdict.{Verdict}
-use Rattle.gufi_top.specs.Ends.{IsVerdictStatus, EndedBy, BrokenOffBy, WriteFaultedBy, TakesNote, read_fault_note, write_fault_note, memory_note}
+use Rattle.gufi_top.specs.Ends.{IsVerdictStatus, EndedBy, Anywhere, FailedBehind, BrokenOffBy, WriteFaultedBy, TakesNote, read_fault_note, write_fault_note, memory_note}
 use Rattle.gufi_top.specs.declared.halt.Halt.{Halt}
 use Rattle.gufi_top.specs.declared.halt.Halt.TheVariants as halts
 
--- an end that the verdict allows, and one of the others only where its count rose; the files stay what they were
-pub record HasRun {F K : Type 0} (shelf : ShelfOf F) (sink : SinkOf K) (given : Option (Result Verdict Reason)) (status : ℕ) (numbers : List ℕ) (before after : F) (out out' notes notes' : K) : Type 0 where
+-- an end that the verdict allows, and one of the others only where its count rose; the files stay what they were, and no count fell
+pub record HasRun {F K : Type 0} (shelf : ShelfOf F) (sink : SinkOf K) (ahead : ℕ) (given : Option (Result Verdict Reason)) (status : ℕ) (numbers : List ℕ) (before after : F) (out out' notes notes' : K) : Type 0 where
   pub ended : IsVerdictStatus status → EndedBy sink given status numbers out out' notes notes'
   pub absent : status ≡ 8 → Rose (shelf.absents before) (shelf.absents after)
-  pub read_fault : status ≡ 3 → Rose (shelf.faults before) (shelf.faults after) × BrokenOffBy sink given numbers out out' notes notes' read_fault_note
+  pub read_fault : status ≡ 3 → Rose (shelf.faults before) (shelf.faults after) × BrokenOffBy sink (FailedBehind shelf ahead before after) given numbers out out' notes notes' read_fault_note
   pub write_fault : status ≡ 4 → WriteFaultedBy sink given numbers out out' notes notes'
-  pub memory : status ≡ 7 → BrokenOffBy sink given numbers out out' notes notes' memory_note
+  pub memory : status ≡ 7 → BrokenOffBy sink Anywhere given numbers out out' notes notes' memory_note
   pub known : status ≤ 8
-  pub same : shelf.files after ≡ shelf.files before
+  pub kept : Keeps shelf before after
 
 -- ---- the status that is told, and the note that was taken
 
@@ -58,4 +59,5 @@ module _ {K : Type 0} (sink : SinkOf K) where
   EndTells note (ends.Stopped stop) status old new = StopTells stop status old new
   EndTells note ends.ReadFault status old new = (status ≡ 3) × TakesNote sink old new read_fault_note
   EndTells note ends.WriteFault status old new = (status ≡ 4) × TakesNote sink old new write_fault_note
+  EndTells note ends.Full status old new = ⊥
   EndTells note ends.Memory status old new = (status ≡ 7) × TakesNote sink old new memory_note

@@ -1,14 +1,19 @@
 -- How a run may end: its status and numbers, what the output took, and the note.
-use Rattle.std.specs.Prelude.{◌≡◌, ◌≢◌, ◌⊎◌, ℕ, ◌==◌, List, [], ◌++◌, length, codes, decimal, ⊤, Option, Some, None, option_map, Result, Ok, Err, if◌then◌else◌}
+use Rattle.std.specs.Prelude.{◌≡◌, ◌≢◌, ◌⊎◌, ℕ, ◌==◌, List, [], ◌++◌, length, codes, decimal, ⊤, Option, Some, None, option_map, Result, Ok, Err, if◌then◌else◌, ◌≤◌}
 use Rattle.std.specs.Io.KnownBytes.{Appends}
+use Rattle.gufi_io.specs.Calls.{many_more}
 use Rattle.gufi_io.specs.Causes.{Rose}
 use Rattle.gufi_io.specs.Files.{Files, TakesFront}
+use Rattle.gufi_io.specs.Kept.{Keeps}
+use Rattle.gufi_io.specs.declared.shelf.Shelf.{Ghosts as ShelfOf}
 use Rattle.gufi_io.specs.declared.sink.Sink.{Ghosts as SinkOf}
 use Rattle.gufi_base.specs.Basics.{line}
 use Rattle.gufi_phases.specs.declared.load.Stop.{Stop}
+use Rattle.gufi_plan.specs.Plan.{Plan}
 use Rattle.gufi_plan.specs.Asks.{searches_of}
-use Rattle.gufi_session.specs.Run.{Run}
-use Rattle.gufi_session.specs.Ends.{AnsweredWhole, AnsweredInPart}
+use Rattle.gufi_session.specs.Run.{Run, run_of}
+use Rattle.gufi_session.specs.Ends.{AnsweredWhole, AnsweredInPart, AnsweredWhere}
+use Rattle.gufi_session.specs.Loading.{FailsBehind}
 use Rattle.gufi_session.specs.Hits.{session_hits}
 use Rattle.gufi_top.specs.Reasons.{Reason, stop_reason}
 use Rattle.gufi_top.specs.Verdict.{Verdict, writes, runs, verdict}
@@ -46,21 +51,34 @@ RunEnds (Some stop) kept status note = (status ≡ (stop_reason stop).status) ×
 abbrev pub EndsWith : Result Verdict Reason → ℕ → List ℕ → List ℕ → List ℕ → Type 0
 EndsWith (Err why) status numbers text note = (status ≡ why.status) × (numbers ≡ []) × (text ≡ []) × (note ≡ why.note)
 EndsWith (Ok (writes whole)) status numbers text note = (status ≡ 0) × (numbers ≡ []) × (text ≡ whole.out) × (note ≡ whole.notes)
-EndsWith (Ok (runs files run cache)) status numbers text note = AnsweredWhole files run numbers text × RunEnds run.stop (cache_note files run cache numbers) status note
+EndsWith (Ok (runs files plan cache)) status numbers text note =
+    AnsweredWhole files (run_of files plan) numbers text × RunEnds (run_of files plan).stop (cache_note files (run_of files plan) cache numbers) status note
 
--- where reading failed or memory ran out: nothing was written, or the first phases of a session
-abbrev pub BreaksOff : Result Verdict Reason → List ℕ → List ℕ → Type 0
-BreaksOff (Err why) numbers text = (numbers ≡ []) × (text ≡ [])
-BreaksOff (Ok (writes whole)) numbers text = (numbers ≡ []) × (text ≡ [])
-BreaksOff (Ok (runs files run cache)) numbers text = AnsweredInPart files run numbers text
+-- Where reading failed or memory ran out: nothing was written, or the first phases of a session. `broke` says whether it broke off behind
+-- so many phases of a plan.
+abbrev pub BreaksOff : (Plan → ℕ → Type 0) → Result Verdict Reason → List ℕ → List ℕ → Type 0
+BreaksOff broke (Err why) numbers text = (numbers ≡ []) × (text ≡ [])
+BreaksOff broke (Ok (writes whole)) numbers text = (numbers ≡ []) × (text ≡ [])
+BreaksOff broke (Ok (runs files plan cache)) numbers text = AnsweredWhere (broke plan) files (run_of files plan) numbers text
+
+-- memory may run out behind any of them
+abbrev pub Anywhere : Plan → ℕ → Type 0
+Anywhere plan count = ⊤
+
+-- Reading failed behind exactly so many phases: before all, at one of so many files of users and of the script, or at those of the phase
+-- behind them. How many files were opened tells which.
+abbrev pub FailedBehind : {F : Type 0} → ShelfOf F → ℕ → F → F → Plan → ℕ → Type 0
+FailedBehind {F} shelf ahead old new plan count =
+    ((count ≡ 0) × ((opened : ℕ) × (opened ≤ ahead) × (shelf.opens new ≡ many_more (shelf.opens old) opened)))
+    ⊎ ((begun : F) × Keeps shelf old begun × (shelf.opens begun ≡ many_more (shelf.opens old) ahead) × FailsBehind shelf plan count begun new)
 
 -- where writing failed: of which text a front was taken, and which note was to come with status 0
 abbrev pub IsCut : Result Verdict Reason → List ℕ → List ℕ → List ℕ → Type 0
 IsCut (Err why) numbers text note = ⊥
 IsCut (Ok (writes whole)) numbers text note = (numbers ≡ []) × (text ≡ whole.out) × (note ≡ whole.notes)
-IsCut (Ok (runs files run cache)) numbers text note =
-    (AnsweredInPart files run numbers text × (note ≡ []))
-    ⊎ (AnsweredWhole files run numbers text × (run.stop ≡ None) × (note ≡ cache_note files run cache numbers))
+IsCut (Ok (runs files plan cache)) numbers text note =
+    (AnsweredInPart files (run_of files plan) numbers text × (note ≡ []))
+    ⊎ (AnsweredWhole files (run_of files plan) numbers text × ((run_of files plan).stop ≡ None) × (note ≡ cache_note files (run_of files plan) cache numbers))
 
 -- ---- the same of a verdict that is given where the shelf tells its files
 
@@ -71,9 +89,9 @@ abbrev pub MayEnd : Option (Result Verdict Reason) → ℕ → List ℕ → List
 MayEnd None status numbers text note = ⊤
 MayEnd (Some given) status numbers text note = EndsWith given status numbers text note
 
-abbrev pub MayBreakOff : Option (Result Verdict Reason) → List ℕ → List ℕ → Type 0
-MayBreakOff None numbers text = ⊤
-MayBreakOff (Some given) numbers text = BreaksOff given numbers text
+abbrev pub MayBreakOff : (Plan → ℕ → Type 0) → Option (Result Verdict Reason) → List ℕ → List ℕ → Type 0
+MayBreakOff broke None numbers text = ⊤
+MayBreakOff broke (Some given) numbers text = BreaksOff broke given numbers text
 
 abbrev pub MayBeCut : Option (Result Verdict Reason) → List ℕ → List ℕ → List ℕ → Type 0
 MayBeCut None numbers text note = ⊤
@@ -95,7 +113,7 @@ module _ {K : Type 0} (sink : SinkOf K) where
   abbrev pub IsNoted : Result Verdict Reason → K → K → List ℕ → Type 0
   IsNoted (Err why) old new note = TakesNote old new note
   IsNoted (Ok (writes whole)) old new note = Appends (sink.taken old) (sink.taken new) note
-  IsNoted (Ok (runs files run cache)) old new note = IsRunNoted run.stop old new note
+  IsNoted (Ok (runs files plan cache)) old new note = IsRunNoted (run_of files plan).stop old new note
 
   abbrev pub MayBeNoted : Option (Result Verdict Reason) → K → K → List ℕ → Type 0
   MayBeNoted None old new note = TakesNote old new note
@@ -112,9 +130,9 @@ module _ {K : Type 0} (sink : SinkOf K) where
     pub noted : MayBeNoted given notes notes' note
 
   -- the run broke off, and this note was taken
-  pub record BrokenOffBy (given : Option (Result Verdict Reason)) (numbers : List ℕ) (out out' notes notes' : K) (note : List ℕ) : Type 0 where
+  pub record BrokenOffBy (broke : Plan → ℕ → Type 0) (given : Option (Result Verdict Reason)) (numbers : List ℕ) (out out' notes notes' : K) (note : List ℕ) : Type 0 where
     pub text : List ℕ
-    pub answer : MayBreakOff given numbers text
+    pub answer : MayBreakOff broke given numbers text
     pub taken : Appends (sink.taken out) (sink.taken out') text
     pub noted : TakesNote notes notes' note
 
@@ -136,8 +154,8 @@ module _ {K : Type 0} (sink : SinkOf K) where
   abbrev pub Ended : Option Files → List (List ℕ) → Outcome → K → K → K → K → Type 0
   Ended told words outcome = EndedBy (told_verdict told words) outcome.status outcome.numbers.items
 
-  abbrev pub BrokenOff : Option Files → List (List ℕ) → Outcome → K → K → K → K → List ℕ → Type 0
-  BrokenOff told words outcome = BrokenOffBy (told_verdict told words) outcome.numbers.items
+  abbrev pub BrokenOff : (Plan → ℕ → Type 0) → Option Files → List (List ℕ) → Outcome → K → K → K → K → List ℕ → Type 0
+  BrokenOff broke told words outcome = BrokenOffBy broke (told_verdict told words) outcome.numbers.items
 
   abbrev pub WriteFaulted : Option Files → List (List ℕ) → Outcome → K → K → K → K → Type 0
   WriteFaulted told words outcome = WriteFaultedBy (told_verdict told words) outcome.numbers.items

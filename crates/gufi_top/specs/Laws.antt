@@ -1,10 +1,10 @@
 -- Laws of what the commands come to. A public function's contract has to name each.
-use Rattle.std.specs.Prelude.{◌≡◌, ◌≤◌, ◌<◌, ◌^◌, ℕ, ℤ, Bool, not, ◌||◌, IsTrue, List, [], length, filter, Option, Some, is_ok, Ok}
+use Rattle.std.specs.Prelude.{◌≡◌, ◌≤◌, ◌<◌, ◌^◌, ℕ, ℤ, Bool, not, ◌||◌, IsTrue, List, [], ◌++◌, length, filter, Option, Some, None, is_ok, Ok}
 use Rattle.std.specs.List.{flat_map, list_all}
 use Rattle.gufi_io.specs.Files.{Files}
-use Rattle.gufi_base.specs.Basics.{is_empty}
+use Rattle.gufi_base.specs.Basics.{is_empty, line}
 use Rattle.gufi_base.specs.Delimiters.{may_delimit}
-use Rattle.gufi_base.specs.Paths.{is_too_long}
+use Rattle.gufi_base.specs.Paths.{is_too_long, slashed_text}
 use Rattle.gufi_base.specs.Rows.{are_bytes, depth_below}
 use Rattle.gufi_rows.specs.PathLines.{path_lines}
 use Rattle.gufi_access.specs.declared.class.Principal.{Principal}
@@ -38,9 +38,17 @@ WalkWritesTheListedRows = (words : List (List ℕ)) (files : Files) (trace : Lis
 -- `find` writes, in path order, a line for each row of the tree that its index means whose directory USER lists by walking from START and for which the expression is true.
 abbrev pub FindWritesTheListedRows : Type 0
 FindWritesTheListedRows = (words : List (List ℕ)) (files : Files) (common : Common) (now : Option ℤ) (tests : List (List ℕ)) (tables : UserTables) (snap : Snap) (who : Principal) (expression : Find)
-    → read_words words ≡ Ok (commands.Find common now tests) → tables_in common.passwd common.group files ≡ Ok tables → index_in common.delim common.limit common.index files ≡ Ok snap
+    → read_words words ≡ Ok (commands.Find common now None tests) → tables_in common.passwd common.group files ≡ Ok tables → index_in common.delim common.limit common.index files ≡ Ok snap
     → principal_of tables common.user ≡ Some who → read_find tests tables now ≡ Ok expression → IsTrue (is_found (resolve snap.tree who common.start))
     → verdict words files ≡ writes_only (path_lines (filter (λ row. find_holds expression row (depth_below (length common.start) row)) (listed_rows snap.tree who common.start)))
+
+-- `find --prefix` writes, in the same order, for each of these rows PREFIX and the path's text; for the root PREFIX alone.
+abbrev pub FindWritesTheListedRowsBehindItsPrefix : Type 0
+FindWritesTheListedRowsBehindItsPrefix = (words : List (List ℕ)) (files : Files) (common : Common) (now : Option ℤ) (prefix : List ℕ) (tests : List (List ℕ)) (tables : UserTables) (snap : Snap) (who : Principal) (expression : Find)
+    → read_words words ≡ Ok (commands.Find common now (Some prefix) tests) → tables_in common.passwd common.group files ≡ Ok tables → index_in common.delim common.limit common.index files ≡ Ok snap
+    → principal_of tables common.user ≡ Some who → read_find tests tables now ≡ Ok expression → IsTrue (is_found (resolve snap.tree who common.start))
+    → verdict words files
+    ≡ writes_only (flat_map (λ row. line (prefix ++ slashed_text row.path)) (filter (λ row. find_holds expression row (depth_below (length common.start) row)) (listed_rows snap.tree who common.start)))
 
 -- Where the files let a command be answered, nothing is refused: its verdict is a whole text, or a session that no file ends.
 abbrev pub AnswerableCommandsAreAnswered : Type 0

@@ -32,6 +32,8 @@ use Rattle.gufi_find.specs.Faults.{find_kind_text}
 use Rattle.gufi_select.specs.declared.fault.SelectError.{SelectError}
 use Rattle.gufi_select.specs.declared.fault.SelectError.TheVariants as select_errors
 use Rattle.gufi_select.specs.Faults.{select_kind_text}
+use Rattle.gufi_select.specs.declared.column.Column.{Column}
+use Rattle.gufi_forms.specs.Names.{column_name}
 use Rattle.gufi_agg.specs.declared.fault.AggError.{AggError}
 use Rattle.gufi_agg.specs.declared.fault.AggError.TheVariants as agg_errors
 use Rattle.gufi_agg.specs.Faults.{agg_kind_text}
@@ -178,6 +180,10 @@ abbrev pub select_reason : ℕ → SelectError → Reason
 select_reason user_at (select_errors.Fault offset kind) = text_fault (capped_number (user_at + 2)) offset (select_kind_text kind)
 select_reason user_at select_errors.Memory = no_memory
 
+-- a column that stands twice, where each has to be a member of one object
+abbrev pub column_twice : ℕ → Column → Reason
+column_twice user_at column = word_fault (capped_number (user_at + 2)) (codes "Twice " ++ column_name column)
+
 abbrev pub agg_reason : ℕ → AggError → Reason
 agg_reason user_at (agg_errors.Fault offset kind) = text_fault (capped_number (user_at + 2)) offset (agg_kind_text kind)
 agg_reason user_at agg_errors.Memory = no_memory
@@ -204,6 +210,11 @@ file_within file limit bytes = refuse (nat_lt limit (length bytes)) (past_limit 
 -- the bytes of a file that the words name, which are at most so many
 unfoldable pub file_in : ℕ → List ℕ → Files → Result (List ℕ) Reason
 file_in limit file files = held files file >>= λ bytes. file_within file limit bytes
+
+-- how many files are named, where one may be
+abbrev pub named_count : Option (List ℕ) → ℕ
+named_count None = 0
+named_count (Some file) = 1
 
 -- a file that isn't named stands for an empty one
 unfoldable pub optional_file : Option (List ℕ) → Files → Result (List ℕ) Reason

@@ -1,5 +1,5 @@
 -- What the words and the files come to: a reason with its status and note, a text, or the run of a session.
-use Rattle.std.specs.Prelude.{◌≡◌, ℕ, ℤ, min, Bool, true, false, List, [], ◌∷◌, ◌++◌, Option, ok_or, Result, Ok, Err, if◌then◌else◌, codes}
+use Rattle.std.specs.Prelude.{◌≡◌, ℕ, ◌+◌, ℤ, min, Bool, true, false, List, [], ◌∷◌, ◌++◌, Option, Some, None, ok_or, Result, Ok, Err, if◌then◌else◌, codes}
 use Rattle.gufi_io.specs.Files.{Files}
 use Rattle.gufi_base.specs.Basics.{◌>>=◌, result_map_err}
 use Rattle.gufi_base.specs.Paths.{Components}
@@ -11,10 +11,14 @@ use Rattle.gufi_users.specs.Entries.{UserTables}
 use Rattle.gufi_users.specs.Users.{principal_of}
 use Rattle.gufi_find.specs.Expressions.{Find}
 use Rattle.gufi_find.specs.Reading.{read_find}
+use Rattle.gufi_select.specs.declared.column.Column.{Column}
 use Rattle.gufi_select.specs.Columns.{Select}
 use Rattle.gufi_select.specs.Reading.{read_select}
 use Rattle.gufi_agg.specs.Aggs.{Agg}
 use Rattle.gufi_agg.specs.Reading.{read_agg}
+use Rattle.gufi_forms.specs.declared.form.Form.{Form}
+use Rattle.gufi_forms.specs.declared.form.Form.TheVariants.{Lines, Json}
+use Rattle.gufi_forms.specs.Names.{first_twice}
 use Rattle.gufi_stats.specs.declared.report.Report.{Report}
 use Rattle.gufi_stats.specs.declared.report.Report.TheVariants as reports
 use Rattle.gufi_gen.specs.Generated.{gen_text}
@@ -23,14 +27,13 @@ use Rattle.gufi_image.specs.Image.{image_text}
 use Rattle.gufi_walk.specs.declared.refusal.Refusal.{Refusal}
 use Rattle.gufi_script.specs.ScriptText.{PlacedAct}
 use Rattle.gufi_plan.specs.Plan.{Setting, Plan, plan}
-use Rattle.gufi_session.specs.Run.{Run, run_of}
 use Rattle.gufi_words.specs.CommandWords.{read_words}
 use Rattle.gufi_words.specs.declared.command.ReportWord.{ReportWord}
 use Rattle.gufi_words.specs.declared.command.ReportWord.TheVariants as report_words
 use Rattle.gufi_words.specs.declared.command.Common.{Common}
 use Rattle.gufi_words.specs.declared.command.Command.{Command}
 use Rattle.gufi_words.specs.declared.command.Command.TheVariants as commands
-use Rattle.gufi_top.specs.Reasons.{Reason, word_refused, words_reason, find_reason, select_reason, agg_reason, script_reason, start_reason, tables_in, acts_in, trace_in, tree_within, index_in}
+use Rattle.gufi_top.specs.Reasons.{Reason, word_refused, words_reason, find_reason, select_reason, column_twice, agg_reason, script_reason, start_reason, named_count, tables_in, acts_in, trace_in, tree_within, index_in}
 use Rattle.gufi_ask.specs.Asks.{Ask, walk_ask, find_ask, ls_ask, stat_ask, stats_ask, total_ask, query_ask, agg_ask, ask_reply}
 
 -- what goes to the output, and the note of status 0
@@ -38,10 +41,10 @@ pub record Written : Type 0 where
   pub out : List ℕ
   pub notes : List ℕ
 
--- a text, or the run of a session over the files, and how many of its last replies each lane keeps
+-- a text, or the run of a plan over the files, and how many of its last replies each lane keeps
 pub data Verdict : Type 0 where
   writes : Written → Verdict
-  runs : Files → Run → ℕ → Verdict
+  runs : Files → Plan → ℕ → Verdict
 
 abbrev pub writes_only : List ℕ → Result Verdict Reason
 writes_only text = Ok (writes (record { out = text; notes = [] }))
@@ -90,8 +93,8 @@ stat_asking tables = Ok stat_ask
 abbrev pub expression_in : ℕ → Option ℤ → List (List ℕ) → UserTables → Result Find Reason
 expression_in user_at now words tables = result_map_err (find_reason user_at) (read_find words tables now)
 
-abbrev pub find_asking : ℕ → Option ℤ → List (List ℕ) → Asking
-find_asking user_at now words tables = expression_in user_at now words tables >>= λ expression. Ok (find_ask expression)
+abbrev pub find_asking : ℕ → Option ℤ → Option (List ℕ) → List (List ℕ) → Asking
+find_asking user_at now prefix words tables = expression_in user_at now words tables >>= λ expression. Ok (find_ask prefix expression)
 
 abbrev pub ls_asking : Bool → Bool → Asking
 ls_asking long all tables = Ok (ls_ask tables long all)
@@ -102,22 +105,42 @@ report_of report_words.Uids = reports.Uids
 report_of report_words.Gids = reports.Gids
 report_of report_words.Leaves = reports.Leaves
 
-abbrev pub stats_asking : Report → Asking
-stats_asking report tables = Ok (stats_ask report)
+-- the users, where owners and groups are to be named
+abbrev pub named_by : Bool → UserTables → Option UserTables
+named_by names tables = if names then Some tables else None
 
--- the text of a query, in which no users play a part
-abbrev pub select_in : ℕ → List ℕ → Result Select Reason
-select_in user_at text = result_map_err (select_reason user_at) (read_select text)
+abbrev pub stats_asking : Bool → Report → Asking
+stats_asking names report tables = Ok (stats_ask (named_by names tables) report)
 
-abbrev pub query_asking : ℕ → List ℕ → Asking
-query_asking user_at text tables = select_in user_at text >>= λ select. Ok (query_ask select)
+-- the form of a query's rows, by its options
+abbrev pub form_of : Bool → Bool → Bool → Form
+form_of escape header json = if json then Json else Lines escape header
+
+-- a column that is named twice, where each has to be a member of one object
+abbrev pub twice_in : Form → Select → Option Column
+twice_in (Lines escape header) select = None
+twice_in Json select = first_twice select.columns
+
+abbrev pub unless_twice : ℕ → Select → Option Column → Result Select Reason
+unless_twice user_at select None = Ok select
+unless_twice user_at select (Some column) = Err (column_twice user_at column)
+
+abbrev pub written_in : ℕ → Form → Select → Result Select Reason
+written_in user_at form select = unless_twice user_at select (twice_in form select)
+
+-- the text of a query that is to be answered in a form, in which no users play a part
+abbrev pub select_in : ℕ → Form → List ℕ → Result Select Reason
+select_in user_at form text = result_map_err (select_reason user_at) (read_select text) >>= written_in user_at form
+
+abbrev pub query_asking : ℕ → Form → List ℕ → Asking
+query_asking user_at form text tables = select_in user_at form text >>= λ select. Ok (query_ask form select)
 
 -- the text of an agg, in which no users play a part either
 abbrev pub agg_in : ℕ → List ℕ → Result Agg Reason
 agg_in user_at text = result_map_err (agg_reason user_at) (read_agg text)
 
-abbrev pub agg_asking : ℕ → List ℕ → Asking
-agg_asking user_at text tables = agg_in user_at text >>= λ agg. Ok (agg_ask agg)
+abbrev pub agg_asking : ℕ → Bool → List ℕ → Asking
+agg_asking user_at names text tables = agg_in user_at text >>= λ agg. Ok (agg_ask (named_by names tables) agg)
 
 -- ---- trace2index: the image of a trace's tree, of which nothing is rolled up
 
@@ -149,7 +172,7 @@ abbrev pub max_cache : ℕ
 max_cache = 256
 
 abbrev pub run_over : ℕ → Plan → Files → Result Verdict Reason
-run_over cache planned files = Ok (runs files (run_of files planned) cache)
+run_over cache planned files = Ok (runs files planned cache)
 
 unfoldable pub session_over : Option (List ℕ) → Option (List ℕ) → ℕ → Option ℤ → ℕ → List ℕ → Files → Result Verdict Reason
 session_over passwd group delim now cache script files = session_plan passwd group delim now script files >>= λ planned. run_over cache planned files
@@ -188,12 +211,12 @@ unfoldable pub command_over : Command → Files → Result Verdict Reason
 command_over (commands.Walk trace uid gids delim) = walk_over trace (principal uid gids) delim
 command_over (commands.Trace2index trace delim) = trace2index_over trace delim
 command_over (commands.Rollup index delim limit) = rollup_over index delim limit
-command_over (commands.Query common text) = ask_over common (query_asking common.user_at text)
-command_over (commands.Agg common text) = ask_over common (agg_asking common.user_at text)
-command_over (commands.Find common now words) = ask_over common (find_asking common.user_at now words)
+command_over (commands.Query common escape header json text) = ask_over common (query_asking common.user_at (form_of escape header json) text)
+command_over (commands.Agg common names text) = ask_over common (agg_asking common.user_at names text)
+command_over (commands.Find common now prefix words) = ask_over common (find_asking common.user_at now prefix words)
 command_over (commands.Ls common long all) = ask_over common (ls_asking long all)
 command_over (commands.Stat common) = ask_over common stat_asking
-command_over (commands.Stats common report) = ask_over common (stats_asking (report_of report))
+command_over (commands.Stats common names report) = ask_over common (stats_asking names (report_of report))
 command_over (commands.Session passwd group delim workers now cache script) = session_over passwd group delim now (min cache max_cache) script
 command_over (commands.Gen n delim workers summary) = gen_over n delim summary
 
@@ -202,14 +225,19 @@ abbrev pub is_one_shot : Command → Bool
 is_one_shot (commands.Walk trace uid gids delim) = true
 is_one_shot (commands.Trace2index trace delim) = true
 is_one_shot (commands.Rollup index delim limit) = true
-is_one_shot (commands.Query common text) = true
-is_one_shot (commands.Agg common text) = true
-is_one_shot (commands.Find common now words) = true
+is_one_shot (commands.Query common escape header json text) = true
+is_one_shot (commands.Agg common names text) = true
+is_one_shot (commands.Find common now prefix words) = true
 is_one_shot (commands.Ls common long all) = true
 is_one_shot (commands.Stat common) = true
-is_one_shot (commands.Stats common report) = true
+is_one_shot (commands.Stats common names report) = true
 is_one_shot (commands.Session passwd group delim workers now cache script) = false
 is_one_shot (commands.Gen n delim workers summary) = true
+
+-- how many files are opened ahead of those that a session's script names: of users, and the script
+abbrev pub files_ahead : Command → ℕ
+files_ahead (commands.Session passwd group delim workers now cache script) = named_count passwd + (named_count group + 1)
+files_ahead command = 0
 
 -- ---- the verdict
 
@@ -231,12 +259,12 @@ abbrev pub MayRefuse : Command → Reason → Type 0
 MayRefuse (commands.Walk trace uid gids delim) why = ⊥
 MayRefuse (commands.Trace2index trace delim) why = ⊥
 MayRefuse (commands.Rollup index delim limit) why = ⊥
-MayRefuse (commands.Query common text) why = AskMayRefuse common (query_asking common.user_at text) why
-MayRefuse (commands.Agg common text) why = AskMayRefuse common (agg_asking common.user_at text) why
-MayRefuse (commands.Find common now words) why = AskMayRefuse common (find_asking common.user_at now words) why
+MayRefuse (commands.Query common escape header json text) why = AskMayRefuse common (query_asking common.user_at (form_of escape header json) text) why
+MayRefuse (commands.Agg common names text) why = AskMayRefuse common (agg_asking common.user_at names text) why
+MayRefuse (commands.Find common now prefix words) why = AskMayRefuse common (find_asking common.user_at now prefix words) why
 MayRefuse (commands.Ls common long all) why = AskMayRefuse common (ls_asking long all) why
 MayRefuse (commands.Stat common) why = AskMayRefuse common stat_asking why
-MayRefuse (commands.Stats common report) why = AskMayRefuse common (stats_asking (report_of report)) why
+MayRefuse (commands.Stats common names report) why = AskMayRefuse common (stats_asking names (report_of report)) why
 MayRefuse (commands.Session passwd group delim workers now cache script) why = ⊥
 MayRefuse (commands.Gen n delim workers summary) why = ⊥
 
@@ -255,3 +283,10 @@ is_one_shot_read (Err why) = true
 
 abbrev pub are_one_shot : List (List ℕ) → Bool
 are_one_shot words = is_one_shot_read (command_in words)
+
+abbrev pub files_ahead_read : Result Command Reason → ℕ
+files_ahead_read (Ok command) = files_ahead command
+files_ahead_read (Err why) = 0
+
+abbrev pub files_ahead_of : List (List ℕ) → ℕ
+files_ahead_of words = files_ahead_read (command_in words)

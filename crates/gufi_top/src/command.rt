@@ -1,5 +1,6 @@
 //! Commands.
 ghost use Rattle.std.specs.Prelude.{◌≡◌, IfErr, IfOk, IsTrue};
+ghost use Rattle.gufi_io.specs.Kept.{Keeps};
 ghost use Rattle.gufi_top.specs.Views.{text_view};
 ghost use Rattle.gufi_access.specs.Access.{principal};
 ghost use Rattle.gufi_top.specs.Verdict.{walk_over, command_over, is_one_shot, MayRefuse};
@@ -43,7 +44,7 @@ fn walk_as<R: Threads + Wait + Sync, F: Shelf, G: Gate + Sync>(
     ensures text { GivesOver (F.files shelf.old) text_view result (walk_over trace.now (principal uid gids.now) delim) }
     ensures past_words { IfErr result IsPastWords }
     ensures cause { IfErr result (HaltHasCause F.Shelf shelf.old shelf.new) }
-    ensures same { F.files shelf.new ≡ F.files shelf.old }
+    ensures kept { Keeps F.Shelf shelf.old shelf.new }
 {
     match principal_of(alloc, uid, gids) {
         Ok(who) => walk(walkers, alloc, shelf, trace, &who, delim),
@@ -77,7 +78,7 @@ pub(crate) fn answer_command<R: Threads + Wait + Sync, F: Shelf, G: Gate + Sync>
     ensures text { GivesOver (F.files shelf.old) text_view result (command_over command.now) }
     ensures words { IfErr result (OfWordsOnlyBy (MayRefuse command.now)) }
     ensures cause { IfErr result (HaltHasCause F.Shelf shelf.old shelf.new) }
-    ensures same { F.files shelf.new ≡ F.files shelf.old }
+    ensures kept { Keeps F.Shelf shelf.old shelf.new }
 {
     match command {
         Command::Walk {
@@ -94,16 +95,31 @@ pub(crate) fn answer_command<R: Threads + Wait + Sync, F: Shelf, G: Gate + Sync>
             delim,
             limit,
         } => rollup(alloc, shelf, index.as_str(), *delim, *limit),
-        Command::Find { common, now, words } => {
-            let question = Question::find(common, *now, words);
+        Command::Find {
+            common,
+            now,
+            prefix,
+            words,
+        } => {
+            let question = Question::find(common, *now, prefix, words);
             ask(walkers, alloc, shelf, common, &question)
         }
-        Command::Query { common, text } => {
-            let question = Question::query(common, text);
+        Command::Query {
+            common,
+            escape,
+            header,
+            json,
+            text,
+        } => {
+            let question = Question::query(common, *escape, *header, *json, text);
             ask(walkers, alloc, shelf, common, &question)
         }
-        Command::Agg { common, text } => {
-            let question = Question::agg(common, text);
+        Command::Agg {
+            common,
+            names,
+            text,
+        } => {
+            let question = Question::agg(common, *names, text);
             ask(walkers, alloc, shelf, common, &question)
         }
         Command::Ls { common, long, all } => {
@@ -114,8 +130,12 @@ pub(crate) fn answer_command<R: Threads + Wait + Sync, F: Shelf, G: Gate + Sync>
             ask(walkers, alloc, shelf, common, &question)
         }
         Command::Stat { common } => ask(walkers, alloc, shelf, common, &Question::Stat),
-        Command::Stats { common, report } => {
-            let question = Question::stats(*report);
+        Command::Stats {
+            common,
+            names,
+            report,
+        } => {
+            let question = Question::stats(*names, *report);
             ask(walkers, alloc, shelf, common, &question)
         }
         Command::Gen {

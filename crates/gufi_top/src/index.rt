@@ -107,7 +107,7 @@ fn feed_rest<F: Shelf>(
     ensures refused { IfErr result (λ e. GivesOver (F.files shelf.old) bytes_view (Err e) (file_in max_image name.now)) }
     ensures past_words { IfErr result IsPastWords }
     ensures cause { IfErr result (HaltHasCause F.Shelf shelf.old shelf.new) }
-    ensures same { F.files shelf.new ≡ F.files shelf.old }
+    ensures kept { Keeps F.Shelf shelf.old shelf.new }
 {
     let mut feed = Feed { reader };
     match read_rest(alloc, shelf, name, room, MAX_IMAGE, size, &mut feed) {
@@ -155,7 +155,7 @@ fn rest_of_image<F: Shelf>(
     ensures snap { GivesOver (F.files shelf.old) (λ (snap : Snap). snap) result (image_in name.now) }
     ensures past_words { IfErr result IsPastWords }
     ensures cause { IfErr result (HaltHasCause F.Shelf shelf.old shelf.new) }
-    ensures same { F.files shelf.new ≡ F.files shelf.old }
+    ensures kept { Keeps F.Shelf shelf.old shelf.new }
 {
     let reader = image_reader_of(alloc, front);
     let reader = feed_rest(alloc, shelf, name, room, reader, front.len())?;
@@ -192,7 +192,7 @@ fn rest_of_traced<F: Shelf>(
     ensures snap { GivesOver (F.files shelf.old) (λ (snap : Snap). snap) result (traced_in delim limit name.now) }
     ensures past_words { IfErr result IsPastWords }
     ensures cause { IfErr result (HaltHasCause F.Shelf shelf.old shelf.new) }
-    ensures same { F.files shelf.new ≡ F.files shelf.old }
+    ensures kept { Keeps F.Shelf shelf.old shelf.new }
 {
     match rest_of_trace(alloc, shelf, name, delim, room, front) {
         Ok(tree) => roll_under(alloc, tree, limit),
@@ -218,7 +218,7 @@ fn rest_of_index<F: Shelf>(
     ensures snap { GivesOver (F.files shelf.old) (λ (snap : Snap). snap) result (index_in delim limit name.now) }
     ensures past_words { IfErr result IsPastWords }
     ensures cause { IfErr result (HaltHasCause F.Shelf shelf.old shelf.new) }
-    ensures same { F.files shelf.new ≡ F.files shelf.old }
+    ensures kept { Keeps F.Shelf shelf.old shelf.new }
 {
     if is_image(&front) {
         rest_of_image(alloc, shelf, name, room, &front)
@@ -241,7 +241,7 @@ pub(crate) fn read_index<F: Shelf>(
     ensures snap { GivesOver (F.files shelf.old) (λ (snap : Snap). snap) result (index_in delim limit name.now) }
     ensures past_words { IfErr result IsPastWords }
     ensures cause { IfErr result (HaltHasCause F.Shelf shelf.old shelf.new) }
-    ensures same { F.files shelf.new ≡ F.files shelf.old }
+    ensures kept { Keeps F.Shelf shelf.old shelf.new }
 {
     let mut buffer = piece_buffer(alloc)?;
     let room = buffer.as_mut_slice();

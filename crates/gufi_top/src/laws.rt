@@ -1,5 +1,5 @@
 //! Laws of what is written.
-ghost use Rattle.gufi_top.specs.Laws.{WalkWritesTheListedRows, FindWritesTheListedRows, AnswerableCommandsAreAnswered, GenIsNeverRefused, TracesComeBackFromImages};
+ghost use Rattle.gufi_top.specs.Laws.{WalkWritesTheListedRows, FindWritesTheListedRows, FindWritesTheListedRowsBehindItsPrefix, AnswerableCommandsAreAnswered, GenIsNeverRefused, TracesComeBackFromImages};
 
 use gufi_gen::generated_traces_are_read;
 use gufi_image::written_images_read_back;
@@ -14,6 +14,11 @@ pub fn walk_writes_the_listed_rows()
 /// expression is true.
 pub fn find_writes_the_listed_rows()
     ensures { FindWritesTheListedRows }
+{}
+
+/// `find --prefix` writes exactly those rows, each once, in path order, behind its prefix.
+pub fn find_writes_the_listed_rows_behind_its_prefix()
+    ensures { FindWritesTheListedRowsBehindItsPrefix }
 {}
 
 /// Completeness: nothing is refused of a command whose words and files are good and whose start is found. Its text is whole, or it

@@ -25,7 +25,8 @@ mod words;
 
 pub use ending::Outcome;
 pub use laws::{
-    answerable_commands_are_answered, find_writes_the_listed_rows, gen_is_never_refused,
+    answerable_commands_are_answered, find_writes_the_listed_rows,
+    find_writes_the_listed_rows_behind_its_prefix, gen_is_never_refused,
     traces_come_back_from_images, walk_writes_the_listed_rows,
 };
 pub use run::gufi_run;

@@ -11,15 +11,17 @@ ghost use Rattle.gufi_image.specs.Kinds.{image_kind_text};
 ghost use Rattle.gufi_find.specs.Faults.{find_kind_text};
 ghost use Rattle.gufi_select.specs.Faults.{select_kind_text};
 ghost use Rattle.gufi_agg.specs.Faults.{agg_kind_text};
+ghost use Rattle.gufi_forms.specs.Names.{column_name};
 ghost use Rattle.gufi_base.specs.Basics.{line};
 
 use gufi_agg::AggKind;
 use gufi_base::Memory;
 use gufi_find::FindKind;
+use gufi_forms::column_name;
 use gufi_image::ImageKind;
 use gufi_roll::RollReport;
 use gufi_script::ScriptKind;
-use gufi_select::SelectKind;
+use gufi_select::{Column, SelectKind};
 use gufi_trace::{TraceFault, put_tree_fault};
 use gufi_tree::TreeFault;
 use gufi_users::UserKind;
@@ -179,6 +181,14 @@ pub(crate) fn agg_word(
     ensures { IfOk result (λ note. note.items ≡ (text_fault word offset (agg_kind_text kind)).note) }
 {
     Ok(format!(in alloc; "gufi: word {word} at {offset} {kind}\n")?.into_bytes())
+}
+
+/// A column that is named twice, where each has to be a member of one object.
+pub(crate) fn column_twice(alloc: Global, word: u32, column: Column) -> Result<Vec<u8>, AllocError>
+    ensures { IfOk result (λ note. note.items ≡ (word_fault word (codes "Twice " ++ column_name column)).note) }
+{
+    let name = column_name(column);
+    Ok(format!(in alloc; "gufi: word {word} Twice {name}\n")?.into_bytes())
 }
 
 /// The offset of a field of an image that is at fault, and its fault.

@@ -1,5 +1,6 @@
 //! What the commands with a USER and a START ask.
 ghost use Rattle.std.specs.Prelude.{◌≡◌, ◌+◌, Err, IfErr, IfOk};
+ghost use Rattle.std.specs.Option.{option_copied};
 ghost use Rattle.gufi_base.specs.Basics.{capped_number};
 ghost use Rattle.gufi_find.specs.Expressions.{Find as SeenFind};
 ghost use Rattle.gufi_find.specs.Faults.{find_kind_text};
@@ -9,9 +10,9 @@ ghost use Rattle.gufi_agg.specs.Aggs.{Agg as SeenAgg};
 ghost use Rattle.gufi_agg.specs.Faults.{agg_kind_text};
 ghost use Rattle.gufi_ask.specs.Asks.{find_ask, query_ask, agg_ask};
 ghost use Rattle.gufi_top.specs.Questions.{asks};
-ghost use Rattle.gufi_top.specs.Reasons.{word_fault, text_fault};
+ghost use Rattle.gufi_top.specs.Reasons.{word_fault, text_fault, column_twice};
 ghost use Rattle.gufi_top.specs.Views.{text_view};
-ghost use Rattle.gufi_top.specs.Verdict.{asked, asked_if, expression_in, find_asking, stats_asking, report_of, select_in, query_asking, agg_in, agg_asking};
+ghost use Rattle.gufi_top.specs.Verdict.{asked, asked_if, expression_in, find_asking, named_by, stats_asking, report_of, form_of, twice_in, written_in, select_in, query_asking, agg_in, agg_asking};
 ghost use Rattle.gufi_top.specs.Calls.{Gives, IsOfBytes};
 
 use crate::halt::{Halt, Output, refused};
@@ -25,8 +26,9 @@ use gufi_ask::{
 };
 use gufi_base::{Bytes, Items, Path, Text};
 use gufi_find::{FindError, FindExpr, FindKind, read_find};
+use gufi_forms::{Form, first_twice};
 use gufi_io::Gate;
-use gufi_select::{Select, SelectError, SelectKind, read_select};
+use gufi_select::{Column, Select, SelectError, SelectKind, read_select};
 use gufi_snap::Snapshot;
 use gufi_stats::Report;
 use gufi_users::Users;
@@ -43,6 +45,8 @@ pub(crate) struct Find<'a> {
     user_at: u32,
     /// From which times count back, in seconds.
     moment: Option<i64>,
+    /// What stands before each path.
+    prefix: Option<&'a Text>,
     words: &'a [Text],
 }
 
@@ -94,6 +98,7 @@ impl Find<'_> {
 pub(crate) struct Query<'a> {
     /// The number of the word USER, behind which START and the text stand.
     user_at: u32,
+    form: Form,
     text: &'a [u8],
 }
 
@@ -112,14 +117,58 @@ fn refuse_text<T>(alloc: Global, word: u32, offset: u32, kind: SelectKind) -> Re
     refused(2, note::select_word(alloc, word, offset, kind)?)
 }
 
+// A query isn't answered in a form: a column is named twice.
+fn refuse_column<T>(alloc: Global, user_at: u32, column: Column) -> Result<T, Halt>
+    ensures reason { Gives (λ (x : T). x) result (Err (column_twice user_at column)) }
+    ensures of_bytes { IfErr result IsOfBytes }
+{
+    refused(2, note::column_twice(alloc, text_word(user_at), column)?)
+}
+
+// The form of a query's rows, by its options.
+fn form_of(escape: bool, header: bool, json: bool) -> Form
+    ensures { result ≡ form_of escape header json }
+{
+    if json {
+        Form::Json
+    } else {
+        Form::Lines { escape, header }
+    }
+}
+
+// A column that is named twice, where each has to be a member of one object.
+fn twice_in(form: Form, select: &Select) -> Option<Column>
+    ensures { result ≡ twice_in form select.now }
+{
+    match form {
+        Form::Lines { .. } => None,
+        Form::Json => first_twice(select),
+    }
+}
+
+// The SELECT, where its rows can be written in the form.
+fn written_in(alloc: Global, user_at: u32, form: Form, select: Select) -> Result<Select, Halt>
+    ensures select { Gives (λ (s : SeenSelect). s) result (written_in user_at form select) }
+    ensures of_bytes { IfErr result IsOfBytes }
+{
+    match twice_in(form, &select) {
+        None => Ok(select),
+        Some(column) => {
+            drop(select);
+            refuse_column(alloc, user_at, column)
+        }
+    }
+}
+
 impl Query<'_> {
     // The SELECT that the text is.
+    #[tactic(auto, using(crate::proofs::SearchLemmas::select_read))]
     fn select(&self, alloc: Global) -> Result<Select, Halt>
-        ensures select { Gives (λ (s : SeenSelect). s) result (select_in self.now.user_at self.now.text.now) }
+        ensures select { Gives (λ (s : SeenSelect). s) result (select_in self.now.user_at self.now.form self.now.text.now) }
         ensures of_bytes { IfErr result IsOfBytes }
     {
         match read_select(alloc, self.text) {
-            Ok(select) => Ok(select),
+            Ok(select) => written_in(alloc, self.user_at, self.form, select),
             Err(SelectError::Fault { at, kind }) => {
                 refuse_text(alloc, text_word(self.user_at), at, kind)
             }
@@ -133,6 +182,8 @@ impl Query<'_> {
 pub(crate) struct Aggregate<'a> {
     /// The number of the word USER, behind which START and the text stand.
     user_at: u32,
+    /// Owners and groups are named, not numbered.
+    names: bool,
     text: &'a [u8],
 }
 
@@ -172,6 +223,13 @@ fn report_of(word: ReportWord) -> Report
     }
 }
 
+// The users, where owners and groups are to be named.
+fn named_by(names: bool, users: &Users) -> Option<&Users>
+    ensures { option_copied result ≡ named_by names users.now }
+{
+    if names { Some(users) } else { None }
+}
+
 // What is written of the rows for which an expression is true. Sums are made where it asks for them.
 #[tactic(auto, using(crate::proofs::ReplyLemmas::asking))]
 fn found<R: Threads + Wait + Sync, G: Gate + Sync>(
@@ -180,16 +238,17 @@ fn found<R: Threads + Wait + Sync, G: Gate + Sync>(
     snap: Snapshot,
     who: &Principal,
     start: &Path,
+    prefix: Option<&Text>,
     expression: FindExpr,
 ) -> Result<Output, Halt>
-    ensures text { Gives text_view result (asked snap.tree who.now start.now (find_ask expression)) }
+    ensures text { Gives text_view result (asked snap.tree who.now start.now (find_ask (option_copied prefix.entry) expression)) }
     ensures of_bytes { IfErr result IsOfBytes }
 {
     let Ok(snap) = ready_to_find(alloc, snap, who, &expression) else {
         drop(expression);
         return Err(Halt::Memory);
     };
-    let reply = find_text(walkers, alloc, snap, who, start, &expression);
+    let reply = find_text(walkers, alloc, snap, who, start, prefix, &expression);
     drop(expression);
     written(alloc, reply)
 }
@@ -202,16 +261,17 @@ fn selected<R: Threads + Wait + Sync, G: Gate + Sync>(
     snap: Snapshot,
     who: &Principal,
     start: &Path,
+    form: Form,
     select: Select,
 ) -> Result<Output, Halt>
-    ensures text { Gives text_view result (asked snap.tree who.now start.now (query_ask select)) }
+    ensures text { Gives text_view result (asked snap.tree who.now start.now (query_ask form select)) }
     ensures of_bytes { IfErr result IsOfBytes }
 {
     let Ok(snap) = ready_to_select(alloc, snap, who, &select) else {
         drop(select);
         return Err(Halt::Memory);
     };
-    let reply = query_text(walkers, alloc, snap, who, start, &select);
+    let reply = query_text(walkers, alloc, snap, who, start, form, &select);
     drop(select);
     written(alloc, reply)
 }
@@ -224,16 +284,17 @@ fn grouped<R: Threads + Wait + Sync, G: Gate + Sync>(
     snap: Snapshot,
     who: &Principal,
     start: &Path,
+    names: Option<&Users>,
     agg: Agg,
 ) -> Result<Output, Halt>
-    ensures text { Gives text_view result (asked snap.tree who.now start.now (agg_ask agg)) }
+    ensures text { Gives text_view result (asked snap.tree who.now start.now (agg_ask (option_copied names.entry) agg)) }
     ensures of_bytes { IfErr result IsOfBytes }
 {
     let Ok(snap) = ready_to_select(alloc, snap, who, agg.select()) else {
         drop(agg);
         return Err(Halt::Memory);
     };
-    let reply = groups_text(walkers, alloc, &snap, who, start, &agg);
+    let reply = groups_text(walkers, alloc, &snap, who, start, names, &agg);
     drop(agg);
     written_over(alloc, snap, reply)
 }
@@ -247,44 +308,59 @@ pub(crate) enum Question<'a> {
     /// The rows one level below the start.
     Ls { long: bool, all: bool },
     /// A report over all rows that the user lists from the start.
-    Stats(Report),
+    Stats { names: bool, report: Report },
     Query(Query<'a>),
     Agg(Aggregate<'a>),
 }
 
 impl<'a> Question<'a> {
-    pub(crate) fn find(common: &Common, moment: Option<i64>, words: &'a Items<Text>) -> Question<'a>
-        ensures { asks result ≡ find_asking common.now.user_at moment words.now }
+    pub(crate) fn find(
+        common: &Common,
+        moment: Option<i64>,
+        prefix: &'a Option<Text>,
+        words: &'a Items<Text>,
+    ) -> Question<'a>
+        ensures { asks result ≡ find_asking common.now.user_at moment prefix.now words.now }
     {
         Question::Find(Find {
             user_at: common.user_at,
             moment,
+            prefix: prefix.as_ref(),
             words: words.as_slice(),
         })
     }
 
-    pub(crate) fn query(common: &Common, text: &'a Text) -> Question<'a>
-        ensures { asks result ≡ query_asking common.now.user_at text.now }
+    pub(crate) fn query(
+        common: &Common,
+        escape: bool,
+        header: bool,
+        json: bool,
+        text: &'a Text,
+    ) -> Question<'a>
+        ensures { asks result ≡ query_asking common.now.user_at (form_of escape header json) text.now }
     {
         Question::Query(Query {
             user_at: common.user_at,
+            form: form_of(escape, header, json),
             text: text.as_str().as_bytes(),
         })
     }
 
-    pub(crate) fn agg(common: &Common, text: &'a Text) -> Question<'a>
-        ensures { asks result ≡ agg_asking common.now.user_at text.now }
+    pub(crate) fn agg(common: &Common, names: bool, text: &'a Text) -> Question<'a>
+        ensures { asks result ≡ agg_asking common.now.user_at names text.now }
     {
         Question::Agg(Aggregate {
             user_at: common.user_at,
+            names,
             text: text.as_str().as_bytes(),
         })
     }
 
-    pub(crate) fn stats(word: ReportWord) -> Question<'a>
-        ensures { asks result ≡ stats_asking (report_of word) }
+    pub(crate) fn stats(names: bool, word: ReportWord) -> Question<'a>
+        ensures { asks result ≡ stats_asking names (report_of word) }
     {
-        Question::Stats(report_of(word))
+        let report = report_of(word);
+        Question::Stats { names, report }
     }
 
     /// What it writes of a snapshot. The query words are judged before the start; sums are made where the question asks for them.
@@ -303,21 +379,24 @@ impl<'a> Question<'a> {
     {
         match self {
             Question::Find(find) => match find.expression(alloc, users) {
-                Ok(expression) => found(walkers, alloc, snap, who, start, expression),
+                Ok(expression) => found(walkers, alloc, snap, who, start, find.prefix, expression),
                 Err(halt) => {
                     drop(snap);
                     Err(halt)
                 }
             },
             Question::Query(query) => match query.select(alloc) {
-                Ok(select) => selected(walkers, alloc, snap, who, start, select),
+                Ok(select) => selected(walkers, alloc, snap, who, start, query.form, select),
                 Err(halt) => {
                     drop(snap);
                     Err(halt)
                 }
             },
             Question::Agg(aggregate) => match aggregate.agg(alloc) {
-                Ok(agg) => grouped(walkers, alloc, snap, who, start, agg),
+                Ok(agg) => {
+                    let names = named_by(aggregate.names, users);
+                    grouped(walkers, alloc, snap, who, start, names, agg)
+                }
                 Err(halt) => {
                     drop(snap);
                     Err(halt)
@@ -331,8 +410,9 @@ impl<'a> Question<'a> {
                 let reply = listing_text(walkers, alloc, &snap, who, start, users, *long, *all);
                 written_over(alloc, snap, reply)
             }
-            Question::Stats(report) => {
-                let reply = report_text(walkers, alloc, &snap, who, start, *report);
+            Question::Stats { names, report } => {
+                let names = named_by(*names, users);
+                let reply = report_text(walkers, alloc, &snap, who, start, names, *report);
                 written_over(alloc, snap, reply)
             }
         }

@@ -3,6 +3,7 @@ ghost use Rattle.std.specs.Prelude.{◌≡◌, ◌≤◌, ◌<◌, ◌+◌, [], 
 ghost use Rattle.gufi_base.specs.Basics.{result_map_err};
 ghost use Rattle.gufi_base.specs.Limits.{max_dirs, max_entries, max_trace};
 ghost use Rattle.gufi_tree.specs.Build.{tree_of};
+ghost use Rattle.gufi_io.specs.Calls.{one_more};
 ghost use Rattle.gufi_io.specs.Files.{IsReadUpTo};
 ghost use Rattle.gufi_io.specs.Kept.{Keeps};
 ghost use Rattle.gufi_trace.specs.Reader.{HasRead};
@@ -36,6 +37,7 @@ pub(crate) fn read_file<F: Shelf>(
     ensures bytes { GivesOver (F.files shelf.old) bytes_view result (file_in max name.now) }
     ensures past_words { IfErr result IsPastWords }
     ensures cause { IfErr result (HaltHasCause F.Shelf shelf.old shelf.new) }
+    ensures opens { F.opens shelf.new ≡ one_more (F.opens shelf.old) }
     ensures kept { Keeps F.Shelf shelf.old shelf.new }
 {
     match read_all(alloc, shelf, name, max) {
@@ -121,7 +123,7 @@ fn feed_rest<F: Shelf>(
     ensures refused { IfErr result (λ e. GivesOver (F.files shelf.old) bytes_view (Err e) (file_in max_trace name.now)) }
     ensures past_words { IfErr result IsPastWords }
     ensures cause { IfErr result (HaltHasCause F.Shelf shelf.old shelf.new) }
-    ensures same { F.files shelf.new ≡ F.files shelf.old }
+    ensures kept { Keeps F.Shelf shelf.old shelf.new }
 {
     let mut feed = Feed { reader };
     match read_rest(alloc, shelf, name, room, MAX_TRACE, size, &mut feed) {
@@ -157,7 +159,7 @@ fn rest_of_lines<F: Shelf>(
     ensures lines { GivesOver (F.files shelf.old) (λ lines. lines) result (lines_in delim name.now) }
     ensures past_words { IfErr result IsPastWords }
     ensures cause { IfErr result (HaltHasCause F.Shelf shelf.old shelf.new) }
-    ensures same { F.files shelf.new ≡ F.files shelf.old }
+    ensures kept { Keeps F.Shelf shelf.old shelf.new }
     ensures few { IfOk result (λ lines. length lines ≤ max_dirs + max_entries) }
 {
     let reader = reader_of(alloc, delim, front)?;
@@ -200,7 +202,7 @@ pub(crate) fn rest_of_trace<F: Shelf>(
     ensures tree { GivesOver (F.files shelf.old) (λ tree. tree) result (trace_in delim name.now) }
     ensures past_words { IfErr result IsPastWords }
     ensures cause { IfErr result (HaltHasCause F.Shelf shelf.old shelf.new) }
-    ensures same { F.files shelf.new ≡ F.files shelf.old }
+    ensures kept { Keeps F.Shelf shelf.old shelf.new }
 {
     match rest_of_lines(alloc, shelf, name, delim, room, front) {
         Ok(lines) => build_tree(alloc, name, lines),
@@ -219,7 +221,7 @@ pub(crate) fn read_trace_file<F: Shelf>(
     ensures tree { GivesOver (F.files shelf.old) (λ tree. tree) result (trace_in delim name.now) }
     ensures past_words { IfErr result IsPastWords }
     ensures cause { IfErr result (HaltHasCause F.Shelf shelf.old shelf.new) }
-    ensures same { F.files shelf.new ≡ F.files shelf.old }
+    ensures kept { Keeps F.Shelf shelf.old shelf.new }
 {
     open_named(alloc, shelf, name)?;
     let mut buffer = piece_buffer(alloc)?;

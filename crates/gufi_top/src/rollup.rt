@@ -1,5 +1,6 @@
 //! `rollup`: the image of an index under a limit, and what of it is rolled up. `trace2index`: the image of a trace.
 ghost use Rattle.std.specs.Prelude.{◌≡◌, Ok, IfOk, IfErr};
+ghost use Rattle.gufi_io.specs.Kept.{Keeps};
 ghost use Rattle.gufi_roll.specs.CanRoll.{roll_report, roll_flags, report_text};
 ghost use Rattle.gufi_image.specs.Image.{image_text};
 ghost use Rattle.gufi_top.specs.Views.{text_view};
@@ -84,7 +85,7 @@ pub(crate) fn rollup<F: Shelf>(
     ensures text { GivesOver (F.files shelf.old) text_view result (rollup_over index.now delim limit) }
     ensures past_words { IfErr result IsPastWords }
     ensures cause { IfErr result (HaltHasCause F.Shelf shelf.old shelf.new) }
-    ensures same { F.files shelf.new ≡ F.files shelf.old }
+    ensures kept { Keeps F.Shelf shelf.old shelf.new }
 {
     match read_index(alloc, shelf, index, delim, limit) {
         Ok(snap) => roll_snapshot(alloc, snap, limit),
@@ -116,7 +117,7 @@ pub(crate) fn trace2index<F: Shelf>(
     ensures text { GivesOver (F.files shelf.old) text_view result (trace2index_over trace.now delim) }
     ensures past_words { IfErr result IsPastWords }
     ensures cause { IfErr result (HaltHasCause F.Shelf shelf.old shelf.new) }
-    ensures same { F.files shelf.new ≡ F.files shelf.old }
+    ensures kept { Keeps F.Shelf shelf.old shelf.new }
 {
     match read_trace_file(alloc, shelf, trace, delim) {
         Ok(tree) => image_text_of(alloc, tree),

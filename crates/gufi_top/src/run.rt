@@ -2,9 +2,10 @@
 ghost use Rattle.std.specs.Prelude.{◌≡◌, ◌≢◌, ◌≤◌, ◌⊎◌, [], IfErr, IsTrue, option_map};
 ghost use Rattle.std.specs.Io.KnownBytes.{Appends};
 ghost use Rattle.gufi_io.specs.Causes.{Rose};
+ghost use Rattle.gufi_io.specs.Kept.{Keeps};
 ghost use Rattle.gufi_words.specs.WordTexts.{texts};
-ghost use Rattle.gufi_top.specs.Verdict.{is_one_shot, are_one_shot, MayRefuse, MayRefuseWords, command_in, command_over};
-ghost use Rattle.gufi_top.specs.Ends.{IsVerdictStatus, Ended, WriteFaulted, BrokenOff, TextEnds, read_fault_note, memory_note};
+ghost use Rattle.gufi_top.specs.Verdict.{is_one_shot, are_one_shot, files_ahead, files_ahead_of, MayRefuse, MayRefuseWords, command_in, command_over};
+ghost use Rattle.gufi_top.specs.Ends.{IsVerdictStatus, Ended, WriteFaulted, BrokenOff, Anywhere, FailedBehind, TextEnds, read_fault_note, memory_note};
 ghost use Rattle.gufi_top.specs.Endings.{HasRun, RefusalTells, TellsOneOf};
 ghost use Rattle.gufi_top.specs.Complete.{Completes};
 
@@ -51,7 +52,7 @@ fn run_one_shot<R: Threads + Wait + Sync, F: Shelf, K: Sink, G: Gate + Sync>(
     gate: &G,
 ) -> Outcome
     requires { IsTrue (is_one_shot command.now) }
-    ensures run { HasRun F.Shelf K.Sink (option_map (command_over command.now) (F.files shelf.old)) result.status result.numbers.items shelf.old shelf.new out.old out.new notes.old notes.new }
+    ensures run { HasRun F.Shelf K.Sink (files_ahead command.now) (option_map (command_over command.now) (F.files shelf.old)) result.status result.numbers.items shelf.old shelf.new out.old out.new notes.old notes.new }
     ensures words { result.status ≡ 2 → TellsOneOf K.Sink (MayRefuse command.now) notes.old notes.new }
     ensures silent { result.status ≢ 0 → result.status ≢ 4 → out.new ≡ out.old }
 {
@@ -76,7 +77,7 @@ fn run_command<R: Threads + Wait + Sync, F: Shelf, K: Sink, G: Gate + Sync>(
     notes: &mut K,
     gate: &G,
 ) -> Outcome
-    ensures run { HasRun F.Shelf K.Sink (option_map (command_over command.now) (F.files shelf.old)) result.status result.numbers.items shelf.old shelf.new out.old out.new notes.old notes.new }
+    ensures run { HasRun F.Shelf K.Sink (files_ahead command.now) (option_map (command_over command.now) (F.files shelf.old)) result.status result.numbers.items shelf.old shelf.new out.old out.new notes.old notes.new }
     ensures words { result.status ≡ 2 → TellsOneOf K.Sink (MayRefuse command.now) notes.old notes.new }
     ensures silent { IsTrue (is_one_shot command.now) → result.status ≢ 0 → result.status ≢ 4 → out.new ≡ out.old }
 {
@@ -143,21 +144,21 @@ pub fn gufi_run<R: Threads + Wait + Sync, F: Shelf, K: Sink, G: Gate + Sync>(
     // But for a session, a run writes nothing unless it has its whole text, whatever the shelf.
     ensures silent { IsTrue (are_one_shot (texts words.now)) → result.status ≢ 0 → result.status ≢ 4 → out.new ≡ out.old }
 
-    // The shelf's files stay what they were.
-    ensures same { F.files shelf.new ≡ F.files shelf.old }
+    // The shelf's files stay what they were, and no count of its fell.
+    ensures kept { Keeps F.Shelf shelf.old shelf.new }
 
     // A missing file is answered only where the shelf lacked one.
     ensures absent { result.status ≡ 8 → Rose (F.absents shelf.old) (F.absents shelf.new) }
 
-    // A fault of reading is answered only where the shelf failed.
+    // A fault of reading is answered only where the shelf failed. A session has then answered exactly the phases before its files failed.
     ensures read_fault { result.status ≡ 3 → Rose (F.faults shelf.old) (F.faults shelf.new)
-        × BrokenOff K.Sink (F.files shelf.old) (texts words.now) result out.old out.new notes.old notes.new read_fault_note }
+        × BrokenOff K.Sink (FailedBehind F.Shelf (files_ahead_of (texts words.now)) shelf.old shelf.new) (F.files shelf.old) (texts words.now) result out.old out.new notes.old notes.new read_fault_note }
 
     // A fault of writing is answered only where a sink failed.
     ensures write_fault { result.status ≡ 4 → WriteFaulted K.Sink (F.files shelf.old) (texts words.now) result out.old out.new notes.old notes.new }
 
     // Want of memory is the one free answer.
-    ensures memory { result.status ≡ 7 → BrokenOff K.Sink (F.files shelf.old) (texts words.now) result out.old out.new notes.old notes.new memory_note }
+    ensures memory { result.status ≡ 7 → BrokenOff K.Sink Anywhere (F.files shelf.old) (texts words.now) result out.old out.new notes.old notes.new memory_note }
 {
     match read_command(alloc, words) {
         Ok(command) => run_command(rt, alloc, &command, shelf, out, notes, gate),

@@ -1,5 +1,6 @@
 //! Commands with a USER and a START, which ask one index.
 ghost use Rattle.std.specs.Prelude.{◌≡◌, IfErr};
+ghost use Rattle.gufi_io.specs.Kept.{Keeps};
 ghost use Rattle.gufi_access.specs.declared.class.Principal.{Principal as SeenPrincipal};
 ghost use Rattle.gufi_top.specs.Questions.{asks};
 ghost use Rattle.gufi_top.specs.Views.{text_view};
@@ -69,7 +70,7 @@ fn ask_index<R: Threads + Wait + Sync, F: Shelf, G: Gate + Sync>(
     ensures text { GivesOver (F.files shelf.old) text_view result (index_over common.now (asks question.now) users.now) }
     ensures words { IfErr result (OfWordsOnlyBy (AskMayRefuse common.now (asks question.now))) }
     ensures cause { IfErr result (HaltHasCause F.Shelf shelf.old shelf.new) }
-    ensures same { F.files shelf.new ≡ F.files shelf.old }
+    ensures kept { Keeps F.Shelf shelf.old shelf.new }
 {
     let index = common.index.as_str();
     match read_index(alloc, shelf, index, common.delim, common.limit) {
@@ -91,7 +92,7 @@ pub(crate) fn ask<R: Threads + Wait + Sync, F: Shelf, G: Gate + Sync>(
     ensures text { GivesOver (F.files shelf.old) text_view result (ask_over common.now (asks question.now)) }
     ensures words { IfErr result (OfWordsOnlyBy (AskMayRefuse common.now (asks question.now))) }
     ensures cause { IfErr result (HaltHasCause F.Shelf shelf.old shelf.new) }
-    ensures same { F.files shelf.new ≡ F.files shelf.old }
+    ensures kept { Keeps F.Shelf shelf.old shelf.new }
 {
     match read_users(alloc, shelf, &common.passwd, &common.group) {
         Ok(users) => ask_index(walkers, alloc, shelf, common, question, &users),

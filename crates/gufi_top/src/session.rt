@@ -1,11 +1,12 @@
 //! `session`: the phases of a script, over files that are read as they come.
-ghost use Rattle.std.specs.Prelude.{◌≡◌, ◌≢◌, ◌≤◌, List, Err, IfErr, IfOk, IsTrue, option_map};
+ghost use Rattle.std.specs.Prelude.{◌≡◌, ◌≢◌, ◌≤◌, ◌+◌, List, Err, IfErr, IfOk, IsTrue, option_map};
+ghost use Rattle.gufi_io.specs.Calls.{one_more};
 ghost use Rattle.gufi_io.specs.Kept.{Keeps};
 ghost use Rattle.gufi_script.specs.ScriptText.{PlacedAct, is_script};
 ghost use Rattle.gufi_plan.specs.Plan.{Plan};
-ghost use Rattle.gufi_top.specs.Reasons.{script_reason, stop_reason, acts_within, acts_in};
+ghost use Rattle.gufi_top.specs.Reasons.{script_reason, stop_reason, named_count, acts_within, acts_in};
 ghost use Rattle.gufi_top.specs.Verdict.{plan_with, script_plan, session_plan, run_over, session_over};
-ghost use Rattle.gufi_top.specs.Calls.{Gives, GivesOver, IsOfBytes, IsPastWords, HaltHasCause};
+ghost use Rattle.gufi_top.specs.Calls.{Gives, GivesOver, IsOfBytes, IsPastWords, HaltHasCause, Opens};
 ghost use Rattle.gufi_top.specs.Ends.{hits_note};
 ghost use Rattle.gufi_top.specs.Endings.{HasRun, StopTells, DoneTells, EndTells};
 
@@ -87,6 +88,7 @@ fn read_acts<F: Shelf>(alloc: Global, shelf: &mut F, name: &str) -> Result<Scrip
     ensures sound { IfOk result (λ script. IsTrue (is_script script)) }
     ensures past_words { IfErr result IsPastWords }
     ensures cause { IfErr result (HaltHasCause F.Shelf shelf.old shelf.new) }
+    ensures opens { F.opens shelf.new ≡ one_more (F.opens shelf.old) }
     ensures kept { Keeps F.Shelf shelf.old shelf.new }
 {
     match read_file(alloc, shelf, name, MAX_SCRIPT) {
@@ -125,6 +127,7 @@ fn read_script_plan<F: Shelf>(
     ensures plan { GivesOver (F.files shelf.old) (λ (plan : Plan). plan) result (script_plan (record { tables = setup.entry.now.users.now; now = setup.entry.now.now; delim = setup.entry.now.delim }) name.now) }
     ensures past_words { IfErr result IsPastWords }
     ensures cause { IfErr result (HaltHasCause F.Shelf shelf.old shelf.new) }
+    ensures opens { F.opens shelf.new ≡ one_more (F.opens shelf.old) }
     ensures kept { Keeps F.Shelf shelf.old shelf.new }
 {
     match read_acts(alloc, shelf, name) {
@@ -144,6 +147,7 @@ fn read_plan<F: Shelf>(
         (session_plan session.entry.now.passwd.now session.entry.now.group.now session.entry.now.delim session.entry.now.moment session.entry.now.script.now) }
     ensures past_words { IfErr result IsPastWords }
     ensures cause { IfErr result (HaltHasCause F.Shelf shelf.old shelf.new) }
+    ensures opens { Opens F.Shelf result (named_count session.entry.now.passwd.now + (named_count session.entry.now.group.now + 1)) shelf.old shelf.new }
     ensures kept { Keeps F.Shelf shelf.old shelf.new }
 {
     match read_users(alloc, shelf, session.passwd, session.group) {
@@ -214,6 +218,7 @@ fn tell_done<K: Sink>(alloc: Global, tally: Tally, notes: &mut K) -> u8
 
 // Writes the note of a session's end, and gives its status.
 fn tell_end<K: Sink>(alloc: Global, end: End, tally: Tally, notes: &mut K) -> u8
+    requires { end ≢ End.Full }
     ensures { EndTells K.Sink (hits_note tally.cache tally.hits tally.asks) end result notes.old notes.new }
 {
     match end {
@@ -227,6 +232,8 @@ fn tell_end<K: Sink>(alloc: Global, end: End, tally: Tally, notes: &mut K) -> u8
             tell(notes, note::write_fault());
             4
         }
+        // No plan has more publishing commands than may be published.
+        End::Full => unreachable!(),
         End::Memory => {
             tell(notes, note::memory());
             7
@@ -247,7 +254,7 @@ fn run_plan<R: Threads + Wait + Sync, F: Shelf, K: Sink, G: Gate + Sync>(
     gate: &G,
 ) -> Outcome
     requires { cache ≤ 256 }
-    ensures run { HasRun F.Shelf K.Sink (option_map (run_over cache plan.now) (F.files shelf.old)) result.status result.numbers.items shelf.old shelf.new out.old out.new notes.old notes.new }
+    ensures run { HasRun F.Shelf K.Sink 0 (option_map (run_over cache plan.now) (F.files shelf.old)) result.status result.numbers.items shelf.old shelf.new out.old out.new notes.old notes.new }
     ensures past_words { result.status ≢ 2 }
 {
     let Ended { end, numbers, hits } = run_session(
@@ -270,7 +277,7 @@ pub(crate) fn run<R: Threads + Wait + Sync, F: Shelf, K: Sink, G: Gate + Sync>(
     gate: &G,
 ) -> Outcome
     requires { session.now.cache ≤ 256 }
-    ensures run { HasRun F.Shelf K.Sink
+    ensures run { HasRun F.Shelf K.Sink (named_count session.entry.now.passwd.now + (named_count session.entry.now.group.now + 1))
         (option_map (session_over session.entry.now.passwd.now session.entry.now.group.now session.entry.now.delim session.entry.now.moment session.entry.now.cache session.entry.now.script.now) (F.files shelf.old))
         result.status result.numbers.items shelf.old shelf.new out.old out.new notes.old notes.new }
     ensures past_words { result.status ≢ 2 }

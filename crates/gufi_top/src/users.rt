@@ -1,9 +1,10 @@
 //! The passwd and group files that the words name.
-ghost use Rattle.std.specs.Prelude.{◌≡◌, [], unwrap_or, IfErr, Err};
+ghost use Rattle.std.specs.Prelude.{◌≡◌, ◌+◌, [], unwrap_or, IfErr, Err};
+ghost use Rattle.gufi_io.specs.Calls.{many_more};
 ghost use Rattle.gufi_io.specs.Kept.{Keeps};
 ghost use Rattle.gufi_top.specs.Views.{bytes_view};
-ghost use Rattle.gufi_top.specs.Reasons.{optional_file, user_reason, passwd_within, group_within, passwd_in, group_in, tables_beside, tables_in};
-ghost use Rattle.gufi_top.specs.Calls.{Gives, GivesOver, IsOfBytes, IsPastWords, HaltHasCause};
+ghost use Rattle.gufi_top.specs.Reasons.{named_count, optional_file, user_reason, passwd_within, group_within, passwd_in, group_in, tables_beside, tables_in};
+ghost use Rattle.gufi_top.specs.Calls.{Gives, GivesOver, IsOfBytes, IsPastWords, HaltHasCause, Opens};
 
 use crate::halt::{Halt, refused};
 use crate::note;
@@ -27,7 +28,7 @@ fn shown(name: &Option<Text>) -> &str
 }
 
 // The bytes of a file that may be named.
-#[tactic(auto, unfolding(crate::specs::Reasons::optional_file))]
+#[tactic(auto, unfolding(crate::specs::Reasons::optional_file, gufi_io::specs::Calls::many_more))]
 fn read_optional<F: Shelf>(
     alloc: Global,
     shelf: &mut F,
@@ -36,6 +37,7 @@ fn read_optional<F: Shelf>(
     ensures bytes { GivesOver (F.files shelf.old) bytes_view result (optional_file name.now) }
     ensures past_words { IfErr result IsPastWords }
     ensures cause { IfErr result (HaltHasCause F.Shelf shelf.old shelf.new) }
+    ensures opens { F.opens shelf.new ≡ many_more (F.opens shelf.old) (named_count name.now) }
     ensures kept { Keeps F.Shelf shelf.old shelf.new }
 {
     match name {
@@ -91,6 +93,7 @@ fn read_passwd_file<F: Shelf>(
     ensures users { GivesOver (F.files shelf.old) (λ users. users) result (passwd_in name.now) }
     ensures past_words { IfErr result IsPastWords }
     ensures cause { IfErr result (HaltHasCause F.Shelf shelf.old shelf.new) }
+    ensures opens { F.opens shelf.new ≡ many_more (F.opens shelf.old) (named_count name.now) }
     ensures kept { Keeps F.Shelf shelf.old shelf.new }
 {
     match read_optional(alloc, shelf, name) {
@@ -107,6 +110,7 @@ fn read_group_file<F: Shelf>(
     ensures groups { GivesOver (F.files shelf.old) (λ groups. groups) result (group_in name.now) }
     ensures past_words { IfErr result IsPastWords }
     ensures cause { IfErr result (HaltHasCause F.Shelf shelf.old shelf.new) }
+    ensures opens { F.opens shelf.new ≡ many_more (F.opens shelf.old) (named_count name.now) }
     ensures kept { Keeps F.Shelf shelf.old shelf.new }
 {
     match read_optional(alloc, shelf, name) {
@@ -138,6 +142,7 @@ fn read_groups_beside<F: Shelf>(
     ensures tables { GivesOver (F.files shelf.old) (λ users. users) result (tables_beside users group.now) }
     ensures past_words { IfErr result IsPastWords }
     ensures cause { IfErr result (HaltHasCause F.Shelf shelf.old shelf.new) }
+    ensures opens { F.opens shelf.new ≡ many_more (F.opens shelf.old) (named_count group.now) }
     ensures kept { Keeps F.Shelf shelf.old shelf.new }
 {
     match read_group_file(alloc, shelf, group) {
@@ -157,6 +162,7 @@ pub(crate) fn read_users<F: Shelf>(
     ensures tables { GivesOver (F.files shelf.old) (λ users. users) result (tables_in passwd.now group.now) }
     ensures past_words { IfErr result IsPastWords }
     ensures cause { IfErr result (HaltHasCause F.Shelf shelf.old shelf.new) }
+    ensures opens { Opens F.Shelf result (named_count passwd.now + named_count group.now) shelf.old shelf.new }
     ensures kept { Keeps F.Shelf shelf.old shelf.new }
 {
     match read_passwd_file(alloc, shelf, passwd) {

@@ -1,5 +1,6 @@
 //! `walk`: all that a principal lists from the root.
 ghost use Rattle.std.specs.Prelude.{◌≡◌, [], IfOk, IfErr};
+ghost use Rattle.gufi_io.specs.Kept.{Keeps};
 ghost use Rattle.gufi_top.specs.Views.{text_view};
 ghost use Rattle.gufi_ask.specs.Asks.{walk_ask};
 ghost use Rattle.gufi_top.specs.Verdict.{asked, walk_over};
@@ -60,7 +61,7 @@ pub(crate) fn walk<R: Threads + Wait + Sync, F: Shelf, G: Gate + Sync>(
     ensures text { GivesOver (F.files shelf.old) text_view result (walk_over trace.now who.now delim) }
     ensures past_words { IfErr result IsPastWords }
     ensures cause { IfErr result (HaltHasCause F.Shelf shelf.old shelf.new) }
-    ensures same { F.files shelf.new ≡ F.files shelf.old }
+    ensures kept { Keeps F.Shelf shelf.old shelf.new }
 {
     match read_trace_file(alloc, shelf, trace, delim) {
         Ok(tree) => walk_tree(walkers, alloc, tree, who),

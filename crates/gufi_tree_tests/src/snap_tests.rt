@@ -1,7 +1,7 @@
 ghost use Rattle.std.specs.Prelude.{◌≡◌, ◌<◌};
 
 use crate::lines::{grown, guard, line_of, meta};
-use gufi_base::{Always, AsItIs, Kind, Line, Memory, Meta, Steps};
+use gufi_base::{Always, AsItIs, Kind, Line, Memory, Meta, Path, Steps};
 use gufi_snap::Snapshot;
 use gufi_sums::Summary;
 use gufi_tree::{DirId, Tree};
@@ -131,4 +131,25 @@ fn assert_folds<R: AllocGlobal + Abort>(rt: &R, plain: &Snapshot) -> Result<(), 
 fn a_piece_is_a_fold_where_it_is_rolled(rt: HostRuntime) -> Result<(), Fail> {
     let plain = snapshot(rt.alloc(), 0)?;
     assert_folds(&rt, &plain)
+}
+
+/// Asserts that a snapshot keeps sums, under another limit too, and one that is made of it by a refresh.
+fn assert_kept<R: AllocGlobal + Abort>(rt: &R, snap: &Snapshot) -> Result<(), Fail> {
+    let alloc = rt.alloc();
+    assert!(rt; snap.keeps_sums());
+    assert!(rt; snap.with_limit(alloc, 4)?.keeps_sums());
+    let at = Path::read(alloc, b"/d")?;
+    assert!(rt;
+        snap.refresh_uncounted(alloc, &at, tree(alloc)?)?
+            .keeps_sums()
+    );
+    Ok(())
+}
+
+// Sums that aren't kept are made anew each time that one is asked for: nothing else tells them apart.
+#[test]
+fn sums_are_kept_once_they_are_made(rt: HostRuntime) -> Result<(), Fail> {
+    assert!(rt; !bare(rt.alloc())?.keeps_sums());
+    assert!(rt; summed(rt.alloc())?.keeps_sums());
+    assert_kept(&rt, &snapshot(rt.alloc(), 0)?)
 }

@@ -1,4 +1,4 @@
-//! The four reports over six rows, worked by hand.
+//! The four reports over six rows, by number and by name, worked by hand.
 ghost use Rattle.std.specs.Prelude.{◌≡◌, length, IfOk};
 ghost use Rattle.gufi_base.specs.Rows.{row_cmp};
 ghost use Rattle.gufi_base.specs.Basics.{ascends};
@@ -6,6 +6,7 @@ ghost use Rattle.gufi_base.specs.Basics.{ascends};
 use crate::lines::{guard, meta, row_of};
 use gufi_base::{Kind, Meta, Path, Row, path_cmp};
 use gufi_stats::{Report, stats_text};
+use gufi_users::{Users, read_group, read_passwd};
 use std::alloc::Global;
 use std::cmp::Ordering;
 use std::process::Abort;
@@ -25,6 +26,27 @@ const GIDS: &[u8] = b"gid 100 dirs 1 files 0 links 1 others 0 bytes 0
 gid 200 dirs 2 files 1 links 0 others 0 bytes 7
 gid 300 dirs 0 files 0 links 0 others 1 bytes 0
 ";
+
+// 101 has the name 103, and 103 has none.
+const PASSWD: &[u8] = b"bob:x:102:200:::\n103:x:101:100:::\n";
+
+const GROUP: &[u8] = b"lab:x:200:bob\nzoo:x:100:\n";
+
+const NAMED_UIDS: &[u8] = b"uid 103 dirs 1 files 0 links 0 others 1 bytes 0
+uid bob dirs 1 files 1 links 0 others 0 bytes 7
+uid 103 dirs 1 files 0 links 1 others 0 bytes 0
+";
+
+const NAMED_GIDS: &[u8] = b"gid zoo dirs 1 files 0 links 1 others 0 bytes 0
+gid lab dirs 2 files 1 links 0 others 0 bytes 7
+gid 300 dirs 0 files 0 links 0 others 1 bytes 0
+";
+
+fn users(alloc: Global) -> Result<Users, Fail> {
+    let passwd = read_passwd(alloc, PASSWD)?;
+    let groups = read_group(alloc, GROUP)?;
+    Ok(Users::of(alloc, passwd, groups)?)
+}
 
 // A row whose file has 7 bytes.
 fn row(alloc: Global, path: &[u8], kind: Kind, uid: u32, gid: u32) -> Result<Row, Fail> {
@@ -69,19 +91,25 @@ fn are_in_order(rows: &[Row]) -> bool
     path_cmp(&first.path, &second.path) == Ordering::Less && are_in_order(rest)
 }
 
-/// Asserts the four reports of six rows below `/p`.
-fn assert_reports<R: AllocGlobal + Abort>(rt: &R, rows: &[Row]) -> Result<(), Fail>
+/// Asserts the four reports of six rows below `/p`: those of owners and groups are given.
+fn assert_reports<R: AllocGlobal + Abort>(
+    rt: &R,
+    rows: &[Row],
+    names: Option<&Users>,
+    uids: &'static [u8],
+    gids: &'static [u8],
+) -> Result<(), Fail>
     requires { length rows.now ≡ 6 }
 {
     let start = Path::read(rt.alloc(), b"/p")?;
     assert!(rt; are_in_order(rows));
     for (report, by_hand) in [
         (Report::Levels, LEVELS),
-        (Report::Uids, UIDS),
-        (Report::Gids, GIDS),
+        (Report::Uids, uids),
+        (Report::Gids, gids),
         (Report::Leaves, b"/p/a\n/p/c\n".as_slice()),
     ] {
-        let text = stats_text(rt.alloc(), rows, &start, report)?;
+        let text = stats_text(rt.alloc(), rows, &start, report, names)?;
         assert_eq!(rt; text.as_slice(), by_hand);
     }
     Ok(())
@@ -90,5 +118,18 @@ fn assert_reports<R: AllocGlobal + Abort>(rt: &R, rows: &[Row]) -> Result<(), Fa
 #[test]
 fn rows_are_counted_and_leaves_are_named(rt: HostRuntime) -> Result<(), Fail> {
     let rows = six_rows(rt.alloc())?;
-    assert_reports(&rt, rows.as_slice())
+    assert_reports(&rt, rows.as_slice(), None, UIDS, GIDS)
+}
+
+fn assert_named<R: AllocGlobal + Abort>(rt: &R, rows: &[Row]) -> Result<(), Fail>
+    requires { length rows.now ≡ 6 }
+{
+    let users = users(rt.alloc())?;
+    assert_reports(rt, rows, Some(&users), NAMED_UIDS, NAMED_GIDS)
+}
+
+#[test]
+fn owners_and_groups_are_named_in_the_order_of_numbers(rt: HostRuntime) -> Result<(), Fail> {
+    let rows = six_rows(rt.alloc())?;
+    assert_named(&rt, rows.as_slice())
 }

@@ -60,10 +60,10 @@ read_refused command reading place words d inside is = read_at command reading p
 at_end : (command : CommandName) (reading : Reading) (place : ℕ) (words : List (String Global)) → length words ≤ place → read_options command reading place (drop place (texts words)) ≡ read_options command reading place []
 at_end command reading place words past = ap (read_options command reading place) (drop-map string_bytes place words ∙ ap (map string_bytes) (drop_all place words past))
 
-pub read_end_waiting : (command : CommandName) (reading : Reading) (name : OptionName) (place : ℕ) (words : List (String Global)) → length words ≤ place → reading.waiting ≡ Some name
+pub read_end_waiting : (command : CommandName) (reading : Reading) (option : OptionName) (place : ℕ) (words : List (String Global)) → length words ≤ place → reading.waiting ≡ Some option
     → read_options command reading place (drop place (texts words)) ≡ Err (refused_at place)
 unfolding read_options
-read_end_waiting command reading name place words past waits = at_end command reading place words past ∙ rw waits refl
+read_end_waiting command reading option place words past waits = at_end command reading place words past ∙ rw waits refl
 
 pub read_end : (command : CommandName) (reading : Reading) (place : ℕ) (words : List (String Global)) → length words ≤ place → reading.waiting ≡ None
     → read_options command reading place (drop place (texts words)) ≡ Ok (record { options = reading.options; first = place })

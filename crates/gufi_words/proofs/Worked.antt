@@ -3,10 +3,11 @@ use Rattle.std.proofs.Common.{◌≡◌, [], ◌∷◌, refl}
 use Rattle.std.specs.Prelude.{None, Some, Ok, Err, codes, false, true}
 use Rattle.gufi_base.specs.Paths.{read_path}
 use Rattle.gufi_words.specs.declared.word.WordError.TheVariants.{Refused}
+use Rattle.gufi_words.specs.declared.command.ReportWord.TheVariants.{Uids}
 use Rattle.gufi_words.specs.declared.command.Command.TheVariants as commands
 use Rattle.gufi_words.specs.WordOptions.{read_options, step_at, step_free}
 use Rattle.gufi_words.specs.CommandNames.{command_named, option_named}
-use Rattle.gufi_words.specs.CommandWords.{read_words, common_of, walk_of, rollup_of, find_of, ls_of, session_of, gen_of}
+use Rattle.gufi_words.specs.CommandWords.{read_words, common_of, walk_of, rollup_of, query_of, agg_of, find_of, ls_of, stats_of, session_of, gen_of}
 
 walk_by_number : read_words (codes "walk" ∷ codes "A" ∷ codes "102" ∷ codes "-" ∷ codes "|" ∷ []) ≡ Ok (commands.Walk (codes "A") 102 [] 124)
 unfolding read_words command_named walk_of read_options step_at step_free
@@ -41,7 +42,7 @@ unfolding read_words command_named option_named ls_of read_options step_at step_
 no_such_option = refl
 
 words_of_find : read_words (codes "find" ∷ codes "--delim=|" ∷ codes "E" ∷ codes "102" ∷ codes "/p" ∷ codes "-size" ∷ codes "1" ∷ [])
-    ≡ Ok (commands.Find (record { passwd = None; group = None; delim = 124; limit = 0; workers = 1; index = codes "E"; user = codes "102"; user_at = 4; start = codes "p" ∷ [] }) None (codes "-size" ∷ codes "1" ∷ []))
+    ≡ Ok (commands.Find (record { passwd = None; group = None; delim = 124; limit = 0; workers = 1; index = codes "E"; user = codes "102"; user_at = 4; start = codes "p" ∷ [] }) None None (codes "-size" ∷ codes "1" ∷ []))
 unfolding read_words command_named option_named find_of common_of read_options step_at step_free read_path
 words_of_find = refl
 
@@ -65,3 +66,45 @@ limit_without_value = refl
 option_twice : read_words (codes "session" ∷ codes "--now=1" ∷ codes "--now" ∷ codes "x" ∷ codes "s" ∷ []) ≡ Err (Refused 3)
 unfolding read_words command_named option_named session_of read_options step_at step_free
 option_twice = refl
+
+prefix_of_find : read_words (codes "find" ∷ codes "--prefix=/data/site2" ∷ codes "E" ∷ codes "102" ∷ codes "/" ∷ [])
+    ≡ Ok (commands.Find (record { passwd = None; group = None; delim = 30; limit = 0; workers = 1; index = codes "E"; user = codes "102"; user_at = 4; start = [] }) None (Some (codes "/data/site2")) [])
+unfolding read_words command_named option_named find_of common_of read_options step_at step_free read_path
+prefix_of_find = refl
+
+empty_prefix : read_words (codes "find" ∷ codes "--prefix=" ∷ codes "E" ∷ codes "102" ∷ codes "/" ∷ [])
+    ≡ Ok (commands.Find (record { passwd = None; group = None; delim = 30; limit = 0; workers = 1; index = codes "E"; user = codes "102"; user_at = 4; start = [] }) None (Some []) [])
+unfolding read_words command_named option_named find_of common_of read_options step_at step_free read_path
+empty_prefix = refl
+
+escape_and_header : read_words (codes "query" ∷ codes "--escape" ∷ codes "--header" ∷ codes "E" ∷ codes "102" ∷ codes "/" ∷ codes "SELECT" ∷ [])
+    ≡ Ok (commands.Query (record { passwd = None; group = None; delim = 30; limit = 0; workers = 1; index = codes "E"; user = codes "102"; user_at = 5; start = [] }) true true false (codes "SELECT"))
+unfolding read_words command_named option_named query_of common_of read_options step_at step_free read_path
+escape_and_header = refl
+
+json_alone : read_words (codes "query" ∷ codes "--json" ∷ codes "E" ∷ codes "102" ∷ codes "/" ∷ codes "SELECT" ∷ [])
+    ≡ Ok (commands.Query (record { passwd = None; group = None; delim = 30; limit = 0; workers = 1; index = codes "E"; user = codes "102"; user_at = 4; start = [] }) false false true (codes "SELECT"))
+unfolding read_words command_named option_named query_of common_of read_options step_at step_free read_path
+json_alone = refl
+
+json_beside_a_header : read_words (codes "query" ∷ codes "--header" ∷ codes "--json" ∷ codes "E" ∷ codes "102" ∷ codes "/" ∷ codes "SELECT" ∷ []) ≡ Err (Refused 3)
+unfolding read_words command_named option_named query_of read_options step_at step_free
+json_beside_a_header = refl
+
+escape_beside_json : read_words (codes "query" ∷ codes "--json" ∷ codes "--escape" ∷ codes "E" ∷ codes "102" ∷ codes "/" ∷ codes "SELECT" ∷ []) ≡ Err (Refused 3)
+unfolding read_words command_named option_named query_of read_options step_at step_free
+escape_beside_json = refl
+
+no_value_of_json : read_words (codes "query" ∷ codes "--json=1" ∷ codes "E" ∷ codes "102" ∷ codes "/" ∷ codes "SELECT" ∷ []) ≡ Err (Refused 2)
+unfolding read_words command_named option_named query_of read_options step_at step_free
+no_value_of_json = refl
+
+names_of_stats : read_words (codes "stats" ∷ codes "--names" ∷ codes "E" ∷ codes "102" ∷ codes "/" ∷ codes "uids" ∷ [])
+    ≡ Ok (commands.Stats (record { passwd = None; group = None; delim = 30; limit = 0; workers = 1; index = codes "E"; user = codes "102"; user_at = 4; start = [] }) true Uids)
+unfolding read_words command_named option_named stats_of common_of read_options step_at step_free read_path
+names_of_stats = refl
+
+names_of_agg : read_words (codes "agg" ∷ codes "--names" ∷ codes "E" ∷ codes "102" ∷ codes "/" ∷ codes "SELECT" ∷ [])
+    ≡ Ok (commands.Agg (record { passwd = None; group = None; delim = 30; limit = 0; workers = 1; index = codes "E"; user = codes "102"; user_at = 4; start = [] }) true (codes "SELECT"))
+unfolding read_words command_named option_named agg_of common_of read_options step_at step_free read_path
+names_of_agg = refl

@@ -4,7 +4,7 @@ use Rattle.gufi_words.specs.WordValues.{Word}
 use Rattle.gufi_words.specs.declared.name.CommandName.{CommandName}
 use Rattle.gufi_words.specs.declared.name.CommandName.TheVariants.{Walk, Trace2index, Rollup, Query, Agg, Find, Ls, Stat, Stats, Session, Gen}
 use Rattle.gufi_words.specs.declared.name.OptionName.{OptionName}
-use Rattle.gufi_words.specs.declared.name.OptionName.TheVariants.{Passwd, Group, Delim, Limit, Workers, Now, Cache, Long, All, Summary}
+use Rattle.gufi_words.specs.declared.name.OptionName.TheVariants.{Passwd, Group, Delim, Limit, Workers, Now, Cache, Prefix, Long, All, Summary, Names, Escape, Header, Json}
 
 unfoldable pub command_named : Word → Option CommandName
 command_named word =
@@ -30,16 +30,25 @@ option_named word =
     else if bytes_eq word (codes "--workers") then Some Workers
     else if bytes_eq word (codes "--now") then Some Now
     else if bytes_eq word (codes "--cache") then Some Cache
+    else if bytes_eq word (codes "--prefix") then Some Prefix
     else if bytes_eq word (codes "-l") then Some Long
     else if bytes_eq word (codes "-A") then Some All
     else if bytes_eq word (codes "--summary") then Some Summary
+    else if bytes_eq word (codes "--names") then Some Names
+    else if bytes_eq word (codes "--escape") then Some Escape
+    else if bytes_eq word (codes "--header") then Some Header
+    else if bytes_eq word (codes "--json") then Some Json
     else None
 
--- "-l", "-A" and "--summary" take none
+-- "-l", "-A", "--summary", "--names", "--escape", "--header" and "--json" take none
 abbrev pub takes_value : OptionName → Bool
 takes_value Long = false
 takes_value All = false
 takes_value Summary = false
+takes_value Names = false
+takes_value Escape = false
+takes_value Header = false
+takes_value Json = false
 takes_value option = true
 
 -- what each command has that asks an index
@@ -59,14 +68,20 @@ allows Trace2index option = false
 allows Rollup Delim = true
 allows Rollup Limit = true
 allows Rollup option = false
+allows Query Escape = true
+allows Query Header = true
+allows Query Json = true
 allows Query option = is_common option
+allows Agg Names = true
 allows Agg option = is_common option
 allows Find Now = true
+allows Find Prefix = true
 allows Find option = is_common option
 allows Ls Long = true
 allows Ls All = true
 allows Ls option = is_common option
 allows Stat option = is_common option
+allows Stats Names = true
 allows Stats option = is_common option
 allows Session Passwd = true
 allows Session Group = true

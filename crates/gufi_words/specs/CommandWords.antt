@@ -67,7 +67,7 @@ query_of words arguments = do
   common ← common_of words arguments.first arguments.options
   text ← needed read_any words (arguments.first + 3)
   no_more words (arguments.first + 4)
-  Ok (commands.Query common text)
+  Ok (commands.Query common arguments.options.escape arguments.options.header arguments.options.json text)
 
 -- INDEX USER START TEXT
 unfoldable pub agg_of : List Word → Arguments → Result Command WordError
@@ -75,13 +75,13 @@ agg_of words arguments = do
   common ← common_of words arguments.first arguments.options
   text ← needed read_any words (arguments.first + 3)
   no_more words (arguments.first + 4)
-  Ok (commands.Agg common text)
+  Ok (commands.Agg common arguments.options.names text)
 
 -- INDEX USER START and any further words
 unfoldable pub find_of : List Word → Arguments → Result Command WordError
 find_of words arguments = do
   common ← common_of words arguments.first arguments.options
-  Ok (commands.Find common arguments.options.time (drop (arguments.first + 3) words))
+  Ok (commands.Find common arguments.options.time arguments.options.prefix (drop (arguments.first + 3) words))
 
 -- INDEX USER START
 unfoldable pub ls_of : List Word → Arguments → Result Command WordError
@@ -103,7 +103,7 @@ stats_of words arguments = do
   common ← common_of words arguments.first arguments.options
   report ← needed read_report words (arguments.first + 3)
   no_more words (arguments.first + 4)
-  Ok (commands.Stats common report)
+  Ok (commands.Stats common arguments.options.names report)
 
 -- SCRIPT
 unfoldable pub session_of : List Word → Arguments → Result Command WordError

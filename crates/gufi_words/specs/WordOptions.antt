@@ -1,4 +1,4 @@
--- The options of a command, which stand behind its name in any order, each at most once.
+-- The options of a command, which stand behind its name in any order, each at most once, and none beside one that excludes it.
 use Rattle.std.specs.Prelude.{ℕ, ◌+◌, Bool, true, false, not, ◌==◌, ◌&&◌, ◌||◌, nat_lt, List, [], ◌∷◌, length, Option, Some, None, is_some, unwrap_or, Result, Ok, Err, if◌then◌else◌, bytes_eq, codes}
 use Rattle.std.specs.Bool.{nat_eq}
 use Rattle.std.specs.List.{starts_with, position_or_len, before_first, after_first}
@@ -6,12 +6,12 @@ use Rattle.gufi_base.specs.Delimiters.{default_delimiter}
 use Rattle.gufi_base.specs.Basics.{refuse, ◌>>◌}
 use Rattle.gufi_base.specs.Numbers.{read_u64, read_i64}
 use Rattle.gufi_words.specs.WordNumbers.{refused_at}
-use Rattle.gufi_words.specs.WordValues.{Word, read_delimiter, read_workers, read_cache, read_file}
+use Rattle.gufi_words.specs.WordValues.{Word, read_delimiter, read_workers, read_cache, read_file, read_any}
 use Rattle.gufi_words.specs.CommandNames.{option_named, takes_value, allows}
 use Rattle.gufi_words.specs.declared.word.WordError.{WordError}
 use Rattle.gufi_words.specs.declared.name.CommandName.{CommandName}
 use Rattle.gufi_words.specs.declared.name.OptionName.{OptionName}
-use Rattle.gufi_words.specs.declared.name.OptionName.TheVariants.{Passwd, Group, Delim, Limit, Workers, Now, Cache, Long, All, Summary}
+use Rattle.gufi_words.specs.declared.name.OptionName.TheVariants.{Passwd, Group, Delim, Limit, Workers, Now, Cache, Prefix, Long, All, Summary, Names, Escape, Header, Json}
 use Rattle.gufi_words.specs.declared.option.Options.{Options}
 use Rattle.gufi_words.specs.declared.option.Reading.{Reading}
 use Rattle.gufi_words.specs.declared.option.Arguments.{Arguments}
@@ -19,7 +19,7 @@ use Rattle.gufi_words.specs.declared.option.Step.{Step}
 use Rattle.gufi_words.specs.declared.option.Step.TheVariants.{Taken, Dropped, Positional, Refused}
 
 abbrev pub no_options : Options
-no_options = record { passwd = None; group = None; delim = None; limit = None; workers = None; time = None; cache = None; long = false; all = false; summary = false }
+no_options = record { passwd = None; group = None; delim = None; limit = None; workers = None; time = None; cache = None; prefix = None; long = false; all = false; summary = false; names = false; escape = false; header = false; json = false }
 
 abbrev pub has_option : Options → OptionName → Bool
 has_option options Passwd = is_some options.passwd
@@ -29,9 +29,21 @@ has_option options Limit = is_some options.limit
 has_option options Workers = is_some options.workers
 has_option options Now = is_some options.time
 has_option options Cache = is_some options.cache
+has_option options Prefix = is_some options.prefix
 has_option options Long = options.long
 has_option options All = options.all
 has_option options Summary = options.summary
+has_option options Names = options.names
+has_option options Escape = options.escape
+has_option options Header = options.header
+has_option options Json = options.json
+
+-- an object a row has no columns to escape, and no line of names
+abbrev pub excludes : Options → OptionName → Bool
+excludes options Escape = options.json
+excludes options Header = options.json
+excludes options Json = options.escape || options.header
+excludes options option = false
 
 -- the options with one more, which is left out where its value can't be taken
 abbrev pub put : Options → OptionName → Word → Options
@@ -42,9 +54,14 @@ put options Limit value = record options { limit = read_u64 value }
 put options Workers value = record options { workers = read_workers value }
 put options Now value = record options { time = read_i64 value }
 put options Cache value = record options { cache = read_cache value }
+put options Prefix value = record options { prefix = read_any value }
 put options Long value = record options { long = true }
 put options All value = record options { all = true }
 put options Summary value = record options { summary = true }
+put options Names value = record options { names = true }
+put options Escape value = record options { escape = true }
+put options Header value = record options { header = true }
+put options Json value = record options { json = true }
 
 -- what stands for an option that isn't given
 abbrev pub delim_or_default : Options → ℕ
@@ -79,18 +96,18 @@ is_positional word = not (starts_with nat_eq word (codes "-")) || bytes_eq word 
 
 -- the option is given this value
 abbrev pub step_with : Options → OptionName → Word → Step
-step_with options name value =
-    if has_option (put options name value) name then Taken (record { options = put options name value; waiting = None }) else Refused
+step_with options option value =
+    if has_option (put options option value) option then Taken (record { options = put options option value; waiting = None }) else Refused
 
 -- the option is named, with a value in the same word perhaps
 abbrev pub step_named : Options → OptionName → Option Word → Step
-step_named options name None = if takes_value name then Taken (record { options = options; waiting = Some name }) else step_with options name []
-step_named options name (Some value) = if takes_value name then step_with options name value else Refused
+step_named options option None = if takes_value option then Taken (record { options = options; waiting = Some option }) else step_with options option []
+step_named options option (Some value) = if takes_value option then step_with options option value else Refused
 
--- an option of the command, which may stand once
+-- an option of the command, which may stand once, beside none that excludes it
 abbrev pub step_option : CommandName → Options → Option OptionName → Option Word → Step
 step_option command options None value = Refused
-step_option command options (Some name) value = if allows command name && not (has_option options name) then step_named options name value else Refused
+step_option command options (Some option) value = if allows command option && not (has_option options option || excludes options option) then step_named options option value else Refused
 
 -- a word comes, and no value is waited for
 unfoldable pub step_free : CommandName → Options → Word → Step
@@ -101,7 +118,7 @@ step_free command options word =
 
 -- a word comes
 abbrev pub step_waiting : CommandName → Options → Option OptionName → Word → Step
-step_waiting command options (Some name) word = step_with options name word
+step_waiting command options (Some option) word = step_with options option word
 step_waiting command options None word = step_free command options word
 
 unfoldable pub step_at : CommandName → Reading → Word → Step

@@ -50,16 +50,26 @@ pub enum Command {
     },
     Query {
         common: Common,
+        /// Columns stay columns, whatever bytes a name has.
+        escape: bool,
+        /// The names of the columns come first.
+        header: bool,
+        /// An object for each row; then neither of the two is given.
+        json: bool,
         text: Text,
     },
     Agg {
         common: Common,
+        /// Owners and groups are named, not numbered.
+        names: bool,
         text: Text,
     },
     Find {
         common: Common,
         /// In seconds.
         now: Option<i64>,
+        /// What stands before each path.
+        prefix: Option<Text>,
         words: Items<Text>,
     },
     Ls {
@@ -72,6 +82,8 @@ pub enum Command {
     },
     Stats {
         common: Common,
+        /// Owners and groups are named, not numbered.
+        names: bool,
         report: ReportWord,
     },
     Session {

@@ -99,10 +99,19 @@ fn query_of(alloc: Global, words: &[String], arguments: Arguments) -> Result<Com
     ensures { GivesUnless WordError.Memory result (query_of (texts words.now) arguments) }
 {
     let Arguments { options, first } = arguments;
+    let escape = options.escape;
+    let header = options.header;
+    let json = options.json;
     let common = common_of(alloc, words, first, options)?;
     let text = text_at(alloc, words, first + 3)?;
     no_more(words, first + 4)?;
-    Ok(Command::Query { common, text })
+    Ok(Command::Query {
+        common,
+        escape,
+        header,
+        json,
+        text,
+    })
 }
 
 #[tactic(auto, unfolding(crate::specs::CommandWords::agg_of))]
@@ -111,22 +120,33 @@ fn agg_of(alloc: Global, words: &[String], arguments: Arguments) -> Result<Comma
     ensures { GivesUnless WordError.Memory result (agg_of (texts words.now) arguments) }
 {
     let Arguments { options, first } = arguments;
+    let names = options.names;
     let common = common_of(alloc, words, first, options)?;
     let text = text_at(alloc, words, first + 3)?;
     no_more(words, first + 4)?;
-    Ok(Command::Agg { common, text })
+    Ok(Command::Agg {
+        common,
+        names,
+        text,
+    })
 }
 
-#[tactic(auto, unfolding(crate::specs::CommandWords::find_of))]
+#[tactic(auto, unfolding(crate::specs::CommandWords::find_of, crate::specs::CommandWords::common_of))]
 fn find_of(alloc: Global, words: &[String], arguments: Arguments) -> Result<Command, WordError>
     requires { arguments.first ≤ length words.now }
     ensures { GivesUnless WordError.Memory result (find_of (texts words.now) arguments) }
 {
-    let Arguments { options, first } = arguments;
+    let Arguments { mut options, first } = arguments;
     let now = options.time;
+    let prefix = options.prefix.take();
     let common = common_of(alloc, words, first, options)?;
     let words = words_from(alloc, words, first + 3)?;
-    Ok(Command::Find { common, now, words })
+    Ok(Command::Find {
+        common,
+        now,
+        prefix,
+        words,
+    })
 }
 
 #[tactic(auto, unfolding(crate::specs::CommandWords::ls_of))]
@@ -159,10 +179,15 @@ fn stats_of(alloc: Global, words: &[String], arguments: Arguments) -> Result<Com
     ensures { GivesUnless WordError.Memory result (stats_of (texts words.now) arguments) }
 {
     let Arguments { options, first } = arguments;
+    let names = options.names;
     let common = common_of(alloc, words, first, options)?;
     let report = report_at(words, first + 3)?;
     no_more(words, first + 4)?;
-    Ok(Command::Stats { common, report })
+    Ok(Command::Stats {
+        common,
+        names,
+        report,
+    })
 }
 
 #[tactic(auto, unfolding(crate::specs::CommandWords::session_of))]

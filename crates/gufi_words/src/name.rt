@@ -29,9 +29,14 @@ pub(crate) enum OptionName {
     Workers,
     Now,
     Cache,
+    Prefix,
     Long,
     All,
     Summary,
+    Names,
+    Escape,
+    Header,
+    Json,
 }
 
 impl OptionName {
@@ -47,9 +52,14 @@ impl OptionName {
             "--workers" => Some(OptionName::Workers),
             "--now" => Some(OptionName::Now),
             "--cache" => Some(OptionName::Cache),
+            "--prefix" => Some(OptionName::Prefix),
             "-l" => Some(OptionName::Long),
             "-A" => Some(OptionName::All),
             "--summary" => Some(OptionName::Summary),
+            "--names" => Some(OptionName::Names),
+            "--escape" => Some(OptionName::Escape),
+            "--header" => Some(OptionName::Header),
+            "--json" => Some(OptionName::Json),
             _ => None,
         }
     }
@@ -58,7 +68,13 @@ impl OptionName {
         ensures { result ≡ takes_value self }
     {
         match self {
-            OptionName::Long | OptionName::All | OptionName::Summary => false,
+            OptionName::Long
+            | OptionName::All
+            | OptionName::Summary
+            | OptionName::Names
+            | OptionName::Escape
+            | OptionName::Header
+            | OptionName::Json => false,
             _ => true,
         }
     }
@@ -107,10 +123,19 @@ impl CommandName {
             CommandName::Walk => false,
             CommandName::Trace2index => matches!(option, OptionName::Delim),
             CommandName::Rollup => matches!(option, OptionName::Delim | OptionName::Limit),
-            CommandName::Query | CommandName::Agg | CommandName::Stat | CommandName::Stats => {
-                option.is_common()
+            CommandName::Query => {
+                matches!(
+                    option,
+                    OptionName::Escape | OptionName::Header | OptionName::Json
+                ) || option.is_common()
             }
-            CommandName::Find => matches!(option, OptionName::Now) || option.is_common(),
+            CommandName::Agg | CommandName::Stats => {
+                matches!(option, OptionName::Names) || option.is_common()
+            }
+            CommandName::Stat => option.is_common(),
+            CommandName::Find => {
+                matches!(option, OptionName::Now | OptionName::Prefix) || option.is_common()
+            }
             CommandName::Ls => {
                 matches!(option, OptionName::Long | OptionName::All) || option.is_common()
             }

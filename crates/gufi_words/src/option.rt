@@ -3,10 +3,12 @@
 ghost use Rattle.std.specs.Prelude.{◌≡◌, ◌<◌, ◌≤◌, IfOk, length, drop, option_map};
 ghost use Rattle.gufi_base.specs.Basics.{GivesUnless};
 ghost use Rattle.gufi_words.specs.WordTexts.{texts};
-ghost use Rattle.gufi_words.specs.WordOptions.{no_options, has_option, put, delim_or_default, limit_or_default, workers_or_default, cache_or_default, start, before_equals, after_equals, is_positional, step_with, step_named, step_free, step_at, read_options};
+ghost use Rattle.gufi_words.specs.WordOptions.{no_options, has_option, excludes, put, delim_or_default, limit_or_default, workers_or_default, cache_or_default, start, before_equals, after_equals, is_positional, step_with, step_named, step_free, step_at, read_options};
 
 use crate::name::{CommandName, OptionName};
-use crate::value::{DEFAULT_DELIMITER, read_cache, read_delimiter, read_file, read_workers};
+use crate::value::{
+    DEFAULT_DELIMITER, read_cache, read_delimiter, read_file, read_workers, text_of,
+};
 use crate::word::{WordError, refused_at};
 use gufi_base::{Text, read_i64, read_u64};
 use std::alloc::{AllocError, Global};
@@ -23,9 +25,14 @@ pub(crate) struct Options {
     pub(crate) time: Option<i64>,
     /// How many replies each lane keeps.
     pub(crate) cache: Option<u32>,
+    pub(crate) prefix: Option<Text>,
     pub(crate) long: bool,
     pub(crate) all: bool,
     pub(crate) summary: bool,
+    pub(crate) names: bool,
+    pub(crate) escape: bool,
+    pub(crate) header: bool,
+    pub(crate) json: bool,
 }
 
 /// The options so far, and the one whose value comes next.
@@ -66,9 +73,14 @@ impl Options {
             workers: None,
             time: None,
             cache: None,
+            prefix: None,
             long: false,
             all: false,
             summary: false,
+            names: false,
+            escape: false,
+            header: false,
+            json: false,
         }
     }
 
@@ -84,9 +96,25 @@ impl Options {
             OptionName::Workers => self.workers.is_some(),
             OptionName::Now => self.time.is_some(),
             OptionName::Cache => self.cache.is_some(),
+            OptionName::Prefix => self.prefix.is_some(),
             OptionName::Long => self.long,
             OptionName::All => self.all,
             OptionName::Summary => self.summary,
+            OptionName::Names => self.names,
+            OptionName::Escape => self.escape,
+            OptionName::Header => self.header,
+            OptionName::Json => self.json,
+        }
+    }
+
+    /// Whether one of them may not stand beside the option.
+    fn excludes(&self, name: OptionName) -> bool
+        ensures { result ≡ excludes self.now name }
+    {
+        match name {
+            OptionName::Escape | OptionName::Header => self.json,
+            OptionName::Json => self.escape || self.header,
+            _ => false,
         }
     }
 
@@ -102,9 +130,14 @@ impl Options {
             OptionName::Workers => self.workers = read_workers(value),
             OptionName::Now => self.time = read_i64(value.as_bytes()),
             OptionName::Cache => self.cache = read_cache(value),
+            OptionName::Prefix => self.prefix = Some(text_of(alloc, value)?),
             OptionName::Long => self.long = true,
             OptionName::All => self.all = true,
             OptionName::Summary => self.summary = true,
+            OptionName::Names => self.names = true,
+            OptionName::Escape => self.escape = true,
+            OptionName::Header => self.header = true,
+            OptionName::Json => self.json = true,
         }
         Ok(self)
     }
@@ -213,7 +246,7 @@ fn step_free(
     }
     let (name, value) = name_and_value(word);
     match OptionName::of(name) {
-        Some(name) if command.allows(name) && !options.has(name) => {
+        Some(name) if command.allows(name) && !(options.has(name) || options.excludes(name)) => {
             step_named(alloc, options, name, value)
         }
         _ => Ok(Step::Refused),

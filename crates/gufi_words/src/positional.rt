@@ -14,6 +14,7 @@ use crate::command::ReportWord;
 use crate::name::CommandName;
 use crate::value::{
     DEFAULT_DELIMITER, read_count, read_delimiter, read_file, read_gids, read_report, read_start,
+    text_of,
 };
 use crate::word::{WordError, refused_at};
 use gufi_base::{Items, Nums, Path, Text, read_u32};
@@ -88,8 +89,7 @@ pub(crate) fn text_at(alloc: Global, words: &[String], place: usize) -> Result<T
     ensures { GivesUnless WordError.Memory result (needed read_any (texts words.now) place) }
 {
     let word = word_at(words, place)?;
-    let text = String::from_str(alloc, word)?;
-    Ok(Text::of(text))
+    Ok(text_of(alloc, word)?)
 }
 
 /// The path of the start.

@@ -93,6 +93,13 @@ pub(crate) fn read_file(alloc: Global, word: &str) -> Result<Option<Text>, Alloc
     Ok(Some(Text::of(text)))
 }
 
+/// A copy of the word, whatever it is.
+pub(crate) fn text_of(alloc: Global, word: &str) -> Result<Text, AllocError>
+    ensures { IfOk result (λ text. text ≡ word.now) }
+{
+    Ok(Text::of(String::from_str(alloc, word)?))
+}
+
 /// The path of the start.
 pub(crate) fn read_start(alloc: Global, word: &str) -> Result<Option<Path>, AllocError>
     ensures { IfOk result (λ path. path ≡ read_start word.now) }

@@ -65,13 +65,22 @@ fn with_option<'a>(
     command.arg(Arg::new(alloc, name).long(name))
 }
 
-fn with_flag<'a>(
+fn with_letter<'a>(
     alloc: Global,
     command: ClapCommand<'a>,
     name: &'a str,
     letter: char,
 ) -> Result<ClapCommand<'a>, AllocError> {
     let flag = Arg::new(alloc, name).short(letter);
+    command.arg(flag.action(ArgAction::SetTrue))
+}
+
+fn with_flag<'a>(
+    alloc: Global,
+    command: ClapCommand<'a>,
+    name: &'a str,
+) -> Result<ClapCommand<'a>, AllocError> {
+    let flag = Arg::new(alloc, name).long(name);
     command.arg(flag.action(ArgAction::SetTrue))
 }
 
@@ -83,21 +92,45 @@ fn with_positional<'a>(
     command.arg(Arg::new(alloc, name).required(true))
 }
 
-fn clap_ls<'a>(alloc: Global) -> Result<ClapCommand<'a>, AllocError> {
-    let mut ls = ClapCommand::new(alloc, "ls");
+/// What each command has that asks an index.
+fn with_common<'a>(
+    alloc: Global,
+    mut command: ClapCommand<'a>,
+) -> Result<ClapCommand<'a>, AllocError> {
     for name in ["passwd", "group", "delim", "limit", "workers"] {
-        ls = with_option(alloc, ls, name)?;
+        command = with_option(alloc, command, name)?;
     }
-    ls = with_flag(alloc, ls, "long", 'l')?;
-    ls = with_flag(alloc, ls, "all", 'A')?;
     for name in ["index", "user", "start"] {
-        ls = with_positional(alloc, ls, name)?;
+        command = with_positional(alloc, command, name)?;
     }
+    Ok(command)
+}
+
+fn clap_ls<'a>(alloc: Global) -> Result<ClapCommand<'a>, AllocError> {
+    let mut ls = with_common(alloc, ClapCommand::new(alloc, "ls"))?;
+    ls = with_letter(alloc, ls, "long", 'l')?;
+    ls = with_letter(alloc, ls, "all", 'A')?;
     Ok(ls)
 }
 
-fn found_by_clap<'a>(alloc: Global, words: &'a [String]) -> Result<ArgMatches<'a>, ClapError> {
-    clap_ls(alloc)?.try_get_matches_from(words)
+fn clap_find<'a>(alloc: Global) -> Result<ClapCommand<'a>, AllocError> {
+    let find = with_common(alloc, ClapCommand::new(alloc, "find"))?;
+    with_option(alloc, find, "prefix")
+}
+
+fn clap_query<'a>(alloc: Global) -> Result<ClapCommand<'a>, AllocError> {
+    let mut query = with_common(alloc, ClapCommand::new(alloc, "query"))?;
+    for name in ["escape", "header", "json"] {
+        query = with_flag(alloc, query, name)?;
+    }
+    with_positional(alloc, query, "text")
+}
+
+fn found_by_clap<'a>(
+    command: ClapCommand<'a>,
+    words: &'a [String],
+) -> Result<ArgMatches<'a>, ClapError> {
+    command.try_get_matches_from(words)
 }
 
 fn has_value(found: &ArgMatches<'_>, name: &str, value: Option<&str>) -> bool {
@@ -138,7 +171,7 @@ fn assert_flags<R: Abort>(rt: &R, found: &ArgMatches<'_>, long: bool, all: bool)
     assert_eq!(rt; all, found.get_flag("all"));
 }
 
-fn assert_found<R: AllocGlobal + Abort>(
+fn assert_ls<R: AllocGlobal + Abort>(
     rt: &R,
     words: &[String],
     command: &Command,
@@ -146,7 +179,7 @@ fn assert_found<R: AllocGlobal + Abort>(
     let Command::Ls { common, long, all } = command else {
         panic!(rt; "it is another command");
     };
-    let found = found_by_clap(rt.alloc(), words)?;
+    let found = found_by_clap(clap_ls(rt.alloc())?, words)?;
     assert_common(rt, &found, common);
     assert_flags(rt, &found, *long, *all);
     Ok(())
@@ -156,5 +189,68 @@ fn assert_found<R: AllocGlobal + Abort>(
 fn clap_finds_the_same_in_the_words_of_ls(rt: HostRuntime) -> Result<(), Fail> {
     let words = words_of(rt.alloc(), "ls --delim=| --passwd=P --group=G -l H ana /")?;
     let command = read_words(rt.alloc(), words.as_slice())?;
-    assert_found(&rt, words.as_slice(), &command)
+    assert_ls(&rt, words.as_slice(), &command)
+}
+
+fn assert_find<R: AllocGlobal + Abort>(
+    rt: &R,
+    words: &[String],
+    command: &Command,
+) -> Result<(), Fail> {
+    let Command::Find { common, prefix, .. } = command else {
+        panic!(rt; "it is another command");
+    };
+    let found = found_by_clap(clap_find(rt.alloc())?, words)?;
+    let prefix = prefix.as_ref().map(|prefix| prefix.as_str());
+    assert_common(rt, &found, common);
+    assert!(rt; has_value(&found, "prefix", prefix));
+    assert_eq!(rt; prefix, Some("/data/site2"));
+    Ok(())
+}
+
+#[test]
+fn clap_finds_the_same_in_the_words_of_find(rt: HostRuntime) -> Result<(), Fail> {
+    let line = "find --delim=| --passwd=P --prefix /data/site2 --group=G H ana /";
+    let words = words_of(rt.alloc(), line)?;
+    let command = read_words(rt.alloc(), words.as_slice())?;
+    assert_find(&rt, words.as_slice(), &command)
+}
+
+fn assert_forms<R: Abort>(rt: &R, found: &ArgMatches<'_>, escape: bool, header: bool, json: bool) {
+    assert_eq!(rt; escape, found.get_flag("escape"));
+    assert_eq!(rt; header, found.get_flag("header"));
+    assert_eq!(rt; json, found.get_flag("json"));
+    assert!(rt; escape);
+    assert!(rt; header);
+    assert!(rt; !json);
+}
+
+fn assert_query<R: AllocGlobal + Abort>(
+    rt: &R,
+    words: &[String],
+    command: &Command,
+) -> Result<(), Fail> {
+    let Command::Query {
+        common,
+        escape,
+        header,
+        json,
+        text,
+    } = command
+    else {
+        panic!(rt; "it is another command");
+    };
+    let found = found_by_clap(clap_query(rt.alloc())?, words)?;
+    assert_common(rt, &found, common);
+    assert_forms(rt, &found, *escape, *header, *json);
+    assert!(rt; has_value(&found, "text", Some(text.as_str())));
+    Ok(())
+}
+
+#[test]
+fn clap_finds_the_same_in_the_words_of_query(rt: HostRuntime) -> Result<(), Fail> {
+    let line = "query --delim=| --header --passwd=P --group=G --escape H ana / SELECT";
+    let words = words_of(rt.alloc(), line)?;
+    let command = read_words(rt.alloc(), words.as_slice())?;
+    assert_query(&rt, words.as_slice(), &command)
 }

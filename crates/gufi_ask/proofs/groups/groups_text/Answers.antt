@@ -1,5 +1,6 @@
 use Rattle.std.proofs.Common.{◌<◌, ◌∙◌, List, sym, ap, subst, length}
 use Rattle.std.specs.Prelude.{All}
+use Rattle.std.specs.Option.{option_copied}
 use Rattle.gufi_base.specs.declared.record.Row.{Row}
 use Rattle.gufi_select.specs.Columns.{select_holds}
 use Rattle.gufi_agg.specs.declared.agg.AggKey.{AggKey}
@@ -23,8 +24,8 @@ lines_of_groups-requires g c =
 
 pub returns-in_ok-lines_of_groups-in-Ok : goal.returns-in_ok-lines_of_groups-in-Ok
 returns-in_ok-lines_of_groups-in-Ok g c =
-    replies_found c.args.snap.now.tree c.args.who.now c.args.start.now (agg_ask c.args.agg.now) c.in_ok-lines_of_groups-in-Ok.field-0 c.in-Ok.ensures.found
-    (c.in_ok-lines_of_groups-in-Ok.ensures ∙ ap (agg_text c.args.agg.now (length c.args.start.now)) (c.deref.ensures.value ∙ c.in-Ok.ensures.groups))
+    replies_found c.args.snap.now.tree c.args.who.now c.args.start.now (agg_ask (option_copied c.args.names) c.args.agg.now) c.in_ok-lines_of_groups-in-Ok.field-0 c.in-Ok.ensures.found
+    (c.in_ok-lines_of_groups-in-Ok.ensures ∙ ap (agg_text (option_copied c.args.names) c.args.agg.now (length c.args.start.now)) (c.deref.ensures.value ∙ c.in-Ok.ensures.groups))
 
 pub returns-in-Err : goal.returns-in-Err
-returns-in-Err g c = replies_refused c.args.snap.now.tree c.args.who.now c.args.start.now (agg_ask c.args.agg.now) c.in-Err.refusal c.in-Err.ensures.refusal
+returns-in-Err g c = replies_refused c.args.snap.now.tree c.args.who.now c.args.start.now (agg_ask (option_copied c.args.names) c.args.agg.now) c.in-Err.refusal c.in-Err.ensures.refusal

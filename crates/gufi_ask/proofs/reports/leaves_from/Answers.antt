@@ -13,9 +13,9 @@ leaves_text-requires g c = record {
 }
 
 pub returns-in_ok-leaves_text-in-Ok : goal.returns-in_ok-leaves_text-in-Ok
-returns-in_ok-leaves_text-in-Ok g c =
-    replies_found c.args.snap.now.tree c.args.who.now c.args.start.now (stats_ask reports.Leaves) c.in_ok-leaves_text-in-Ok.field-0 c.in-Ok.ensures.found
-    (c.in_ok-leaves_text-in-Ok.ensures (answer c.args.snap.now.tree c.args.who.now c.args.start.now (λ row depth. true)) c.args.start.now (c.deref.ensures.value ∙ c.in-Ok.ensures.rows ∙ answer-kept c.args.snap.now.tree c.args.who.now c.args.start.now is_dir_row))
+returns-in_ok-leaves_text-in-Ok g c names =
+    replies_found c.args.snap.now.tree c.args.who.now c.args.start.now (stats_ask names reports.Leaves) c.in_ok-leaves_text-in-Ok.field-0 c.in-Ok.ensures.found
+    (c.in_ok-leaves_text-in-Ok.ensures names (answer c.args.snap.now.tree c.args.who.now c.args.start.now (λ row depth. true)) c.args.start.now (c.deref.ensures.value ∙ c.in-Ok.ensures.rows ∙ answer-kept c.args.snap.now.tree c.args.who.now c.args.start.now is_dir_row))
 
 pub returns-in-Err : goal.returns-in-Err
-returns-in-Err g c = replies_refused c.args.snap.now.tree c.args.who.now c.args.start.now (stats_ask reports.Leaves) c.in-Err.refusal c.in-Err.ensures.refusal
+returns-in-Err g c names = replies_refused c.args.snap.now.tree c.args.who.now c.args.start.now (stats_ask names reports.Leaves) c.in-Err.refusal c.in-Err.ensures.refusal

@@ -6,6 +6,7 @@ abbrev pub invariant-pieces : goal.invariant-pieces
 invariant-pieces g l = record {
   in_hand : g.F.Shelf.in_hand l.shelf ≡ true;
   same : g.F.Shelf.files l.shelf ≡ g.F.Shelf.files l.fn.shelf;
+  opens : g.F.Shelf.opens l.shelf ≡ g.F.Shelf.opens l.fn.shelf;
   faults : g.F.Shelf.faults l.fn.shelf ≤ g.F.Shelf.faults l.shelf;
   absents : g.F.Shelf.absents l.shelf ≡ g.F.Shelf.absents l.fn.shelf;
   taken : IsTakenUpTo (g.T.TakeBytes.has_taken l.fn.out) (g.F.Shelf.files l.fn.shelf) l.name (g.F.Shelf.left l.shelf) l.out l.size;

@@ -3,6 +3,7 @@ use Rattle.std.proofs.lemmas.Grind.{common_steps}
 use Rattle.gufi_plan.specs.Settings.{setting_of}
 use Rattle.gufi_plan.proofs.PlanLemmas.{plan_first, few_first, plan_more, plan_stops, plan_ends}
 use Rattle.gufi_plan.proofs.AskLemmas.{WordsShort, plan_tells, short_more, short_ends}
+use Rattle.gufi_plan.proofs.BoundLemmas.{plan_bounded}
 use Rattle.gufi_plan.proofs.planning.plan_acts.Goals as goal
 
 pub acts-init : goal.acts-init
@@ -42,6 +43,13 @@ ended-requires-clause-told c =
     let none : l.line-iterator.rest.items ≡ [] = (first_of (search rules, grind (arith, common_steps))) in
     let all = sym l.invariant.whole ∙ plan_ends (setting_of c.args.setup.now) l.phases.done.items l.phases.current.items l.line-iterator.rest.items none in
     plan_tells (setting_of c.args.setup.now) c.args.script _ (short_ends l.line-iterator.rest.items c.args.script none l.invariant.short) all
+
+pub ended-requires-clause-bounded : goal.ended-requires-clause-bounded
+ended-requires-clause-bounded c =
+    let l = c.acts in
+    let none : l.line-iterator.rest.items ≡ [] = (first_of (search rules, grind (arith, common_steps))) in
+    let all = sym l.invariant.whole ∙ plan_ends (setting_of c.args.setup.now) l.phases.done.items l.phases.current.items l.line-iterator.rest.items none in
+    plan_bounded (setting_of c.args.setup.now) c.args.script _ c.requires.script all
 
 pub returns : goal.returns
 returns c =

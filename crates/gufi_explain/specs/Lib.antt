@@ -1,0 +1,11 @@
+pub mod Shown
+pub mod Rules
+pub mod Nearest
+pub mod Roles
+pub mod Notes
+pub mod Refused
+pub mod Faults
+pub mod Errors
+pub mod Files
+pub mod Starts
+pub mod Explained

@@ -1,0 +1,171 @@
+//! What is told of a file that can't be read, that is damaged, or that passes a limit.
+ghost use Rattle.std.specs.Prelude.{◌≡◌, ◌++◌, OnOk, Some, option_map};
+ghost use Rattle.gufi_explain.specs.Files.{name_before, error_told, unread, front_told, line_told, offset_told, shown_line, shown_offset, line_lines, offset_lines, damage_lines, damage_told, limit_lines, limit_told};
+
+use crate::error::error_words;
+use crate::note::{before_mark, behind_file, behind_marks, behind_word, first_word};
+use crate::rules::{Rules, put_rule};
+use crate::shown::{front, put_escaped, put_told};
+use gufi_base::{Memory, behind, put, read_u32};
+use std::io::ErrorKind;
+
+// How many bytes of a line are shown.
+const MOST_SHOWN: usize = 200;
+
+// The name of the file, where it may be shown.
+fn put_name(out: &mut Vec<u8>, files: bool, file: Option<&str>) -> Result<(), Memory>
+    ensures { OnOk result (out.new.items ≡ out.old.items ++ name_before files (option_map (λ file. file.now) file.entry)) }
+{
+    match file {
+        Some(file) if files => {
+            put_escaped(out, file.as_bytes())?;
+            put(out, b": ")
+        }
+        _ => Ok(()),
+    }
+}
+
+/// Appends why a file couldn't be read, with its name where that may be shown.
+pub(crate) fn put_error(
+    out: &mut Vec<u8>,
+    files: bool,
+    file: Option<&str>,
+    error: Option<ErrorKind>,
+) -> Result<(), Memory>
+    ensures { OnOk result (out.new.items ≡ out.old.items ++ error_told files (option_map (λ file. file.now) file.entry) error) }
+{
+    match error {
+        Some(kind) => {
+            put(out, b"  ")?;
+            put_name(out, files, file)?;
+            put(out, error_words(kind).as_bytes())?;
+            put(out, b"\n")
+        }
+        None => Ok(()),
+    }
+}
+
+fn put_unread(out: &mut Vec<u8>) -> Result<(), Memory>
+    ensures { OnOk result (out.new.items ≡ out.old.items ++ unread) }
+{
+    put_told(out, b"what stands there can't be read again")
+}
+
+fn put_front(out: &mut Vec<u8>, text: &[u8]) -> Result<(), Memory>
+    ensures { OnOk result (out.new.items ≡ out.old.items ++ front_told (Some text.now)) }
+{
+    put(out, b"  ")?;
+    put_escaped(out, front(before_mark(b'\n', text), MOST_SHOWN))?;
+    put(out, b"\n")
+}
+
+// The first bytes of the line of a number.
+fn put_line(out: &mut Vec<u8>, bytes: Option<&[u8]>, number: u32) -> Result<(), Memory>
+    ensures { OnOk result (out.new.items ≡ out.old.items ++ line_told (option_map (λ bytes. bytes.now) bytes.entry) number) }
+{
+    let Some(bytes) = bytes else {
+        return put_unread(out);
+    };
+    match behind_marks(b'\n', (number as usize).saturating_sub(1), bytes) {
+        Some(text) => put_front(out, text),
+        None => put_unread(out),
+    }
+}
+
+// The first bytes from an offset on.
+fn put_offset(out: &mut Vec<u8>, bytes: Option<&[u8]>, offset: u32) -> Result<(), Memory>
+    ensures { OnOk result (out.new.items ≡ out.old.items ++ offset_told (option_map (λ bytes. bytes.now) bytes.entry) offset) }
+{
+    let Some(bytes) = bytes else {
+        return put_unread(out);
+    };
+    let offset = offset as usize;
+    if offset >= bytes.len() {
+        return put_told(out, b"the file ends there");
+    }
+    put(out, b"  ")?;
+    put_escaped(out, front(behind(bytes, offset), 16))?;
+    put(out, b"\n")
+}
+
+// What a note tells behind `line`: the number, the kind and perhaps a field's number.
+#[tactic(auto, unfolding(crate::specs::Files::line_lines))]
+fn put_line_fault(
+    out: &mut Vec<u8>,
+    rules: &Rules,
+    files: bool,
+    bytes: Option<&[u8]>,
+    what: &[u8],
+) -> Result<(), Memory>
+    ensures { OnOk result (out.new.items ≡ out.old.items ++ line_lines rules.now files (option_map (λ bytes. bytes.now) bytes.entry) what.now) }
+{
+    let kind = behind_word(what);
+    if let Some(number) = read_u32(first_word(what))
+        && files
+    {
+        put_line(out, bytes, number)?;
+    }
+    put_rule(out, rules.line_kinds, first_word(kind))?;
+    put_rule(out, rules.fields, first_word(behind_word(kind)))
+}
+
+// What a note tells behind `offset`: the offset and the kind.
+#[tactic(auto, unfolding(crate::specs::Files::offset_lines))]
+fn put_offset_fault(
+    out: &mut Vec<u8>,
+    rules: &Rules,
+    files: bool,
+    bytes: Option<&[u8]>,
+    what: &[u8],
+) -> Result<(), Memory>
+    ensures { OnOk result (out.new.items ≡ out.old.items ++ offset_lines rules.now files (option_map (λ bytes. bytes.now) bytes.entry) what.now) }
+{
+    if let Some(offset) = read_u32(first_word(what))
+        && files
+    {
+        put_offset(out, bytes, offset)?;
+    }
+    put_rule(out, rules.offset_kinds, first_word(behind_word(what)))
+}
+
+/// Appends what is told of a note of status 5, of the file that was opened last.
+pub(crate) fn put_damage(
+    out: &mut Vec<u8>,
+    rules: &Rules,
+    files: bool,
+    bytes: Option<&[u8]>,
+    file: Option<&str>,
+    note: &[u8],
+) -> Result<(), Memory>
+    ensures { OnOk result (out.new.items ≡ out.old.items
+        ++ damage_told rules.now files (option_map (λ bytes. bytes.now) bytes.entry) (option_map (λ file. file.now) file.entry) note.now) }
+{
+    let Some(file) = file else {
+        return Ok(());
+    };
+    match behind_file(file, note) {
+        Some(what) if first_word(what) == "line".as_bytes() => {
+            put_line_fault(out, rules, files, bytes, behind_word(what))
+        }
+        Some(what) => put_offset_fault(out, rules, files, bytes, behind_word(what)),
+        None => Ok(()),
+    }
+}
+
+/// Appends what is told of a note of status 6, of the file that was opened last.
+pub(crate) fn put_limit(
+    out: &mut Vec<u8>,
+    rules: &Rules,
+    file: Option<&str>,
+    note: &[u8],
+) -> Result<(), Memory>
+    ensures { OnOk result (out.new.items ≡ out.old.items ++ limit_told rules.now (option_map (λ file. file.now) file.entry) note.now) }
+{
+    let Some(file) = file else {
+        return Ok(());
+    };
+    match behind_file(file, note) {
+        Some(what) => put_rule(out, rules.limits, first_word(behind_word(what))),
+        None => Ok(()),
+    }
+}

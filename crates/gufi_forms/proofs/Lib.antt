@@ -1,0 +1,10 @@
+pub mod Escapes
+pub mod Numbers
+pub mod TextLines
+pub mod ColumnLines
+pub mod Names
+pub mod Objects
+pub mod Values
+pub mod EscapedLines
+pub mod ObjectsBack
+pub mod ObjectLines
