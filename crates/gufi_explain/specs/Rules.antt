@@ -13,13 +13,16 @@ entry_of entries name = find (λ entry. bytes_eq entry.name.now name) entries
 abbrev pub command_of : List CommandForm → List ℕ → Option CommandForm
 command_of commands name = find (λ command. bytes_eq command.name.now name) commands
 
+abbrev pub row_of : List NamesBehind → List ℕ → Option NamesBehind
+row_of rows command = find (λ row. bytes_eq row.command.now command) rows
+
 -- the names that may stand behind the words of a command
 abbrev pub names_of : Option NamesBehind → List Entry
 names_of None = []
 names_of (Some row) = row.names.now
 
 abbrev pub names_behind : List NamesBehind → List ℕ → List Entry
-names_behind rows command = names_of (find (λ row. bytes_eq row.command.now command) rows)
+names_behind rows command = names_of (row_of rows command)
 
 -- an option takes a value, in its own word or in the next
 abbrev pub takes_value : Option Entry → Bool
