@@ -1,7 +1,7 @@
 -- The words of a command: its name, options, then positionals; or the first word that can't be taken.
-use Rattle.std.specs.Prelude.{ℕ, ◌+◌, List, length, drop, Result, Ok}
+use Rattle.std.specs.Prelude.{ℕ, ◌+◌, Bool, true, List, length, drop, Result, Ok}
 use Rattle.std.specs.Option.{ok_or}
-use Rattle.gufi_base.specs.Delimiters.{default_delimiter}
+use Rattle.gufi_base.specs.Delimiters.{default_delimiter, may_delimit}
 use Rattle.gufi_base.specs.Basics.{◌>>=◌, ◌>>◌}
 use Rattle.gufi_base.specs.Numbers.{read_u32}
 use Rattle.gufi_words.specs.WordNumbers.{number_at, refused_at}
@@ -164,3 +164,20 @@ read_words words = do
   name ← needed command_named words 0
   arguments ← read_options name start 1 (drop 1 words)
   command_of name words arguments
+
+-- the byte that is to separate the fields of what is written may do so
+abbrev pub is_delimited : Command → Bool
+is_delimited (commands.Walk trace uid gids delim) = true
+is_delimited (commands.Trace2index trace delim) = true
+is_delimited (commands.Rollup index delim limit) = true
+is_delimited (commands.Index2trace index delim) = may_delimit delim
+is_delimited (commands.Info index delim limit) = true
+is_delimited (commands.Refresh index delim limit path trace) = true
+is_delimited (commands.Query common escape header json text) = true
+is_delimited (commands.Agg common names text) = true
+is_delimited (commands.Find common now prefix words) = true
+is_delimited (commands.Ls common long all) = true
+is_delimited (commands.Stat common) = true
+is_delimited (commands.Stats common names report) = true
+is_delimited (commands.Session passwd group delim workers now cache script) = true
+is_delimited (commands.Gen n delim workers summary) = true
