@@ -37,7 +37,7 @@ CALLS = r"""
 2 nearest: find; gufi fnd lab.index 0 /
 2 nearest: query; gufi Query lab.index 0 / 'SELECT name FROM rows'
 2 nearest: stats; gufi stat5 lab.index 0 / levels
-2 the commands are walk find query agg ls stat stats trace2index rollup session gen; gufi search lab.index 0 /
+2 the commands are walk find query agg ls stat stats trace2index rollup index2trace info refresh session gen; gufi search lab.index 0 /
 2 nearest: --workers; gufi find --wrokers=4 lab.index 0 /
 2 nearest: --passwd; gufi find --paswd=lab.passwd lab.index ana /
 2 nearest: --limit; gufi rollup --limt=3 lab.index
@@ -68,6 +68,9 @@ CALLS = r"""
 2 GIDS is - for none, or numbers separated by commas; gufi walk lab.trace 0 1,
 2 N is the number of directories, 1 to 200,000; gufi gen 0
 2 rollup takes --limit=N [OPTION].. INDEX; gufi rollup lab.index
+2 refresh takes --limit=N [OPTION].. INDEX PATH TRACE; gufi refresh lab.index /open lab.trace
+2 PATH is the path of the directory that is replaced, without ..; / is the root; gufi refresh --limit=3 lab.index /.. lab.trace
+2 not an option of index2trace, whose options are --delim; gufi index2trace --limit=3 lab.index
 2 stat takes [OPTION].. INDEX USER START; gufi stat lab.index 0 / levels
 # expressions
 2 nearest: -name; gufi find lab.index 0 / -nmae '*.h5'

@@ -154,12 +154,12 @@ const EXPLAINED: [[&str; 3]; 23] = [
         "--explain fnd i",
         "2",
         "gufi: word 1 refused\n  fnd i\n  ^^^\n  no command\n\
-         \x20 the commands are walk find query agg ls stat stats trace2index rollup session gen\n  nearest: find\n",
+         \x20 the commands are walk find query agg ls stat stats trace2index rollup index2trace info refresh session gen\n  nearest: find\n",
     ],
     [
         "--explain",
         "2",
-        "gufi: word 1 refused\n  COMMAND is missing\n  the commands are walk find query agg ls stat stats trace2index rollup session gen\n",
+        "gufi: word 1 refused\n  COMMAND is missing\n  the commands are walk find query agg ls stat stats trace2index rollup index2trace info refresh session gen\n",
     ],
     [
         "--explain find --delim=| i 0 / -nmae x",
