@@ -27,6 +27,8 @@ sed 's/|420|/|rw-r--r--|/' lab.trace > modes.trace
 sed '3s/|d|/|dir|/' lab.trace > types.trace
 sed 's/ana:x:1001/ana:x:one/' lab.passwd > bad.passwd
 printf 'publish 0 lab.trace\\nbarrier\\nsearch 1 ana / find\\n' > verbs.session
+sed 's/README/READ,ME/' lab.trace > comma.trace
+gufi trace2index --delim='|' comma.trace > comma.index
 printf 'publish 0 lab.trace\\nbarrier\\nask 17 ana / find\\n' > lanes.session
 mkdir folder
 """
@@ -93,6 +95,7 @@ CALLS = r"""
 1 at /private; gufi find lab.index 1002 /private
 1 at /nosuch; gufi find lab.index 0 /nosuch/below
 1 what stands there has nothing below it; gufi find lab.index 0 /README/below
+1 no directory of that path is in the index; PATH begins at its root; gufi refresh --limit=3 --delim='|' lab.index /README lab.trace
 # files
 8 no such file or directory; gufi find lab.indx 0 /
 3 is a directory; gufi find folder 0 /
@@ -103,6 +106,7 @@ CALLS = r"""
 5 field 2, the type, is one of d f l b c p s; gufi find --delim='|' types.trace 0 /
 5 a uid or gid is a number below 2^32; of a script, a limit one below 2^64; gufi find --passwd=bad.passwd lab.index ana /
 5 a line begins with publish, rollup, refresh, ask or barrier; gufi session --delim='|' --passwd=lab.passwd verbs.session
+5 the delimiter stands in a name, a target, a name of an extended attribute or an access control list: --delim takes another; gufi index2trace --delim=, comma.index
 5 a lane is a number from 1 to 16; gufi session --delim='|' --passwd=lab.passwd lanes.session
 """
 
