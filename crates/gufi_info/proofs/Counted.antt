@@ -1,5 +1,5 @@
 -- What is found in rows, with a row more.
-use Rattle.std.proofs.Common.{◌≡◌, ℕ, ℤ, ◌+◌, ◌<◌, Bool, ◌||◌, List, [], ◌∷◌, ◌++◌, length, take, get_or, map, max, refl, sym, ap, ◌∙◌, arith, append_assoc, append-nil}
+use Rattle.std.proofs.Common.{◌≡◌, ℕ, ℤ, ◌+◌, ◌<◌, ◌≤◌, Bool, ◌||◌, List, [], ◌∷◌, ◌++◌, length, take, get_or, map, max, refl, sym, ap, ◌∙◌, arith, append_assoc, append-nil}
 use Rattle.std.specs.Prelude.{Some}
 use Rattle.std.specs.List.{list_any, flat_map}
 use Rattle.std.specs.Int.{int_min, int_max}
@@ -7,11 +7,12 @@ use Rattle.std.proofs.Math.Bool.{or-false}
 use Rattle.std.proofs.lemmas.Grind.{flat_map-append}
 use Rattle.std.proofs.lemmas.List.{take_more, map-append, length-append}
 use Rattle.std.proofs.lemmas.List.Folds.{list_any-append}
+use Rattle.std.proofs.lemmas.List.Sums.{sum_by_more, sum_by_more_le}
 use Rattle.gufi_base.specs.declared.record.Rec.{Rec}
 use Rattle.gufi_base.specs.declared.record.Row.{Row}
 use Rattle.gufi_base.specs.Paths.{Components}
 use Rattle.gufi_tree.specs.declared.tree.Entry.{Entry}
-use Rattle.gufi_tree.specs.Tree.{Directory, dir_row, entry_row, own_rows}
+use Rattle.gufi_tree.specs.Tree.{Directory, dir_row, entry_row, own_rows, entry_count}
 use Rattle.gufi_sums.specs.Total.{span, range_of}
 use Rattle.gufi_sums.specs.Laws.{range_of-append, nat_max_assoc, nat_max_comm, int_min_assoc, int_max_assoc}
 use Rattle.gufi_info.specs.declared.census.Census.{Census}
@@ -67,3 +68,14 @@ pub directories-more : (tree : List Directory) (k : ℕ) (dir : Directory) → k
 directories-more tree k dir inside is =
     let front : take (k + 1) tree ≡ take k tree ++ dir ∷ [] = take_more tree k dir inside ∙ ap (λ (d : Directory). take k tree ++ d ∷ []) (sym (is dir)) in
     ap census_of (sym (ap (flat_map own_rows) front ∙ flat_map-append own_rows (take k tree) (dir ∷ []) ∙ ap (λ (l : List Row). flat_map own_rows (take k tree) ++ l) (append-nil (own_rows dir))))
+
+-- ---- entries
+
+pub count_more : (tree : List Directory) (k : ℕ) (entries : List Entry) → k < length tree → ((d : Directory) → entries ≡ (get_or tree k d).entries) → entry_count (take (k + 1) tree) ≡ entry_count (take k tree) + length entries
+count_more [] k entries inside is = absurd (omega (arith, inside))
+count_more (dir ∷ tree) k entries inside is =
+    sum_by_more (λ (d : Directory). length d.entries) (dir ∷ tree) k dir inside ∙ ap (λ (es : List Entry). entry_count (take k (dir ∷ tree)) + length es) (sym (is dir))
+
+pub count_within : (tree : List Directory) (k : ℕ) (entries : List Entry) → k < length tree → ((d : Directory) → entries ≡ (get_or tree k d).entries) → entry_count (take k tree) + length entries ≤ entry_count tree
+count_within [] k entries inside is = absurd (omega (arith, inside))
+count_within (dir ∷ tree) k entries inside is = omega (arith, sum_by_more_le (λ (d : Directory). length d.entries) (dir ∷ tree) k dir inside, ap (λ (es : List Entry). length es) (is dir))

@@ -28,9 +28,18 @@ module _ (width : Width) where
 version_by : (tree : List Directory) → version_of (least (census_of (flat_map own_rows tree)).acls (census_of (flat_map own_rows tree)).xattrs) ≡ version_of (width_of tree)
 version_by tree = λ i. version_of (least (rows Guarded tree i) (rows Named tree i))
 
-pub version_is : (census : Census) (tree : List Directory) (acls xattrs : Bool) → census ≡ census_of (flat_map own_rows tree) → census.acls ≡ acls → census.xattrs ≡ xattrs
+version_is : (census : Census) (tree : List Directory) (acls xattrs : Bool) → census ≡ census_of (flat_map own_rows tree) → census.acls ≡ acls → census.xattrs ≡ xattrs
     → version_of (least acls xattrs) ≡ version_of (width_of tree)
 version_is census tree acls xattrs is one other =
     (λ i. version_of (least (sym one i) (sym other i))) ∙ ap (λ (c : Census). version_of (least c.acls c.xattrs)) is ∙ version_by tree
 
-pub ruleset versions = version_is
+pub with_lists : (census : Census) (tree : List Directory) → census ≡ census_of (flat_map own_rows tree) → census.acls ≡ true → 3 ≡ version_of (width_of tree)
+with_lists census tree is acls = version_is census tree true census.xattrs is acls refl
+
+pub with_names : (census : Census) (tree : List Directory) → census ≡ census_of (flat_map own_rows tree) → census.acls ≡ false → census.xattrs ≡ true → 2 ≡ version_of (width_of tree)
+with_names census tree is acls xattrs = version_is census tree false true is acls xattrs
+
+pub with_neither : (census : Census) (tree : List Directory) → census ≡ census_of (flat_map own_rows tree) → census.acls ≡ false → census.xattrs ≡ false → 1 ≡ version_of (width_of tree)
+with_neither census tree is acls xattrs = version_is census tree false false is acls xattrs
+
+pub ruleset versions = (with_lists, with_names, with_neither)

@@ -14,18 +14,21 @@ abbrev pub number_line : List ℕ → ℕ → List ℕ
 number_line word n = line (word ++ decimal n)
 
 -- the least and the greatest
+abbrev pub pair_line : List ℕ → ℤ → ℤ → List ℕ
+pair_line word least greatest = line (word ++ signed_decimal least ++ (codes " " ++ signed_decimal greatest))
+
 abbrev pub span_line : List ℕ → Option (ℤ × ℤ) → List ℕ
 span_line word None = []
-span_line word (Some times) = line (word ++ (signed_decimal times.0 ++ (codes " " ++ signed_decimal times.1)))
+span_line word (Some times) = pair_line word times.0 times.1
 
 abbrev pub answer_line : List ℕ → Bool → List ℕ
 answer_line word true = line (word ++ codes "yes")
 answer_line word false = line (word ++ codes "no")
 
--- an image has the least version that holds its tree, a trace has none
-abbrev pub version_line : Bool → List Directory → List ℕ
-version_line true tree = number_line (codes "version ") (version_of (width_of tree))
-version_line false tree = line (codes "version -")
+-- a trace has no version
+abbrev pub version_line : Bool → ℕ → List ℕ
+version_line true version = number_line (codes "version ") version
+version_line false version = line (codes "version -")
 
 abbrev pub size_lines : List Directory → ℕ → ℕ → List ℕ
 size_lines tree limit depth =
@@ -39,8 +42,8 @@ row_lines census =
     span_line (codes "atime ") census.atime ++ (span_line (codes "mtime ") census.mtime ++ (span_line (codes "ctime ") census.ctime
     ++ (answer_line (codes "acls ") census.acls ++ answer_line (codes "xattrs ") census.xattrs)))
 
--- of a tree under a limit, which an image holds or not
+-- Of a tree under a limit, which an image holds or not: an image has the least version that holds its tree.
 unfoldable pub info_text : Bool → List Directory → ℕ → List ℕ
 info_text image tree limit =
     let census = census_of (flat_map own_rows tree) in
-    version_line image tree ++ (size_lines tree limit census.depth ++ (roll_lines (roll_report tree (roll_flags tree limit)) ++ row_lines census))
+    version_line image (version_of (width_of tree)) ++ (size_lines tree limit census.depth ++ (roll_lines (roll_report tree (roll_flags tree limit)) ++ row_lines census))

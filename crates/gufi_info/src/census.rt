@@ -1,6 +1,6 @@
 //! What is found in one pass over the rows of a tree.
 
-ghost use Rattle.std.specs.Prelude.{◌≡◌, ◌+◌, ◌++◌, List, [], length, map, Some};
+ghost use Rattle.std.specs.Prelude.{◌≡◌, ◌+◌, ◌++◌, ◌||◌, List, [], length, map, Some};
 ghost use Rattle.std.specs.Int.{int_min, int_max};
 ghost use Rattle.std.specs.List.{flat_map};
 ghost use Rattle.gufi_base.specs.declared.record.Row.{Row};
@@ -36,6 +36,12 @@ fn with_time(times: Option<(i64, i64)>, time: i64) -> Option<(i64, i64)>
     }
 }
 
+fn is_either(one: bool, other: bool) -> bool
+    ensures { result ≡ (one || other) }
+{
+    one || other
+}
+
 impl Census {
     /// What is found in no row.
     fn empty() -> Census
@@ -61,8 +67,8 @@ impl Census {
             atime: with_time(self.atime, meta.atime),
             mtime: with_time(self.mtime, meta.mtime),
             ctime: with_time(self.ctime, meta.ctime),
-            acls: self.acls || !rec.acl().is_empty(),
-            xattrs: self.xattrs || !rec.xattrs().is_empty(),
+            acls: is_either(self.acls, !rec.acl().is_empty()),
+            xattrs: is_either(self.xattrs, !rec.xattrs().is_empty()),
         }
     }
 
@@ -81,9 +87,8 @@ impl Census {
     fn with_directory(self, dir: &DirRef<'_>) -> Census
         ensures { (rows : List Row) → self ≡ census_of rows → result ≡ census_of (rows ++ own_rows dir.now) }
     {
-        let depth = dir.depth() as u128;
-        self.with(depth, &dir.rec())
-            .with_entries(depth + 1, &dir.entries())
+        self.with(dir.depth() as u128, &dir.rec())
+            .with_entries(dir.depth() as u128 + 1, &dir.entries())
     }
 
     /// What is found in the rows of a tree. Linear in these.

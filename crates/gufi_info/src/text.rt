@@ -1,15 +1,16 @@
 //! The lines that tell of an index.
 
-ghost use Rattle.std.specs.Prelude.{◌≡◌, ◌++◌, List, IfOk, OnOk, codes};
+ghost use Rattle.std.specs.Prelude.{◌≡◌, ◌++◌, IfOk, OnOk, codes};
+ghost use Rattle.std.specs.Fmt.{signed_decimal};
 ghost use Rattle.std.specs.List.{flat_map};
 ghost use Rattle.gufi_roll.specs.CanRoll.{roll_flags, roll_report};
-ghost use Rattle.gufi_tree.specs.Tree.{Directory, own_rows};
+ghost use Rattle.gufi_tree.specs.Tree.{own_rows};
 ghost use Rattle.gufi_info.specs.Census.{census_of};
-ghost use Rattle.gufi_info.specs.Info.{number_line, span_line, answer_line, version_line, size_lines, roll_lines, row_lines, info_text};
+ghost use Rattle.gufi_info.specs.Info.{number_line, pair_line, span_line, answer_line, version_line, size_lines, roll_lines, row_lines, info_text};
 ghost use Rattle.gufi_image.specs.Widths.{version_of, width_of};
 
 use crate::census::{Census, entry_count};
-use gufi_base::{Memory, put, put_i64, put_named, put_u128, put_u64};
+use gufi_base::{Memory, put, put_i64, put_named, put_u128};
 use gufi_roll::{RollReport, roll, roll_report};
 use gufi_snap::Snapshot;
 use gufi_tree::Tree;
@@ -23,18 +24,31 @@ fn put_number(out: &mut Vec<u8>, word: &[u8], number: u64) -> Result<(), Memory>
     put(out, b"\n")
 }
 
-/// A word, and the least and the greatest of times; nothing where there is none.
+/// A word and a number, which may be below 0.
+fn put_signed(out: &mut Vec<u8>, word: &[u8], number: i64) -> Result<(), Memory>
+    ensures { OnOk result (out.new.items ≡ out.old.items ++ (word.now ++ signed_decimal number)) }
+{
+    put(out, word)?;
+    put_i64(out, number)
+}
+
+/// A word, and the least and the greatest of times.
+fn put_pair(out: &mut Vec<u8>, word: &[u8], least: i64, greatest: i64) -> Result<(), Memory>
+    ensures { OnOk result (out.new.items ≡ out.old.items ++ pair_line word.now least greatest) }
+{
+    put_signed(out, word, least)?;
+    put_signed(out, b" ", greatest)?;
+    put(out, b"\n")
+}
+
+/// The same; nothing where there is no time.
 fn put_span(out: &mut Vec<u8>, word: &[u8], times: Option<(i64, i64)>) -> Result<(), Memory>
     ensures { OnOk result (out.new.items ≡ out.old.items ++ span_line word.now times) }
 {
-    let Some((least, greatest)) = times else {
-        return Ok(());
-    };
-    put(out, word)?;
-    put_i64(out, least)?;
-    put(out, b" ")?;
-    put_i64(out, greatest)?;
-    put(out, b"\n")
+    match times {
+        None => Ok(()),
+        Some((least, greatest)) => put_pair(out, word, least, greatest),
+    }
 }
 
 /// A word, and whether it is so.
@@ -48,23 +62,27 @@ fn put_answer(out: &mut Vec<u8>, word: &[u8], holds: bool) -> Result<(), Memory>
     put(out, b"no\n")
 }
 
-/// The version of an image of such rows: the least that holds them.
+/// The version of an image of a tree, in whose rows this is found: the least that holds them.
 #[tactic(auto, using(crate::proofs::Versions::versions))]
-fn version_of(census: Census) -> u64
-    ensures { (tree : List Directory) → census ≡ census_of (flat_map own_rows tree) → result ≡ version_of (width_of tree) }
+fn version_of(tree: &Tree, census: Census) -> u64
+    requires { census ≡ census_of (flat_map own_rows tree.now) }
+    ensures { result ≡ version_of (width_of tree.now) }
 {
-    match (census.acls, census.xattrs) {
-        (true, _) => 3,
-        (false, true) => 2,
-        (false, false) => 1,
+    if census.acls {
+        return 3;
     }
+    if census.xattrs {
+        return 2;
+    }
+    1
 }
 
-fn put_version(out: &mut Vec<u8>, image: bool, census: Census) -> Result<(), Memory>
-    ensures { OnOk result ((tree : List Directory) → census ≡ census_of (flat_map own_rows tree) → out.new.items ≡ out.old.items ++ version_line image tree) }
+/// An image's version.
+fn put_version(out: &mut Vec<u8>, image: bool, version: u64) -> Result<(), Memory>
+    ensures { OnOk result (out.new.items ≡ out.old.items ++ version_line image version) }
 {
     if image {
-        return put_number(out, b"version ", version_of(census));
+        return put_number(out, b"version ", version);
     }
     put(out, b"version -\n")
 }
@@ -128,7 +146,7 @@ pub fn info_text(alloc: Global, snap: &Snapshot, image: bool) -> Result<Vec<u8>,
     let census = Census::of(tree);
     let report = report_of(alloc, tree, snap.limit())?;
     let mut text = Vec::new(alloc);
-    put_version(&mut text, image, census)?;
+    put_version(&mut text, image, version_of(tree, census))?;
     put_sizes(&mut text, tree, snap.limit(), census.depth)?;
     put_rolled(&mut text, report)?;
     put_rows(&mut text, census)?;

@@ -1,5 +1,5 @@
 -- Lemmas on runs that are refused nothing.
-use Rattle.std.proofs.Common.{◌≡◌, ◌⊎◌, ⊎_elim, ℕ, Bool, true, false, List, [], min, subst, inl, inr}
+use Rattle.std.proofs.Common.{◌≡◌, ◌⊎◌, ⊎_elim, ℕ, Bool, true, false, List, [], ◌∙◌, min, subst, inl, inr}
 use Rattle.std.specs.Prelude.{Option, Some, None, Result, Ok, Err, is_ok}
 use Rattle.std.proofs.lemmas.Bool.{false≢true, cases_eq}
 use Rattle.gufi_io.specs.Causes.{Rose}
@@ -26,7 +26,7 @@ use Rattle.gufi_top.specs.Verdict.{Written, Verdict, writes, runs, Asking, stat_
 use Rattle.gufi_top.specs.Ends.{told_verdict, RunEnds, EndsWith, EndedBy, IsVerdictStatus}
 use Rattle.gufi_top.specs.Endings.{HasRun}
 use Rattle.gufi_top.specs.Complete.{AskIsAnswerable, TraceIsAnswerable, RefreshIsAnswerable, SessionIsAnswerable, IsAnswerable, IsAnswered, Completes}
-use Rattle.gufi_top.specs.Laws.{AnswerableCommandsAreAnswered}
+use Rattle.gufi_top.specs.Laws.{AnswerableCommandsAreAnswered, RefreshWritesTheImageOfItsTree}
 use Rattle.gufi_top.proofs.GenLemmas.{gen_written}
 use Rattle.gufi_top.proofs.IndexCommands.{unwritten_ok, told_where_read, refresh_text}
 use Rattle.gufi_top.proofs.ListedTexts.{verdict_of, walk_text, asking_text}
@@ -88,6 +88,13 @@ command_answered (commands.Stat common) files can = ask_answered common stat_ask
 command_answered (commands.Stats common names report) files can = ask_answered common (stats_asking names (report_of report)) files can
 command_answered (commands.Session passwd group delim workers now cache script) files can = session_answered files (min cache max_cache) (session_plan passwd group delim now script files) can
 command_answered (commands.Gen n delim workers summary) files can = gen_answered n delim summary (gen_written generated_read roots_listed n delim summary can.0 can.1 can.2)
+
+-- what `refresh` writes then
+pub refresh_writes : RefreshWritesTheImageOfItsTree
+unfolding command_over
+refresh_writes words files index delim limit path trace snap part are index_is trace_is there few short =
+    verdict_of words files _ are
+    ∙ refresh_text index delim limit path trace files (record { snap = snap; part = part; index = index_is; trace = trace_is; there = there; few = few; short = short })
 
 pub commands_answered : AnswerableCommandsAreAnswered
 commands_answered words files command are can = rw (verdict_of words files command are) (command_answered command files can)

@@ -94,7 +94,7 @@ pub ruleset trace_files = (traced_ok, traced_err)
 
 -- ---- the index that the file's front tells
 
-index_is : (files : Files) (delim limit : ℕ) (name bytes : List ℕ) (image : Bool) → files name ≡ Some bytes → is_image bytes ≡ image → index_in delim limit name files ≡ index_by image delim limit name files
+pub index_is : (files : Files) (delim limit : ℕ) (name bytes : List ℕ) (image : Bool) → files name ≡ Some bytes → is_image bytes ≡ image → index_in delim limit name files ≡ index_by image delim limit name files
 unfolding index_in
 index_is files delim limit name bytes image holds is = rw (holds, is) refl
 
