@@ -10,7 +10,7 @@ use Rattle.gufi_image.specs.Widths.{version_of, width_of}
 use Rattle.gufi_info.specs.declared.census.Census.{Census}
 use Rattle.gufi_info.specs.Census.{census_of}
 
-abbrev pub number_line : List ℕ → ℕ → List ℕ
+unfoldable pub number_line : List ℕ → ℕ → List ℕ
 number_line word n = line (word ++ decimal n)
 
 -- the least and the greatest
@@ -30,9 +30,9 @@ abbrev pub version_line : Bool → ℕ → List ℕ
 version_line true version = number_line (codes "version ") version
 version_line false version = line (codes "version -")
 
-abbrev pub size_lines : List Directory → ℕ → ℕ → List ℕ
-size_lines tree limit depth =
-    number_line (codes "limit ") limit ++ (number_line (codes "directories ") (length tree) ++ (number_line (codes "entries ") (entry_count tree) ++ number_line (codes "depth ") depth))
+unfoldable pub size_lines : ℕ → ℕ → ℕ → ℕ → List ℕ
+size_lines limit dirs entries depth =
+    number_line (codes "limit ") limit ++ (number_line (codes "directories ") dirs ++ (number_line (codes "entries ") entries ++ number_line (codes "depth ") depth))
 
 abbrev pub roll_lines : RollReport → List ℕ
 roll_lines report = number_line (codes "rolled ") report.rolled ++ (number_line (codes "tops ") report.tops ++ number_line (codes "rows ") report.rows)
@@ -46,4 +46,4 @@ row_lines census =
 unfoldable pub info_text : Bool → List Directory → ℕ → List ℕ
 info_text image tree limit =
     let census = census_of (flat_map own_rows tree) in
-    version_line image (version_of (width_of tree)) ++ (size_lines tree limit census.depth ++ (roll_lines (roll_report tree (roll_flags tree limit)) ++ row_lines census))
+    version_line image (version_of (width_of tree)) ++ (size_lines limit (length tree) (entry_count tree) census.depth ++ (roll_lines (roll_report tree (roll_flags tree limit)) ++ row_lines census))

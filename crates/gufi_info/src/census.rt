@@ -7,7 +7,7 @@ ghost use Rattle.gufi_base.specs.declared.record.Row.{Row};
 ghost use Rattle.gufi_base.specs.Paths.{Components};
 ghost use Rattle.gufi_tree.specs.Tree.{entry_row, own_rows, entry_count};
 ghost use Rattle.gufi_sums.specs.Total.{span};
-ghost use Rattle.gufi_info.specs.Census.{census_of, with_record};
+ghost use Rattle.gufi_info.specs.Census.{has_list, has_names, census_of, with_record};
 
 use gufi_base::RecRef;
 use gufi_tree::{DirId, DirRef, EntriesRef, Tree};
@@ -34,6 +34,18 @@ fn with_time(times: Option<(i64, i64)>, time: i64) -> Option<(i64, i64)>
         None => Some((time, time)),
         Some((first, last)) => Some((first.min(time), last.max(time))),
     }
+}
+
+fn has_list(rec: &RecRef<'_>) -> bool
+    ensures { result ≡ has_list rec.now }
+{
+    !rec.acl().is_empty()
+}
+
+fn has_names(rec: &RecRef<'_>) -> bool
+    ensures { result ≡ has_names rec.now }
+{
+    !rec.xattrs().is_empty()
 }
 
 fn is_either(one: bool, other: bool) -> bool
@@ -67,8 +79,8 @@ impl Census {
             atime: with_time(self.atime, meta.atime),
             mtime: with_time(self.mtime, meta.mtime),
             ctime: with_time(self.ctime, meta.ctime),
-            acls: is_either(self.acls, !rec.acl().is_empty()),
-            xattrs: is_either(self.xattrs, !rec.xattrs().is_empty()),
+            acls: is_either(self.acls, has_list(rec)),
+            xattrs: is_either(self.xattrs, has_names(rec)),
         }
     }
 

@@ -17,6 +17,7 @@ use gufi_tree::Tree;
 use std::alloc::Global;
 
 /// A word and a number.
+#[tactic(auto, unfolding(crate::specs::Info::number_line))]
 fn put_number(out: &mut Vec<u8>, word: &[u8], number: u64) -> Result<(), Memory>
     ensures { OnOk result (out.new.items ≡ out.old.items ++ number_line word.now number) }
 {
@@ -87,6 +88,7 @@ fn put_version(out: &mut Vec<u8>, image: bool, version: u64) -> Result<(), Memor
     put(out, b"version -\n")
 }
 
+#[tactic(auto, unfolding(crate::specs::Info::number_line))]
 fn put_depth(out: &mut Vec<u8>, depth: u128) -> Result<(), Memory>
     ensures { OnOk result (out.new.items ≡ out.old.items ++ number_line (codes "depth ") depth) }
 {
@@ -96,12 +98,18 @@ fn put_depth(out: &mut Vec<u8>, depth: u128) -> Result<(), Memory>
 }
 
 /// How large a tree is.
-fn put_sizes(out: &mut Vec<u8>, tree: &Tree, limit: u64, depth: u128) -> Result<(), Memory>
-    ensures { OnOk result (out.new.items ≡ out.old.items ++ size_lines tree.now limit depth) }
+fn put_sizes(
+    out: &mut Vec<u8>,
+    limit: u64,
+    dirs: u64,
+    entries: u64,
+    depth: u128,
+) -> Result<(), Memory>
+    ensures { OnOk result (out.new.items ≡ out.old.items ++ size_lines limit dirs entries depth) }
 {
     put_number(out, b"limit ", limit)?;
-    put_number(out, b"directories ", u64::from(tree.dirs()))?;
-    put_number(out, b"entries ", u64::from(entry_count(tree)))?;
+    put_number(out, b"directories ", dirs)?;
+    put_number(out, b"entries ", entries)?;
     put_depth(out, depth)
 }
 
@@ -147,7 +155,13 @@ pub fn info_text(alloc: Global, snap: &Snapshot, image: bool) -> Result<Vec<u8>,
     let report = report_of(alloc, tree, snap.limit())?;
     let mut text = Vec::new(alloc);
     put_version(&mut text, image, version_of(tree, census))?;
-    put_sizes(&mut text, tree, snap.limit(), census.depth)?;
+    put_sizes(
+        &mut text,
+        snap.limit(),
+        u64::from(tree.dirs()),
+        u64::from(entry_count(tree)),
+        census.depth,
+    )?;
     put_rolled(&mut text, report)?;
     put_rows(&mut text, census)?;
     Ok(text)

@@ -8,6 +8,7 @@ use Rattle.gufi_io.specs.declared.shelf.Shelf.{Ghosts as ShelfOf}
 use Rattle.gufi_io.specs.declared.sink.Sink.{Ghosts as SinkOf}
 use Rattle.gufi_base.specs.Basics.{◌>>=◌, result_map_err}
 use Rattle.gufi_access.specs.Access.{principal}
+use Rattle.gufi_snap.specs.Snap.{Snap}
 use Rattle.gufi_image.specs.Image.{image_text}
 use Rattle.gufi_roll.specs.CanRoll.{roll_flags, roll_report, report_text}
 use Rattle.gufi_gen.proofs.MadeBack.{generated_read, roots_listed}
@@ -56,7 +57,9 @@ gen_answered n delim false h = tt
 
 trace_answered : (index : List ℕ) (delim : ℕ) (files : Files) → TraceIsAnswerable index delim files → IsAnswered (index2trace_over index delim files)
 unfolding index2trace_over
-trace_answered index delim files can = rw can.1 (answered_if (result_map_err (unwritten_reason index) (written_trace (can.0).tree [] delim)) (λ text. record { out = text; notes = [] }) (unwritten_ok index _ can.2))
+trace_answered index delim files can =
+    let snap : Snap = can.0 in
+    rw can.1 (answered_if (result_map_err (unwritten_reason index) (written_trace snap.tree [] delim)) (λ text. record { out = text; notes = [] }) (unwritten_ok index (written_trace snap.tree [] delim) can.2))
 
 info_answered : (index : List ℕ) (delim limit : ℕ) (files : Files) → is_ok (index_in delim limit index files) ≡ true → IsAnswered (info_over index delim limit files)
 unfolding info_over
@@ -94,7 +97,7 @@ pub refresh_writes : RefreshWritesTheImageOfItsTree
 unfolding command_over
 refresh_writes words files index delim limit path trace snap part are index_is trace_is there few short =
     verdict_of words files _ are
-    ∙ refresh_text index delim limit path trace files (record { snap = snap; part = part; index = index_is; trace = trace_is; there = there; few = few; short = short })
+    ∙ refresh_text index delim limit path trace files (record { snap = snap; part = part; indexed = index_is; traced = trace_is; there = there; few = few; short = short })
 
 pub commands_answered : AnswerableCommandsAreAnswered
 commands_answered words files command are can = rw (verdict_of words files command are) (command_answered command files can)

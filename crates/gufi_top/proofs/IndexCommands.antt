@@ -92,7 +92,7 @@ no_index : (delim limit : ℕ) (index : List ℕ) (files : Files) → files inde
 unfolding index_in
 no_index delim limit index files none = rw none refl
 
-told_then : (image : Bool) (read : Result Snap Reason) → is_ok read ≡ true → is_ok (read >>= λ snap. Ok {E = Reason} (record Indexed { image = image; snap = snap })) ≡ true
+told_then : (image : Bool) (read : Result Snap Reason) → is_ok read ≡ true → is_ok (read >>= λ snap. let indexed : Indexed = record { image = image; snap = snap } in Ok {E = Reason} indexed) ≡ true
 told_then image (Ok snap) h = refl
 told_then image (Err why) h = absurd (false≢true h)
 
@@ -171,7 +171,7 @@ pub refresh_text : (index : List ℕ) (delim limit : ℕ) (path : Components) (t
 unfolding refresh_over refresh_by
 refresh_text index delim limit path trace files can =
     let tree = graft can.snap.tree path can.part in
-    ap (λ (r : Result Snap Reason). r >>= λ snap. refresh_by delim limit path trace snap files) can.index
-    ∙ ap (λ (r : Result (List Directory) Reason). r >>= refreshed_image trace limit path can.snap) can.trace
+    ap (λ (r : Result Snap Reason). r >>= λ snap. refresh_by delim limit path trace snap files) can.indexed
+    ∙ ap (λ (r : Result (List Directory) Reason). r >>= refreshed_image trace limit path can.snap) can.traced
     ∙ ap (λ (r : Result Snap RefreshFault). result_map_err (refresh_reason trace tree) r >>= λ after. writes_only (image_text after.tree limit))
     (gives_graft can.snap path can.part can.there (not-true (is_too_large tree) can.few) (not-true (is_too_deep tree) can.short))

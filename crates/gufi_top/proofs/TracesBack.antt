@@ -14,7 +14,7 @@ use Rattle.gufi_image.specs.Image.{image_text}
 use Rattle.gufi_image.specs.Reading.{image_means}
 use Rattle.gufi_image.specs.Laws.{ImagesHaveOneSpelling, ReadImagesAreWritable}
 use Rattle.gufi_top.specs.Reasons.{Reason, past_limit, unwritten_reason, file_in, tree_within, trace_in, trace_reason, image_reason, image_within, image_in, rolled_under, traced_in, is_image, index_in}
-use Rattle.gufi_top.specs.Verdict.{writes_only, trace_written, index2trace_over, command_over}
+use Rattle.gufi_top.specs.Verdict.{Verdict, writes, runs, writes_only, trace_written, index2trace_over, command_over}
 use Rattle.gufi_top.specs.Laws.{IndexesComeBackFromTraces, ImagesComeBackFromTraces}
 use Rattle.gufi_top.proofs.IndexLemmas.{index_is}
 
@@ -24,13 +24,16 @@ then_ok : {A B : Type 0} (r : Result A Reason) (next : A → Result B Reason) (y
 then_ok (Ok x) next y is = (x, refl, is)
 then_ok (Err why) next y is = absurd cc
 
+ok_same : {A E : Type 0} (x y : A) → Ok {E = E} x ≡ Ok y → x ≡ y
+ok_same x y is = cc
+
 mapped_ok : {A E F : Type 0} (f : E → F) (r : Result A E) (x : A) → result_map_err f r ≡ Ok x → r ≡ Ok x
-mapped_ok f (Ok y) x is = let same : y ≡ x = (cc) in ap Ok same
+mapped_ok f (Ok y) x is = ap Ok (ok_same y x is)
 mapped_ok f (Err e) x is = absurd cc
 
 within_limit : (limit : Bool) (why : Reason) (bytes read : List ℕ) → (refuse limit why >> Ok bytes) ≡ Ok read → read ≡ bytes
 within_limit true why bytes read is = absurd cc
-within_limit false why bytes read is = cc
+within_limit false why bytes read is = sym (ok_same bytes read is)
 
 file_bytes : (max : ℕ) (files : Files) (name bytes read : List ℕ) → files name ≡ Some bytes → file_in max name files ≡ Ok read → read ≡ bytes
 unfolding file_in
@@ -53,8 +56,7 @@ traced_tree : (delim limit : ℕ) (files : Files) (name : List ℕ) (snap : Snap
 unfolding traced_in
 traced_tree delim limit files name snap is =
     let step = then_ok (trace_in delim name files) (rolled_under limit) snap is in
-    let same : record Snap { tree = step.0; limit = limit } ≡ snap = (let e = step.2 in cc) in
-    step.1 ∙ ap (λ (s : Snap). Ok s.tree) same
+    step.1 ∙ ap (λ (s : Snap). Ok {E = Reason} s.tree) (ok_same _ snap step.2)
 
 -- ---- the tree of an index
 
@@ -64,11 +66,11 @@ same_tree : (image : Bool) (delim limit other : ℕ) (files : Files) (index byte
 same_tree true delim limit other files index bytes snap found holds is one two =
     let a = sym (index_is files delim limit index bytes true holds is) ∙ one in
     let b = sym (index_is files delim other index bytes true holds is) ∙ two in
-    let same : found ≡ snap = (cc) in ap (λ (s : Snap). s.tree) same
+    ap (λ (s : Snap). s.tree) (ok_same found snap (sym b ∙ a))
 same_tree false delim limit other files index bytes snap found holds is one two =
     let a = traced_tree delim limit files index snap (sym (index_is files delim limit index bytes false holds is) ∙ one) in
     let b = traced_tree delim other files index found (sym (index_is files delim other index bytes false holds is) ∙ two) in
-    cc
+    ok_same found.tree snap.tree (sym b ∙ a)
 
 module _ (sound : TracesMeanSoundTrees) (writable : ReadImagesAreWritable) where
   -- and it can be written
@@ -81,23 +83,27 @@ module _ (sound : TracesMeanSoundTrees) (writable : ReadImagesAreWritable) where
 
 -- ---- what is written of it
 
+text_out : Result Verdict Reason → List ℕ
+text_out (Ok (writes whole)) = whole.out
+text_out (Ok (runs files plan cache)) = []
+text_out (Err why) = []
+
 trace_of : (index : List ℕ) (delim : ℕ) (tree : List Directory) (text : List ℕ) → trace_written index delim tree ≡ writes_only text → written_trace tree [] delim ≡ Ok text
 trace_of index delim tree text is =
     let step = then_ok (result_map_err (unwritten_reason index) (written_trace tree [] delim)) writes_only _ is in
-    let same : step.0 ≡ text = (let e = step.2 in cc) in
-    mapped_ok (unwritten_reason index) (written_trace tree [] delim) text (step.1 ∙ ap Ok same)
+    mapped_ok (unwritten_reason index) (written_trace tree [] delim) text (step.1 ∙ ap Ok (ap text_out step.2))
 
 pub indexes_back : TracesMeanSoundTrees → TraceReadsBack → ReadImagesAreWritable → IndexesComeBackFromTraces
 unfolding command_over index2trace_over
 indexes_back sound back writable index delim limit files bytes snap text holds fit may one is =
     let step = then_ok (index_in delim 0 index files) (λ s. trace_written index delim s.tree) _ is in
-    let good = sound_tree sound writable (is_image bytes) delim 0 files index bytes step.0 holds fit refl step.1 in
-    back (step.0).tree [] delim text good.0 good.1 refl may (trace_of index delim (step.0).tree text step.2)
-    ∙ ap Ok (same_tree (is_image bytes) delim limit 0 files index bytes snap step.0 holds refl one step.1)
+    let found : Snap = step.0 in
+    let good = sound_tree sound writable (is_image bytes) delim 0 files index bytes found holds fit refl step.1 in
+    back found.tree [] delim text good.0 good.1 refl may (trace_of index delim found.tree text step.2)
+    ∙ ap Ok (same_tree (is_image bytes) delim limit 0 files index bytes snap found holds refl one step.1)
 
 pub images_back : ImagesHaveOneSpelling → ReadImagesAreWritable → TraceReadsBack → ImagesComeBackFromTraces
 images_back spelling writable back delim bytes snap text tree fit may means written read =
     let w = writable bytes snap fit means in
     let again : trace_means delim text ≡ Ok snap.tree = back snap.tree [] delim text w.sound w.few refl may written in
-    let same : tree ≡ snap.tree = (cc) in
-    ap (λ (t : List Directory). image_text t snap.limit) same ∙ sym (spelling bytes snap fit means)
+    ap (λ (t : List Directory). image_text t snap.limit) (ok_same tree snap.tree (sym read ∙ again)) ∙ sym (spelling bytes snap fit means)

@@ -54,8 +54,8 @@ TraceIsAnswerable index delim files = (snap : Snap) × (index_in delim 0 index f
 pub record RefreshIsAnswerable (index : List ℕ) (delim limit : ℕ) (path : Components) (trace : List ℕ) (files : Files) : Type 0 where
   pub snap : Snap
   pub part : List Directory
-  pub index : index_in delim limit index files ≡ Ok snap
-  pub trace : trace_in delim trace files ≡ Ok part
+  pub indexed : index_in delim limit index files ≡ Ok snap
+  pub traced : trace_in delim trace files ≡ Ok part
   pub there : IsTrue (has_dir snap.tree path)
   pub few : IsTrue (not (is_too_large (graft snap.tree path part)))
   pub short : IsTrue (not (is_too_deep (graft snap.tree path part)))
