@@ -1,5 +1,5 @@
 -- Lemmas on commands without a USER that read an index: `index2trace`, `info` and `refresh`.
-use Rattle.std.proofs.Common.{◌≡◌, ◌≢◌, ℕ, ◌+◌, ◌-◌, Bool, true, List, [], length, refl, sym, ap, ◌∙◌, inl, inr}
+use Rattle.std.proofs.Common.{◌≡◌, ◌≢◌, ℕ, ◌+◌, ◌-◌, ◌≤◌, Bool, true, List, [], length, refl, sym, ap, ◌∙◌, arith, inl, inr}
 use Rattle.std.specs.Prelude.{Option, Some, None, option_map, Result, Ok, Err, is_ok, Vec}
 use Rattle.std.specs.declared.alloc.Global.{Global}
 use Rattle.std.proofs.lemmas.Bool.{false≢true, not-true, cases_Bool}
@@ -16,6 +16,7 @@ use Rattle.gufi_snap.specs.Refreshed.{refreshed}
 use Rattle.gufi_snap.specs.declared.refresh.RefreshFault.{RefreshFault}
 use Rattle.gufi_snap.specs.declared.refresh.RefreshFault.TheVariants as faults
 use Rattle.gufi_tree.proofs.Linked.{place_within}
+use Rattle.gufi_tree.proofs.Ranges.{below_within}
 use Rattle.gufi_snap.proofs.Ancestors.{found_some}
 use Rattle.gufi_snap.proofs.Refusing.{gives_not_there, gives_graft, found_path}
 use Rattle.gufi_snap.proofs.Counting.{sizes_after}
@@ -92,7 +93,7 @@ no_index : (delim limit : ℕ) (index : List ℕ) (files : Files) → files inde
 unfolding index_in
 no_index delim limit index files none = rw none refl
 
-told_then : (image : Bool) (read : Result Snap Reason) → is_ok read ≡ true → is_ok (read >>= λ snap. let indexed : Indexed = record { image = image; snap = snap } in Ok {E = Reason} indexed) ≡ true
+told_then : (image : Bool) (read : Result Snap Reason) → is_ok read ≡ true → is_ok (read >>= λ snap. let indexed : Result Indexed Reason = Ok (record { image = image; snap = snap }) in indexed) ≡ true
 told_then image (Ok snap) h = refl
 told_then image (Err why) h = absurd (false≢true h)
 
@@ -112,6 +113,11 @@ pub dirs_found : (tree part : List Directory) (path : Components) (id : DirId) �
 dirs_found tree part path id shape own found =
     let within = place_within tree path id.0 (found_some (place_of tree path) id found) in
     (sizes_after tree part id.0 shape own within).0 ∙ ap (λ (p : Components). length (graft tree p part)) (found_path tree path id found)
+
+-- those that are replaced are among those that there were
+pub dirs_within : (tree : List Directory) (path : Components) (id : DirId) → HasTreeShape tree → option_map dir_id (place_of tree path) ≡ Some id
+    → length (below_dirs tree (path_at tree id.0)) ≤ length tree
+dirs_within tree path id shape found = omega (arith, below_within tree id.0 shape.order (place_within tree path id.0 (found_some (place_of tree path) id found)))
 
 pub graft_ok : (trace : List ℕ) (limit : ℕ) (path : Components) (snap after : Snap) (part : List Directory) (r : Result Output Halt) → GivesUnless faults.Memory (Ok after) (refreshed snap path part)
     → Gives text_view r (writes_only (image_text after.tree limit)) → Gives text_view r (refreshed_image trace limit path snap part)

@@ -24,7 +24,7 @@ then_ok : {A B : Type 0} (r : Result A Reason) (next : A → Result B Reason) (y
 then_ok (Ok x) next y is = (x, refl, is)
 then_ok (Err why) next y is = absurd cc
 
-ok_same : {A E : Type 0} (x y : A) → Ok {E = E} x ≡ Ok y → x ≡ y
+ok_same : {A E : Type 0} (x y : A) → ◌≡◌ {A = Result A E} (Ok x) (Ok y) → x ≡ y
 ok_same x y is = cc
 
 mapped_ok : {A E F : Type 0} (f : E → F) (r : Result A E) (x : A) → result_map_err f r ≡ Ok x → r ≡ Ok x
@@ -56,7 +56,7 @@ traced_tree : (delim limit : ℕ) (files : Files) (name : List ℕ) (snap : Snap
 unfolding traced_in
 traced_tree delim limit files name snap is =
     let step = then_ok (trace_in delim name files) (rolled_under limit) snap is in
-    step.1 ∙ ap (λ (s : Snap). Ok {E = Reason} s.tree) (ok_same _ snap step.2)
+    step.1 ∙ ap (λ (s : Snap). Ok s.tree) (ok_same _ snap step.2)
 
 -- ---- the tree of an index
 
@@ -83,7 +83,7 @@ module _ (sound : TracesMeanSoundTrees) (writable : ReadImagesAreWritable) where
 
 -- ---- what is written of it
 
-text_out : Result Verdict Reason → List ℕ
+abbrev text_out : Result Verdict Reason → List ℕ
 text_out (Ok (writes whole)) = whole.out
 text_out (Ok (runs files plan cache)) = []
 text_out (Err why) = []

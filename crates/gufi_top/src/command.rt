@@ -12,7 +12,7 @@ use crate::halt::{Halt, Output};
 use crate::index2trace::index2trace;
 use crate::info::info;
 use crate::question::Question;
-use crate::refresh::{Refresh, refresh};
+use crate::refresh::{Replacement, refresh};
 use crate::rollup::{rollup, trace2index};
 use crate::search::ask;
 use crate::walk::walk;
@@ -118,7 +118,7 @@ pub(crate) fn answer_command<R: Threads + Wait + Sync, F: Shelf, G: Gate + Sync>
             path,
             trace,
         } => {
-            let asked = Refresh {
+            let asked = Replacement {
                 index,
                 delim: *delim,
                 limit: *limit,

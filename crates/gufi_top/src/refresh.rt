@@ -26,7 +26,7 @@ const MAX_ENTRIES: u32 = 1_048_576;
 
 /// What the command names.
 #[derive(Clone, Copy)]
-pub(crate) struct Refresh<'a> {
+pub(crate) struct Replacement<'a> {
     pub(crate) index: &'a Text,
     /// The byte between the fields of a trace.
     pub(crate) delim: u8,
@@ -82,21 +82,21 @@ fn refuse_refresh<T>(
 #[tactic(auto, using(crate::proofs::IndexCommands::grafts))]
 fn refresh_snapshot(
     alloc: Global,
-    refresh: Refresh<'_>,
+    asked: Replacement<'_>,
     snap: Snapshot,
     part: Tree,
 ) -> Result<Output, Halt>
-    ensures text { Gives text_view result (refreshed_image refresh.entry.trace.now refresh.entry.limit refresh.entry.path.now snap part) }
+    ensures text { Gives text_view result (refreshed_image asked.entry.trace.now asked.entry.limit asked.entry.path.now snap part) }
     ensures of_bytes { IfErr result IsOfBytes }
     ensures past_words { IfErr result IsPastWords }
 {
-    let dirs = dirs_after(snap.tree(), refresh.path, &part);
-    let refreshed = snap.refresh_uncounted(alloc, refresh.path, part);
+    let dirs = dirs_after(snap.tree(), asked.path, &part);
+    let refreshed = snap.refresh_uncounted(alloc, asked.path, part);
     // The run ends soon, so the snapshot isn't given back part by part.
     forget(snap);
     match refreshed {
-        Ok(snap) => image_alone(alloc, snap, refresh.limit),
-        Err(fault) => refuse_refresh(alloc, refresh.trace.as_str(), dirs, fault),
+        Ok(snap) => image_alone(alloc, snap, asked.limit),
+        Err(fault) => refuse_refresh(alloc, asked.trace.as_str(), dirs, fault),
     }
 }
 
@@ -105,16 +105,16 @@ fn refresh_snapshot(
 fn refresh_by<F: Shelf>(
     alloc: Global,
     shelf: &mut F,
-    refresh: Refresh<'_>,
+    asked: Replacement<'_>,
     snap: Snapshot,
 ) -> Result<Output, Halt>
-    ensures text { GivesOver (F.files shelf.old) text_view result (refresh_by refresh.entry.delim refresh.entry.limit refresh.entry.path.now refresh.entry.trace.now snap) }
+    ensures text { GivesOver (F.files shelf.old) text_view result (refresh_by asked.entry.delim asked.entry.limit asked.entry.path.now asked.entry.trace.now snap) }
     ensures past_words { IfErr result IsPastWords }
     ensures cause { IfErr result (HaltHasCause F.Shelf shelf.old shelf.new) }
     ensures kept { Keeps F.Shelf shelf.old shelf.new }
 {
-    match read_trace_file(alloc, shelf, refresh.trace.as_str(), refresh.delim) {
-        Ok(part) => refresh_snapshot(alloc, refresh, snap, part),
+    match read_trace_file(alloc, shelf, asked.trace.as_str(), asked.delim) {
+        Ok(part) => refresh_snapshot(alloc, asked, snap, part),
         Err(halt) => {
             drop(snap);
             Err(halt)
@@ -129,16 +129,16 @@ fn refresh_by<F: Shelf>(
 pub(crate) fn refresh<F: Shelf>(
     alloc: Global,
     shelf: &mut F,
-    refresh: Refresh<'_>,
+    asked: Replacement<'_>,
 ) -> Result<Output, Halt>
-    ensures text { GivesOver (F.files shelf.old) text_view result (refresh_over refresh.entry.index.now refresh.entry.delim refresh.entry.limit refresh.entry.path.now refresh.entry.trace.now) }
+    ensures text { GivesOver (F.files shelf.old) text_view result (refresh_over asked.entry.index.now asked.entry.delim asked.entry.limit asked.entry.path.now asked.entry.trace.now) }
     ensures past_words { IfErr result IsPastWords }
     ensures cause { IfErr result (HaltHasCause F.Shelf shelf.old shelf.new) }
     ensures kept { Keeps F.Shelf shelf.old shelf.new }
 {
-    let index = refresh.index.as_str();
-    match read_index(alloc, shelf, index, refresh.delim, refresh.limit) {
-        Ok(snap) => refresh_by(alloc, shelf, refresh, snap),
+    let index = asked.index.as_str();
+    match read_index(alloc, shelf, index, asked.delim, asked.limit) {
+        Ok(snap) => refresh_by(alloc, shelf, asked, snap),
         Err(halt) => Err(halt),
     }
 }

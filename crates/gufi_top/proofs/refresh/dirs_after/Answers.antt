@@ -4,8 +4,13 @@ use Rattle.std.proofs.lemmas.Bool.{false≢true}
 use Rattle.gufi_tree.specs.Tree.{place_of}
 use Rattle.gufi_tree.specs.Places.{dir_id}
 use Rattle.gufi_snap.proofs.Refusing.{not_found}
-use Rattle.gufi_top.proofs.IndexCommands.{dirs_found}
+use Rattle.gufi_top.proofs.IndexCommands.{dirs_found, dirs_within}
 use Rattle.gufi_top.proofs.refresh.dirs_after.Goals as goal
+
+pub overflow_sub-dirs : goal.overflow_sub-dirs
+overflow_sub-dirs c =
+    let few = dirs_within c.args.tree.now c.args.path.now c.in-Some.at c.dirs-dirs.ensures.shape (sym c.find.ensures ∙ c.in-Some.is) in
+    omega (arith, few)
 
 pub returns-in-Some : goal.returns-in-Some
 returns-in-Some c = λ there.
