@@ -38,6 +38,8 @@ CASES = [
     ('gufi query i ana / "select path from en', ["entries"], ["summary"]),
     ("gufi agg i ana / 'SELECT uid, COU", ["COUNT(*)"], ["SUM(size)"]),
     ("gufi gen ", [], ["lab.passwd", "--summary"]),
+    ("gufi refresh --limit=2 i ", [], ["lab.passwd", "--delim"]),
+    ("gufi refresh --limit=2 i /p tr", ["trace.lab"], ["lab.passwd"]),
 ]
 
 STARTS = {

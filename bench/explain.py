@@ -27,6 +27,8 @@ sed 's/|420|/|rw-r--r--|/' lab.trace > modes.trace
 sed '3s/|d|/|dir|/' lab.trace > types.trace
 sed 's/ana:x:1001/ana:x:one/' lab.passwd > bad.passwd
 printf 'publish 0 lab.trace\\nbarrier\\nsearch 1 ana / find\\n' > verbs.session
+sed 's/README/READ,ME/' lab.trace > comma.trace
+gufi trace2index --delim='|' comma.trace > comma.index
 printf 'publish 0 lab.trace\\nbarrier\\nask 17 ana / find\\n' > lanes.session
 mkdir folder
 """
@@ -37,7 +39,7 @@ CALLS = r"""
 2 nearest: find; gufi fnd lab.index 0 /
 2 nearest: query; gufi Query lab.index 0 / 'SELECT name FROM rows'
 2 nearest: stats; gufi stat5 lab.index 0 / levels
-2 the commands are walk find query agg ls stat stats trace2index rollup session gen; gufi search lab.index 0 /
+2 the commands are walk find query agg ls stat stats trace2index rollup index2trace info refresh session gen; gufi search lab.index 0 /
 2 nearest: --workers; gufi find --wrokers=4 lab.index 0 /
 2 nearest: --passwd; gufi find --paswd=lab.passwd lab.index ana /
 2 nearest: --limit; gufi rollup --limt=3 lab.index
@@ -68,6 +70,9 @@ CALLS = r"""
 2 GIDS is - for none, or numbers separated by commas; gufi walk lab.trace 0 1,
 2 N is the number of directories, 1 to 200,000; gufi gen 0
 2 rollup takes --limit=N [OPTION].. INDEX; gufi rollup lab.index
+2 refresh takes --limit=N [OPTION].. INDEX PATH TRACE; gufi refresh lab.index /open lab.trace
+2 PATH is the path of the directory that is replaced, without ..; / is the root; gufi refresh --limit=3 lab.index /.. lab.trace
+2 not an option of index2trace, whose options are --delim; gufi index2trace --limit=3 lab.index
 2 stat takes [OPTION].. INDEX USER START; gufi stat lab.index 0 / levels
 # expressions
 2 nearest: -name; gufi find lab.index 0 / -nmae '*.h5'
@@ -90,6 +95,7 @@ CALLS = r"""
 1 at /private; gufi find lab.index 1002 /private
 1 at /nosuch; gufi find lab.index 0 /nosuch/below
 1 what stands there has nothing below it; gufi find lab.index 0 /README/below
+1 no directory of that path is in the index; PATH begins at its root; gufi refresh --limit=3 --delim='|' lab.index /README lab.trace
 # files
 8 no such file or directory; gufi find lab.indx 0 /
 3 is a directory; gufi find folder 0 /
@@ -100,6 +106,7 @@ CALLS = r"""
 5 field 2, the type, is one of d f l b c p s; gufi find --delim='|' types.trace 0 /
 5 a uid or gid is a number below 2^32; of a script, a limit one below 2^64; gufi find --passwd=bad.passwd lab.index ana /
 5 a line begins with publish, rollup, refresh, ask or barrier; gufi session --delim='|' --passwd=lab.passwd verbs.session
+5 the delimiter stands in a name, a target, a name of an extended attribute or an access control list: --delim takes another; gufi index2trace --delim=, comma.index
 5 a lane is a number from 1 to 16; gufi session --delim='|' --passwd=lab.passwd lanes.session
 """
 

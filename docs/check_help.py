@@ -27,6 +27,7 @@ KINDS = {
         ("gufi_script/ScriptText", "script_kind_text"),
     ],
     "OFFSET_KINDS": [("gufi_image/Kinds", "image_kind_text")],
+    "FILE_KINDS": [("gufi_top/Reasons", "unwritten_reason"), ("gufi_top/Reasons", "refresh_reason")],
 }
 
 # Limits that have a status of their own, and those that are told as a file's.
@@ -100,7 +101,7 @@ def rules_wanted():
     """What each table of rules has to have. A limit that is passed has a status of its own."""
     for table, places in KINDS.items():
         names = [re.sub(r"^\d+", "", word).split() for place, name in places for word in words_of(place, name)]
-        yield table, {name[0] for name in names if name} - {"TooMany"} | ({"Twice"} & set(ruled(table)))
+        yield table, {name[0] for name in names if name and name[0][0].isupper()} - {"TooMany"} | ({"Twice"} & set(ruled(table)))
     text = (TOP / "crates/gufi_base/specs/Limits.antt").read_text(encoding="utf-8")
     yield "LIMITS", {re.search(r"^%s = (\d+)" % name, text, re.M).group(1) for name in LIMITS}
 

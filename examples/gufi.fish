@@ -2,7 +2,7 @@
 function __gufi_words
     switch "$argv"
         case names
-            printf '%s\t%s\n' walk "paths of all that the principal can list by walking from the root" find "paths of the rows for which the expression is true" query "columns of the rows that a SELECT chooses" agg "counts, sums and bounds of the rows that a SELECT chooses, by owner, group, type or level" ls "names one level below the start" stat "the record of the start, and the sum of all that the user lists below it" stats "a report on all that the user lists below the start" trace2index "the image of the index of a trace" rollup "the image under a limit, and on standard error what is rolled up" session "the replies to the asks of a script, whose commands publish indexes meanwhile" gen "a generated trace" --help "this page; behind the name of a command, its own" --version "the version of the program" --man "the manual page; docs/gufi.1 is made by it" --completions "the completions for bash; examples/gufi.bash is made by it" --completions=zsh "those for zsh; examples/gufi.zsh is made by it" --completions=fish "those for fish; examples/gufi.fish is made by it"
+            printf '%s\t%s\n' walk "paths of all that the principal can list by walking from the root" find "paths of the rows for which the expression is true" query "columns of the rows that a SELECT chooses" agg "counts, sums and bounds of the rows that a SELECT chooses, by owner, group, type or level" ls "names one level below the start" stat "the record of the start, and the sum of all that the user lists below it" stats "a report on all that the user lists below the start" trace2index "the image of the index of a trace" rollup "the image under a limit, and on standard error what is rolled up" index2trace "the trace of an index, whose root is written as /" info "what an index holds: how many rows and how deep, what is rolled up, which times, and whether there are lists" refresh "the image under a limit, with a directory and all below it replaced by what a trace holds" session "the replies to the asks of a script, whose commands publish indexes meanwhile" gen "a generated trace" --help "this page; behind the name of a command, its own" --version "the version of the program" --man "the manual page; docs/gufi.1 is made by it" --completions "the completions for bash; examples/gufi.bash is made by it" --completions=zsh "those for zsh; examples/gufi.zsh is made by it" --completions=fish "those for fish; examples/gufi.fish is made by it"
         case 'options walk'
             printf '%s\t%s\n' --help "this command's page"
         case 'values walk'
@@ -57,6 +57,24 @@ function __gufi_words
             printf '%s\n' --limit=N --delim=BYTE
         case 'behind rollup'
             printf '%s\t%s\n'
+        case 'options index2trace'
+            printf '%s\t%s\n' --delim "the byte between the fields of a trace; left out: 0x1E" --help "this command's page"
+        case 'values index2trace'
+            printf '%s\n' --delim=BYTE
+        case 'behind index2trace'
+            printf '%s\t%s\n'
+        case 'options info'
+            printf '%s\t%s\n' --delim "the byte between the fields of a trace; left out: 0x1E" --limit "how many rows of a trace may be rolled up into one piece; left out: 0" --help "this command's page"
+        case 'values info'
+            printf '%s\n' --delim=BYTE --limit=N
+        case 'behind info'
+            printf '%s\t%s\n'
+        case 'options refresh'
+            printf '%s\t%s\n' --limit "how many rows may be rolled up into one piece; must be given" --delim "the byte between the fields of a trace; left out: 0x1E" --help "this command's page"
+        case 'values refresh'
+            printf '%s\n' --limit=N --delim=BYTE
+        case 'behind refresh'
+            printf '%s\t%s\n'
         case 'options session'
             printf '%s\t%s\n' --passwd "the passwd file, for names in USER; left out: no names" --group "the group file; left out: no groups" --delim "the byte between the fields of a trace; left out: 0x1E" --workers "how many walkers share a query, 1 to 32; left out: 1" --now "the moment from which -atime, -mtime and -ctime count; left out: they are refused" --cache "how many of its last replies each lane keeps, 1 to 256; left out: none" --help "this command's page"
         case 'values session'
@@ -105,7 +123,7 @@ function __gufi_complete
         else
             __gufi_words options $command
         end
-    else if test $place = 0
+    else if test $place = 0 -o "$command:$place" = refresh:2
         test "$command" = gen; or __fish_complete_path "$current"
     else if test $place -ge 3
         set -l front ''

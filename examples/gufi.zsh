@@ -2,7 +2,7 @@
 # Completions of gufi for zsh. Made by: gufi --completions=zsh
 _gufi_words() {
     case $1:$2 in
-    names:*) echo 'walk find query agg ls stat stats trace2index rollup session gen --help --version --man --completions --completions=zsh --completions=fish ' ;;
+    names:*) echo 'walk find query agg ls stat stats trace2index rollup index2trace info refresh session gen --help --version --man --completions --completions=zsh --completions=fish ' ;;
     options:walk) echo '--help' ;;
     values:walk) echo '' ;;
     behind:walk) echo '' ;;
@@ -30,6 +30,15 @@ _gufi_words() {
     options:rollup) echo '--limit --delim --help' ;;
     values:rollup) echo '--limit=N --delim=BYTE ' ;;
     behind:rollup) echo '' ;;
+    options:index2trace) echo '--delim --help' ;;
+    values:index2trace) echo '--delim=BYTE ' ;;
+    behind:index2trace) echo '' ;;
+    options:info) echo '--delim --limit --help' ;;
+    values:info) echo '--delim=BYTE --limit=N ' ;;
+    behind:info) echo '' ;;
+    options:refresh) echo '--limit --delim --help' ;;
+    values:refresh) echo '--limit=N --delim=BYTE ' ;;
+    behind:refresh) echo '' ;;
     options:session) echo '--passwd --group --delim --workers --now --cache --help' ;;
     values:session) echo '--passwd=FILE --group=FILE --delim=BYTE --workers=N --now=SECONDS --cache=C ' ;;
     behind:session) echo '' ;;
@@ -63,7 +72,7 @@ _gufi() {
         _files
     elif [[ $place == 0 && -z $ended && $PREFIX == -* ]]; then
         compadd -- ${=$(_gufi_words options $command)}
-    elif [[ $place == 0 && $command != gen ]]; then
+    elif [[ $place == 0 && $command != gen || $command:$place == refresh:2 ]]; then
         _files
     elif [[ $place -ge 3 ]]; then
         if [[ $command == query || $command == agg ]]; then

@@ -72,7 +72,8 @@ abbrev pub damage_lines : Rules → Bool → Option (List ℕ) → Option (List 
 damage_lines rules files bytes None = []
 damage_lines rules files bytes (Some what) =
     if bytes_eq (first_word what) (codes "line") then line_lines rules files bytes (behind_word what)
-    else offset_lines rules files bytes (behind_word what)
+    else if bytes_eq (first_word what) (codes "offset") then offset_lines rules files bytes (behind_word what)
+    else rule_line (entry_of rules.file_kinds.now (first_word what))
 
 -- a note of status 5, of the file that was opened last
 abbrev pub damage_told : Rules → Bool → Option (List ℕ) → Option (List ℕ) → List ℕ → List ℕ

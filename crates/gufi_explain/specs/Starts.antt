@@ -51,9 +51,13 @@ depth_word what =
     else if bytes_eq (first_word what) (codes "no") then first_word (behind_word (behind_word (behind_word (behind_word what))))
     else first_word (behind_word (behind_word (behind_word (behind_word (behind_word what)))))
 
+-- the kind of a refusal: its first word, but for "not there"
+unfoldable pub start_kind : List ℕ → List ℕ
+start_kind what = if bytes_eq (first_word (behind_word what)) (codes "there") then codes "there" else first_word what
+
 -- a note of status 1
 unfoldable pub start_told : Rules → Wrapped → List (List ℕ) → List ℕ → List ℕ
 start_told rules wrapped words note =
     let what = behind_word note in
     let place = start_place (command_of rules.commands.now (option_word (slice_get words 0))) words in
-    down_to wrapped place (slice_get words place) (read_u32 (depth_word what)) ++ rule_line (entry_of rules.start_kinds.now (first_word what))
+    down_to wrapped place (slice_get words place) (read_u32 (depth_word what)) ++ rule_line (entry_of rules.start_kinds.now (start_kind what))

@@ -147,7 +147,10 @@ pub(crate) fn put_damage(
         Some(what) if first_word(what) == "line".as_bytes() => {
             put_line_fault(out, rules, files, bytes, behind_word(what))
         }
-        Some(what) => put_offset_fault(out, rules, files, bytes, behind_word(what)),
+        Some(what) if first_word(what) == "offset".as_bytes() => {
+            put_offset_fault(out, rules, files, bytes, behind_word(what))
+        }
+        Some(what) => put_rule(out, rules.file_kinds, first_word(what)),
         None => Ok(()),
     }
 }

@@ -22,5 +22,6 @@ pub use explain::{Detail, Ended, detail_words, explained};
 pub use rules::{CommandForm, Entry, NamesBehind, Rules};
 pub use shown::Wrapped;
 pub use table::{
-    FIELDS, LIMITS, LINE_KINDS, OFFSET_KINDS, START_KINDS, TEXT_KINDS, VALUES, WORD_KINDS,
+    FIELDS, FILE_KINDS, LIMITS, LINE_KINDS, OFFSET_KINDS, START_KINDS, TEXT_KINDS, VALUES,
+    WORD_KINDS,
 };

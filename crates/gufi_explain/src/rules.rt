@@ -39,7 +39,7 @@ pub struct Rules {
     pub names: &'static [Entry],
     /// What the value of an option must be.
     pub values: &'static [Entry],
-    /// The refusals of a start, by their first words.
+    /// The refusals of a start, by their first words; and the one of a directory that isn't there.
     pub start_kinds: &'static [Entry],
     /// The kinds of faults of a word of an expression.
     pub word_kinds: &'static [Entry],
@@ -49,6 +49,8 @@ pub struct Rules {
     pub line_kinds: &'static [Entry],
     /// Those at an offset of an image.
     pub offset_kinds: &'static [Entry],
+    /// Those of a file as a whole.
+    pub file_kinds: &'static [Entry],
     /// The fields of a trace's line, by their numbers.
     pub fields: &'static [Entry],
     /// What a limit bounds, by its number.

@@ -5,7 +5,7 @@ ghost use Rattle.gufi_explain.specs.Refused.{option_word};
 ghost use Rattle.gufi_words.specs.WordTexts.{texts};
 ghost use Rattle.gufi_base.specs.Paths.{read_path};
 ghost use Rattle.gufi_explain.specs.Rules.{command_of};
-ghost use Rattle.gufi_explain.specs.Starts.{third_place, start_place, down_text, path_told, down_to, depth_word, start_told};
+ghost use Rattle.gufi_explain.specs.Starts.{third_place, start_place, down_text, path_told, down_to, depth_word, start_kind, start_told};
 
 use crate::note::{behind_marks, behind_word, first_word};
 use crate::role::Role;
@@ -94,6 +94,17 @@ fn depth_word(what: &[u8]) -> &[u8]
     first_word(behind_word(behind_word(behind_three)))
 }
 
+// The kind of a refusal.
+#[tactic(auto, unfolding(crate::specs::Starts::start_kind))]
+fn start_kind(what: &[u8]) -> &[u8]
+    ensures { result.now ≡ start_kind what.now }
+{
+    if first_word(behind_word(what)) == "there".as_bytes() {
+        return b"there";
+    }
+    first_word(what)
+}
+
 /// Appends what is told of a note of status 1.
 #[tactic(auto, unfolding(crate::specs::Starts::start_told))]
 pub(crate) fn put_start(
@@ -110,5 +121,5 @@ pub(crate) fn put_start(
     let place = start_place(rules, words);
     let depth = read_u32(depth_word(what));
     put_down(alloc, out, wrapped, words, place, depth)?;
-    put_rule(out, rules.start_kinds, first_word(what))
+    put_rule(out, rules.start_kinds, start_kind(what))
 }

@@ -18,11 +18,12 @@ pub const VALUES: &[Entry] = entries! {
     ("--cache" "a number from 1 to 256")
 };
 
-/// The refusals of a start.
+/// The refusals of a start, and of a directory that is to be replaced.
 pub const START_KINDS: &[Entry] = entries! {
     ("denied" "search is wanted of each directory on the way, and of the start read too: the class that decides lacks it")
     ("no" "nothing of that name is there; START begins at the root of the index")
     ("not" "what stands there has nothing below it")
+    ("there" "no directory of that path is in the index; PATH begins at its root")
 };
 
 /// The faults of a word of an expression, and of a query's text as a word.
@@ -95,6 +96,13 @@ pub const OFFSET_KINDS: &[Entry] = entries! {
     ("Order" "a directory or entry stands above the one before it")
     ("Trailing" "bytes stand behind the last directory")
     ("Roll" "a flag isn't what the rule of roll-up says")
+};
+
+/// Why the rows of a file, each of which is good, can't be written.
+pub const FILE_KINDS: &[Entry] = entries! {
+    ("DelimUsed" "the delimiter stands in a name, a target, a name of an extended attribute or an access control list: --delim takes another")
+    ("TooLong" "a path has more than 4096 bytes or 256 names")
+    ("TooDeep" "where the directory is replaced, a path has more than 4096 bytes or 256 names")
 };
 
 /// The fields of a trace's line that are numbers.

@@ -174,6 +174,14 @@ macro_rules! table {
             "rollup" "--limit=N [OPTION].. INDEX"
                 "the image under a limit, and on standard error what is rolled up"
                 [$index] [("--limit" "=N" "how many rows may be rolled up into one piece; must be given") $delim] [] []
+            "index2trace" "[OPTION].. INDEX" "the trace of an index, whose root is written as /" [$index] [$delim] [] []
+            "info" "[OPTION].. INDEX"
+                "what an index holds: how many rows and how deep, what is rolled up, which times, and whether there are lists"
+                [$index] [$delim $limit] [] []
+            "refresh" "--limit=N [OPTION].. INDEX PATH TRACE"
+                "the image under a limit, with a directory and all below it replaced by what a trace holds"
+                [$index ("PATH" "the path of the directory that is replaced, without ..; / is the root") $trace]
+                [("--limit" "=N" "how many rows may be rolled up into one piece; must be given") $delim] [] []
             "session" "[OPTION].. SCRIPT"
                 "the replies to the asks of a script, whose commands publish indexes meanwhile"
                 [("SCRIPT" "a file of such lines; %20 stands for a space in a word, and lines that begin with # say nothing")]

@@ -1,8 +1,8 @@
 //! The rules by which refusals are explained, of the table of commands.
 use crate::commands::table;
 use gufi_explain::{
-    CommandForm, Entry, FIELDS, LIMITS, LINE_KINDS, NamesBehind, OFFSET_KINDS, Rules, START_KINDS,
-    TEXT_KINDS, VALUES, WORD_KINDS,
+    CommandForm, Entry, FIELDS, FILE_KINDS, LIMITS, LINE_KINDS, NamesBehind, OFFSET_KINDS, Rules,
+    START_KINDS, TEXT_KINDS, VALUES, WORD_KINDS,
 };
 
 macro_rules! command_names {
@@ -82,6 +82,7 @@ pub(crate) fn own_rules() -> Rules {
         text_kinds: TEXT_KINDS,
         line_kinds: LINE_KINDS,
         offset_kinds: OFFSET_KINDS,
+        file_kinds: FILE_KINDS,
         fields: FIELDS,
         limits: LIMITS,
     }

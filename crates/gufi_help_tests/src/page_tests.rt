@@ -9,13 +9,14 @@ use std::thread::Threads;
 
 // Words, in which _ is a blank; the number of the write that fails, `n` before one of the note, or nothing; the status; how the text
 // begins, nothing where it is empty; the note. The files are FILES.
-const RUNS: [&str; 44] = [
+const RUNS: [&str; 45] = [
     "--help;;0;usage: gufi COMMAND;",
     "-h;;0;usage: gufi COMMAND;",
     "help;;0;usage: gufi COMMAND;",
     "--version;;0;gufi 0.2.0\n;",
     "find --help;;0;usage: gufi find ;",
     "session -h;;0;usage: gufi session ;",
+    "refresh --help;;0;usage: gufi refresh --limit=N [OPTION].. INDEX PATH TRACE\n;",
     "--man;;0;.\\\" Made by: gufi --man\n;",
     "--completions;;0;# Completions of gufi for bash. ;",
     "--completions=zsh;;0;#compdef gufi\n;",
@@ -86,7 +87,7 @@ const LISTED: [&str; 12] = [
 ];
 
 // The words of runs that are explained, in which _ is a blank, as above; and all that standard error gets.
-const EXPLAINED: [[&str; 3]; 23] = [
+const EXPLAINED: [[&str; 3]; 25] = [
     [
         "--explain stat --wrokers=4 i ann /",
         "2",
@@ -154,12 +155,12 @@ const EXPLAINED: [[&str; 3]; 23] = [
         "--explain fnd i",
         "2",
         "gufi: word 1 refused\n  fnd i\n  ^^^\n  no command\n\
-         \x20 the commands are walk find query agg ls stat stats trace2index rollup session gen\n  nearest: find\n",
+         \x20 the commands are walk find query agg ls stat stats trace2index rollup index2trace info refresh session gen\n  nearest: find\n",
     ],
     [
         "--explain",
         "2",
-        "gufi: word 1 refused\n  COMMAND is missing\n  the commands are walk find query agg ls stat stats trace2index rollup session gen\n",
+        "gufi: word 1 refused\n  COMMAND is missing\n  the commands are walk find query agg ls stat stats trace2index rollup index2trace info refresh session gen\n",
     ],
     [
         "--explain find --delim=| i 0 / -nmae x",
@@ -186,6 +187,17 @@ const EXPLAINED: [[&str; 3]; 23] = [
         "--explain stat --delim=| i 0 /x/y",
         "1",
         "gufi: no such at depth 1\n  at /x\n  nothing of that name is there; START begins at the root of the index\n",
+    ],
+    [
+        "--explain refresh --delim=| i / i",
+        "2",
+        "gufi: word 6 refused\n  refresh --delim=| i / i\n                          ^\n\
+         \x20 refresh takes --limit=N [OPTION].. INDEX PATH TRACE\n",
+    ],
+    [
+        "--explain refresh --limit=1 --delim=| i /x i",
+        "1",
+        "gufi: not there\n  no directory of that path is in the index; PATH begins at its root\n",
     ],
     ["--explain walk t 102 -", "8", "gufi: t not found\n"],
     [

@@ -1,13 +1,14 @@
 -- Lemmas on runs that are refused nothing.
-use Rattle.std.proofs.Common.{◌≡◌, ◌⊎◌, ⊎_elim, ℕ, Bool, true, false, List, [], min, subst, inl, inr}
+use Rattle.std.proofs.Common.{◌≡◌, ◌⊎◌, ⊎_elim, ℕ, Bool, true, false, List, [], ◌∙◌, min, subst, inl, inr}
 use Rattle.std.specs.Prelude.{Option, Some, None, Result, Ok, Err, is_ok}
 use Rattle.std.proofs.lemmas.Bool.{false≢true, cases_eq}
 use Rattle.gufi_io.specs.Causes.{Rose}
 use Rattle.gufi_io.specs.Files.{Files}
 use Rattle.gufi_io.specs.declared.shelf.Shelf.{Ghosts as ShelfOf}
 use Rattle.gufi_io.specs.declared.sink.Sink.{Ghosts as SinkOf}
-use Rattle.gufi_base.specs.Basics.{◌>>=◌}
+use Rattle.gufi_base.specs.Basics.{◌>>=◌, result_map_err}
 use Rattle.gufi_access.specs.Access.{principal}
+use Rattle.gufi_snap.specs.Snap.{Snap}
 use Rattle.gufi_image.specs.Image.{image_text}
 use Rattle.gufi_roll.specs.CanRoll.{roll_flags, roll_report, report_text}
 use Rattle.gufi_gen.proofs.MadeBack.{generated_read, roots_listed}
@@ -18,13 +19,17 @@ use Rattle.gufi_words.specs.declared.command.Common.{Common}
 use Rattle.gufi_words.specs.declared.command.Command.{Command}
 use Rattle.gufi_words.specs.declared.command.Command.TheVariants as commands
 use Rattle.gufi_walk.specs.declared.refusal.Refusal.{Refusal}
-use Rattle.gufi_top.specs.Reasons.{Reason, trace_in, index_in}
-use Rattle.gufi_top.specs.Verdict.{Written, Verdict, writes, runs, Asking, stat_asking, find_asking, ls_asking, stats_asking, report_of, form_of, query_asking, agg_asking, replied, ask_over, trace2index_over, rollup_over, session_plan, max_cache, run_over, session_over, summary_of, generated_tree, summary_over, gen_verdict, command_over, verdict}
+use Rattle.gufi_base.specs.Paths.{Components}
+use Rattle.gufi_info.specs.Info.{info_text}
+use Rattle.gufi_trace.specs.TraceWriting.{written_trace}
+use Rattle.gufi_top.specs.Reasons.{Reason, unwritten_reason, trace_in, index_in, told_in}
+use Rattle.gufi_top.specs.Verdict.{Written, Verdict, writes, runs, Asking, stat_asking, find_asking, ls_asking, stats_asking, report_of, form_of, query_asking, agg_asking, replied, ask_over, trace2index_over, rollup_over, index2trace_over, info_over, refresh_over, session_plan, max_cache, run_over, session_over, summary_of, generated_tree, summary_over, gen_verdict, command_over, verdict}
 use Rattle.gufi_top.specs.Ends.{told_verdict, RunEnds, EndsWith, EndedBy, IsVerdictStatus}
 use Rattle.gufi_top.specs.Endings.{HasRun}
-use Rattle.gufi_top.specs.Complete.{AskIsAnswerable, SessionIsAnswerable, IsAnswerable, IsAnswered, Completes}
-use Rattle.gufi_top.specs.Laws.{AnswerableCommandsAreAnswered}
+use Rattle.gufi_top.specs.Complete.{AskIsAnswerable, TraceIsAnswerable, RefreshIsAnswerable, SessionIsAnswerable, IsAnswerable, IsAnswered, Completes}
+use Rattle.gufi_top.specs.Laws.{AnswerableCommandsAreAnswered, RefreshWritesTheImageOfItsTree}
 use Rattle.gufi_top.proofs.GenLemmas.{gen_written}
+use Rattle.gufi_top.proofs.IndexCommands.{unwritten_ok, told_where_read, refresh_text}
 use Rattle.gufi_top.proofs.ListedTexts.{verdict_of, walk_text, asking_text}
 
 -- ---- the verdict
@@ -50,6 +55,19 @@ unfolding summary_over
 gen_answered n delim true h = replies_answered (generated_tree n delim) summary_of h
 gen_answered n delim false h = tt
 
+trace_answered : (index : List ℕ) (delim : ℕ) (files : Files) → TraceIsAnswerable index delim files → IsAnswered (index2trace_over index delim files)
+unfolding index2trace_over
+trace_answered index delim files can =
+    let snap : Snap = can.0 in
+    rw can.1 (answered_if (result_map_err (unwritten_reason index) (written_trace snap.tree [] delim)) (λ text. record { out = text; notes = [] }) (unwritten_ok index (written_trace snap.tree [] delim) can.2))
+
+info_answered : (index : List ℕ) (delim limit : ℕ) (files : Files) → is_ok (index_in delim limit index files) ≡ true → IsAnswered (info_over index delim limit files)
+unfolding info_over
+info_answered index delim limit files can = answered_if (told_in delim limit index files) (λ indexed. record { out = info_text indexed.image indexed.snap.tree indexed.snap.limit; notes = [] }) (told_where_read delim limit index files can)
+
+refresh_answered : (index : List ℕ) (delim limit : ℕ) (path : Components) (trace : List ℕ) (files : Files) → RefreshIsAnswerable index delim limit path trace files → IsAnswered (refresh_over index delim limit path trace files)
+refresh_answered index delim limit path trace files can = answered_by _ _ (refresh_text index delim limit path trace files can)
+
 ask_answered : (common : Common) (asking : Asking) (files : Files) → AskIsAnswerable common asking files → IsAnswered (ask_over common asking files)
 ask_answered common asking files can = answered_by _ _ (asking_text common asking files can)
 
@@ -62,6 +80,9 @@ command_answered (commands.Walk trace uid gids delim) files can = answered_by _ 
 command_answered (commands.Trace2index trace delim) files can = answered_if (trace_in delim trace files) (λ tree. record { out = image_text tree 0; notes = [] }) can
 command_answered (commands.Rollup index delim limit) files can =
     answered_if (index_in delim limit index files) (λ snap. record { out = image_text snap.tree limit; notes = report_text (roll_report snap.tree (roll_flags snap.tree limit)) }) can
+command_answered (commands.Index2trace index delim) files can = trace_answered index delim files can
+command_answered (commands.Info index delim limit) files can = info_answered index delim limit files can
+command_answered (commands.Refresh index delim limit path trace) files can = refresh_answered index delim limit path trace files can
 command_answered (commands.Query common escape header json text) files can = ask_answered common (query_asking common.user_at (form_of escape header json) text) files can
 command_answered (commands.Agg common names text) files can = ask_answered common (agg_asking common.user_at names text) files can
 command_answered (commands.Find common now prefix words) files can = ask_answered common (find_asking common.user_at now prefix words) files can
@@ -70,6 +91,13 @@ command_answered (commands.Stat common) files can = ask_answered common stat_ask
 command_answered (commands.Stats common names report) files can = ask_answered common (stats_asking names (report_of report)) files can
 command_answered (commands.Session passwd group delim workers now cache script) files can = session_answered files (min cache max_cache) (session_plan passwd group delim now script files) can
 command_answered (commands.Gen n delim workers summary) files can = gen_answered n delim summary (gen_written generated_read roots_listed n delim summary can.0 can.1 can.2)
+
+-- what `refresh` writes then
+pub refresh_writes : RefreshWritesTheImageOfItsTree
+unfolding command_over
+refresh_writes words files index delim limit path trace snap part are index_is trace_is there few short =
+    verdict_of words files _ are
+    ∙ refresh_text index delim limit path trace files (record { snap = snap; part = part; indexed = index_is; traced = trace_is; there = there; few = few; short = short })
 
 pub commands_answered : AnswerableCommandsAreAnswered
 commands_answered words files command are can = rw (verdict_of words files command are) (command_answered command files can)

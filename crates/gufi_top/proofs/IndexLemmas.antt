@@ -13,7 +13,8 @@ use Rattle.gufi_image.specs.Reader.{Reading, HasRead}
 use Rattle.gufi_image.specs.declared.fault.ImageKind.{ImageKind}
 use Rattle.gufi_image.specs.declared.fault.ImageError.TheVariants as errors
 use Rattle.gufi_top.specs.declared.halt.Halt.{Halt}
-use Rattle.gufi_top.specs.Reasons.{Reason, held, file_in, trace_in, image_reason, image_within, image_in, rolled_under, traced_in, is_image, index_by, index_in}
+use Rattle.gufi_top.specs.declared.index.Indexed.{Indexed}
+use Rattle.gufi_top.specs.Reasons.{Reason, held, file_in, trace_in, image_reason, image_within, image_in, rolled_under, traced_in, is_image, index_by, index_in, told_in}
 use Rattle.gufi_top.specs.Calls.{Gives, GivesOver}
 use Rattle.gufi_top.specs.Views.{bytes_view}
 use Rattle.gufi_top.specs.Fed.{BeginsAs, HasReadImage, IsImageFedUpTo}
@@ -93,7 +94,7 @@ pub ruleset trace_files = (traced_ok, traced_err)
 
 -- ---- the index that the file's front tells
 
-index_is : (files : Files) (delim limit : ℕ) (name bytes : List ℕ) (image : Bool) → files name ≡ Some bytes → is_image bytes ≡ image → index_in delim limit name files ≡ index_by image delim limit name files
+pub index_is : (files : Files) (delim limit : ℕ) (name bytes : List ℕ) (image : Bool) → files name ≡ Some bytes → is_image bytes ≡ image → index_in delim limit name files ≡ index_by image delim limit name files
 unfolding index_in
 index_is files delim limit name bytes image holds is = rw (holds, is) refl
 
@@ -116,3 +117,25 @@ index_unread None delim limit name e read = tt
 index_unread (Some files) delim limit name e read = stays e (held files name) _ read (λ why is. rw is refl)
 
 pub ruleset unread = index_unread
+
+-- ---- and whether it is an image
+
+pub told_ok : (told : Option Files) (delim limit : ℕ) (name : List ℕ) (image : Bool) (snap : Snap) → BeginsAs told name image
+    → GivesOver {A = Snap} told (λ s. s) (Ok snap) (index_in delim limit name) → GivesOver told (λ (i : Indexed). i) (Ok (record { image = image; snap = snap })) (told_in delim limit name)
+unfolding told_in
+told_ok None delim limit name image snap begins given = tt
+told_ok (Some files) delim limit name image snap begins given = rw (begins.1, given, begins.2) refl
+
+pub told_err : (told : Option Files) (delim limit : ℕ) (name : List ℕ) (image : Bool) (e : Halt) → BeginsAs told name image
+    → GivesOver {A = Snap} told (λ s. s) (Err e) (index_in delim limit name) → GivesOver {A = Indexed} told (λ i. i) (Err e) (told_in delim limit name)
+unfolding told_in
+told_err None delim limit name image e begins given = tt
+told_err (Some files) delim limit name image e begins given = stays e (index_in delim limit name files) _ given (λ why is. rw (begins.1, is) refl)
+
+pub told_unread : (told : Option Files) (delim limit : ℕ) (name : List ℕ) (e : Halt)
+    → GivesOver told bytes_view (Err e) (λ files. held files name) → GivesOver {A = Indexed} told (λ i. i) (Err e) (told_in delim limit name)
+unfolding told_in
+told_unread None delim limit name e read = tt
+told_unread (Some files) delim limit name e read = stays e (held files name) _ read (λ why is. rw is refl)
+
+pub ruleset told = (told_ok, told_err, told_unread)

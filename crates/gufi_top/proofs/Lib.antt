@@ -1,6 +1,7 @@
 pub mod ReadingLemmas
 pub mod IndexLemmas
 pub mod RunLemmas
+pub mod IndexCommands
 pub mod EndLemmas
 pub mod SessionLemmas
 pub mod StepLemmas
@@ -9,6 +10,7 @@ pub mod ReplyLemmas
 pub mod SummaryLemmas
 pub mod GenLemmas
 pub mod TraceImages
+pub mod TracesBack
 pub mod ListedTexts
 pub mod CompleteLemmas
 pub mod HitLemmas

@@ -20,9 +20,13 @@ use Rattle.gufi_snap.specs.Snap.{Snap}
 use Rattle.gufi_walk.specs.declared.refusal.Refusal.{Refusal}
 use Rattle.gufi_plan.specs.Plan.{Plan}
 use Rattle.gufi_ask.specs.Asks.{Ask, walk_ask}
-use Rattle.gufi_top.specs.Reasons.{Reason, word_refused, words_reason, tables_in, trace_in, index_in}
+use Rattle.gufi_info.specs.Info.{info_text}
+use Rattle.gufi_snap.specs.Refreshed.{refreshed}
+use Rattle.gufi_tree.specs.Graft.{graft}
+use Rattle.gufi_trace.specs.TraceWriting.{written_trace}
+use Rattle.gufi_top.specs.Reasons.{Reason, word_refused, words_reason, unwritten_reason, refresh_reason, tables_in, trace_in, index_in, told_in}
 use Rattle.gufi_image.specs.Image.{image_text}
-use Rattle.gufi_top.specs.Verdict.{Verdict, writes, runs, writes_only, replied, asked, asked_if, walk_over, user_in, Asking, asked_by, index_over, ask_over, stat_asking, find_asking, ls_asking, stats_asking, report_of, form_of, query_asking, agg_asking, trace2index_over, rolled_up, rollup_over, summary_of, generated_tree, summary_over, gen_verdict, command_over, command_in, verdict, MayRefuse, MayRefuseWords, are_one_shot, is_one_shot, files_ahead, files_ahead_of}
+use Rattle.gufi_top.specs.Verdict.{Verdict, writes, runs, writes_only, replied, asked, asked_if, walk_over, user_in, Asking, asked_by, index_over, ask_over, stat_asking, find_asking, ls_asking, stats_asking, report_of, form_of, query_asking, agg_asking, trace2index_over, rolled_up, rollup_over, trace_written, index2trace_over, info_over, refreshed_image, refresh_by, refresh_over, summary_of, generated_tree, summary_over, gen_verdict, command_over, command_in, verdict, MayRefuse, MayRefuseWords, are_one_shot, is_one_shot, files_ahead, files_ahead_of}
 use Rattle.gufi_top.specs.Calls.{Gives, GivesOver, IsOfBytes, IsOfWords, OfWordsOnlyBy}
 use Rattle.gufi_top.specs.Views.{text_view}
 use Rattle.gufi_top.specs.Ends.{told_verdict}
@@ -99,11 +103,20 @@ gen_writes n delim true = then_writes (generated_tree n delim) (λ tree. replied
 gen_writes n delim false = tt
 
 command_writes : (command : Command) (files : Files) → is_one_shot command ≡ true → IsText (command_over command files)
-unfolding command_over walk_over trace2index_over rollup_over
+unfolding command_over walk_over trace2index_over rollup_over index2trace_over info_over refresh_over refresh_by
 command_writes (variants.Walk trace uid gids delim) files one =
     then_writes (trace_in delim trace files) (λ tree. asked tree (principal uid gids) [] walk_ask) (λ tree. asked_writes tree (principal uid gids) [] walk_ask)
 command_writes (variants.Trace2index trace delim) files one = then_writes (trace_in delim trace files) (λ tree. writes_only (image_text tree 0)) (λ tree. tt)
 command_writes (variants.Rollup index delim limit) files one = then_writes (index_in delim limit index files) (λ snap. rolled_up limit snap.tree) (λ snap. tt)
+command_writes (variants.Index2trace index delim) files one =
+    then_writes (index_in delim 0 index files) (λ snap. trace_written index delim snap.tree) (λ snap.
+    then_writes (result_map_err (unwritten_reason index) (written_trace snap.tree [] delim)) writes_only (λ text. tt))
+command_writes (variants.Info index delim limit) files one =
+    then_writes (told_in delim limit index files) (λ indexed. writes_only (info_text indexed.image indexed.snap.tree indexed.snap.limit)) (λ indexed. tt)
+command_writes (variants.Refresh index delim limit path trace) files one =
+    then_writes (index_in delim limit index files) (λ snap. refresh_by delim limit path trace snap files) (λ snap.
+    then_writes (trace_in delim trace files) (refreshed_image trace limit path snap) (λ part.
+    then_writes (result_map_err (refresh_reason trace (graft snap.tree path part)) (refreshed snap path part)) (λ after. writes_only (image_text after.tree limit)) (λ after. tt)))
 command_writes (variants.Query common escape header json text) files one = ask_writes common (query_asking common.user_at (form_of escape header json) text) files
 command_writes (variants.Agg common names text) files one = ask_writes common (agg_asking common.user_at names text) files
 command_writes (variants.Find common now prefix words) files one = ask_writes common (find_asking common.user_at now prefix words) files

@@ -1,5 +1,5 @@
 -- What leaves a run nothing to refuse, and how it ends then.
-use Rattle.std.specs.Prelude.{◌≡◌, ◌≤◌, ◌⊎◌, ℕ, IsTrue, List, [], is_ok, ⊤, Some, None, Result, Ok, Err}
+use Rattle.std.specs.Prelude.{◌≡◌, ◌≤◌, ◌⊎◌, ℕ, not, IsTrue, List, [], is_ok, ⊤, Some, None, Result, Ok, Err}
 use Rattle.gufi_io.specs.Causes.{Rose}
 use Rattle.gufi_io.specs.Files.{Files}
 use Rattle.gufi_io.specs.declared.shelf.Shelf.{Ghosts as ShelfOf}
@@ -7,9 +7,12 @@ use Rattle.gufi_io.specs.declared.sink.Sink.{Ghosts as SinkOf}
 use Rattle.gufi_base.specs.Delimiters.{may_delimit}
 use Rattle.gufi_access.specs.declared.class.Principal.{Principal}
 use Rattle.gufi_access.specs.Access.{principal}
-use Rattle.gufi_tree.specs.Tree.{Directory}
+use Rattle.gufi_base.specs.Paths.{Components}
+use Rattle.gufi_tree.specs.Tree.{Directory, has_dir, is_too_large}
+use Rattle.gufi_tree.specs.Graft.{graft, is_too_deep}
 use Rattle.gufi_tree.specs.Resolve.{resolve, is_found}
 use Rattle.gufi_snap.specs.Snap.{Snap}
+use Rattle.gufi_trace.specs.TraceWriting.{written_trace}
 use Rattle.gufi_users.specs.Entries.{UserTables}
 use Rattle.gufi_users.specs.Users.{principal_of}
 use Rattle.gufi_plan.specs.Plan.{Plan}
@@ -42,6 +45,21 @@ pub record AskIsAnswerable (common : Common) (asking : Asking) (files : Files) :
 abbrev pub WalkIsAnswerable : List ℕ → Principal → ℕ → Files → Type 0
 WalkIsAnswerable trace who delim files = (tree : List Directory) × (trace_in delim trace files ≡ Ok tree) × IsTrue (is_found (resolve tree who []))
 
+-- The index is there, well-formed and within its limits, its tree's names, links and lists don't hold the delimiter, and no path is too long.
+abbrev pub TraceIsAnswerable : List ℕ → ℕ → Files → Type 0
+TraceIsAnswerable index delim files = (snap : Snap) × (index_in delim 0 index files ≡ Ok snap) × IsTrue (is_ok (written_trace snap.tree [] delim))
+
+-- The index and the trace are there, well-formed and within their limits, the path is a directory of the index, and the tree with the
+-- trace's in its place is neither too large nor too deep.
+pub record RefreshIsAnswerable (index : List ℕ) (delim limit : ℕ) (path : Components) (trace : List ℕ) (files : Files) : Type 0 where
+  pub snap : Snap
+  pub part : List Directory
+  pub indexed : index_in delim limit index files ≡ Ok snap
+  pub traced : trace_in delim trace files ≡ Ok part
+  pub there : IsTrue (has_dir snap.tree path)
+  pub few : IsTrue (not (is_too_large (graft snap.tree path part)))
+  pub short : IsTrue (not (is_too_deep (graft snap.tree path part)))
+
 -- A session's users and script are there and well-formed, and so is each user and query of the script; no phase lacks a file or has
 -- too long ones. A damaged trace is a line of its text.
 abbrev pub SessionIsAnswerable : Files → Result Plan Reason → Type 0
@@ -51,6 +69,9 @@ abbrev pub IsAnswerable : Command → Files → Type 0
 IsAnswerable (commands.Walk trace uid gids delim) files = WalkIsAnswerable trace (principal uid gids) delim files
 IsAnswerable (commands.Trace2index trace delim) files = IsTrue (is_ok (trace_in delim trace files))
 IsAnswerable (commands.Rollup index delim limit) files = IsTrue (is_ok (index_in delim limit index files))
+IsAnswerable (commands.Index2trace index delim) files = TraceIsAnswerable index delim files
+IsAnswerable (commands.Info index delim limit) files = IsTrue (is_ok (index_in delim limit index files))
+IsAnswerable (commands.Refresh index delim limit path trace) files = RefreshIsAnswerable index delim limit path trace files
 IsAnswerable (commands.Query common escape header json text) files = AskIsAnswerable common (query_asking common.user_at (form_of escape header json) text) files
 IsAnswerable (commands.Agg common names text) files = AskIsAnswerable common (agg_asking common.user_at names text) files
 IsAnswerable (commands.Find common now prefix words) files = AskIsAnswerable common (find_asking common.user_at now prefix words) files

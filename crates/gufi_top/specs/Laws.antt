@@ -4,12 +4,13 @@ use Rattle.std.specs.List.{flat_map, list_all}
 use Rattle.gufi_io.specs.Files.{Files}
 use Rattle.gufi_base.specs.Basics.{is_empty, line}
 use Rattle.gufi_base.specs.Delimiters.{may_delimit}
-use Rattle.gufi_base.specs.Paths.{is_too_long, slashed_text}
+use Rattle.gufi_base.specs.Paths.{Components, is_too_long, slashed_text}
 use Rattle.gufi_base.specs.Rows.{are_bytes, depth_below}
 use Rattle.gufi_rows.specs.PathLines.{path_lines}
 use Rattle.gufi_access.specs.declared.class.Principal.{Principal}
 use Rattle.gufi_access.specs.Access.{principal}
-use Rattle.gufi_tree.specs.Tree.{Directory, own_rows}
+use Rattle.gufi_tree.specs.Tree.{Directory, own_rows, has_dir, is_too_large}
+use Rattle.gufi_tree.specs.Graft.{graft, is_too_deep}
 use Rattle.gufi_tree.specs.Resolve.{resolve, is_found}
 use Rattle.gufi_snap.specs.Snap.{Snap}
 use Rattle.gufi_users.specs.Entries.{UserTables}
@@ -19,6 +20,7 @@ use Rattle.gufi_find.specs.Reading.{read_find}
 use Rattle.gufi_walk.specs.Answer.{listed_rows}
 use Rattle.gufi_trace.specs.TraceText.{trace_means}
 use Rattle.gufi_trace.specs.TraceTrees.{trace_root}
+use Rattle.gufi_trace.specs.TraceWriting.{written_trace}
 use Rattle.gufi_image.specs.Image.{image_text}
 use Rattle.gufi_image.specs.Reading.{image_means}
 use Rattle.gufi_words.specs.CommandWords.{read_words}
@@ -64,3 +66,21 @@ abbrev pub TracesComeBackFromImages : Type 0
 TracesComeBackFromImages = (delim : ℕ) (bytes : List ℕ) (tree : List Directory) (limit : ℕ) → IsTrue (are_bytes bytes) → trace_means delim bytes ≡ Ok tree
     → IsTrue (not (is_empty (trace_root delim bytes)) || list_all (λ row. not (is_too_long row.path)) (flat_map own_rows tree)) → limit < 2 ^ 64
     → image_means (image_text tree limit) ≡ Ok (record { tree = tree; limit = limit })
+
+-- What `index2trace` writes of an index is read back to the index's tree, whichever limit the index is read under.
+abbrev pub IndexesComeBackFromTraces : Type 0
+IndexesComeBackFromTraces = (index : List ℕ) (delim limit : ℕ) (files : Files) (bytes : List ℕ) (snap : Snap) (text : List ℕ)
+    → files index ≡ Some bytes → IsTrue (are_bytes bytes) → IsTrue (may_delimit delim) → index_in delim limit index files ≡ Ok snap
+    → command_over (commands.Index2trace index delim) files ≡ writes_only text → trace_means delim text ≡ Ok snap.tree
+
+-- The image of the trace of an image, under the image's limit, is the image, byte for byte.
+abbrev pub ImagesComeBackFromTraces : Type 0
+ImagesComeBackFromTraces = (delim : ℕ) (bytes : List ℕ) (snap : Snap) (text : List ℕ) (tree : List Directory) → IsTrue (are_bytes bytes) → IsTrue (may_delimit delim)
+    → image_means bytes ≡ Ok snap → written_trace snap.tree [] delim ≡ Ok text → trace_means delim text ≡ Ok tree → image_text tree snap.limit ≡ bytes
+
+-- `refresh` writes the image, under the limit that its words name, of the index's tree with the trace's in place of all at and below the path.
+abbrev pub RefreshWritesTheImageOfItsTree : Type 0
+RefreshWritesTheImageOfItsTree = (words : List (List ℕ)) (files : Files) (index : List ℕ) (delim limit : ℕ) (path : Components) (trace : List ℕ) (snap : Snap) (part : List Directory)
+    → read_words words ≡ Ok (commands.Refresh index delim limit path trace) → index_in delim limit index files ≡ Ok snap → trace_in delim trace files ≡ Ok part
+    → IsTrue (has_dir snap.tree path) → IsTrue (not (is_too_large (graft snap.tree path part))) → IsTrue (not (is_too_deep (graft snap.tree path part)))
+    → verdict words files ≡ writes_only (image_text (graft snap.tree path part) limit)

@@ -1,12 +1,14 @@
 -- Why a command is refused, and what its files mean or are refused for.
-use Rattle.std.specs.Prelude.{ℕ, ◌+◌, nat_lt, Bool, true, false, List, [], ◌++◌, length, Option, Some, None, ok_or, unwrap_or, Result, Ok, codes, decimal}
+use Rattle.std.specs.Prelude.{ℕ, ◌+◌, nat_lt, Bool, true, false, List, [], ◌++◌, length, Option, Some, None, ok_or, unwrap_or, Result, Ok, if◌then◌else◌, codes, decimal}
 use Rattle.std.specs.Bool.{nat_eq}
 use Rattle.std.specs.List.{starts_with}
 use Rattle.gufi_io.specs.Files.{Files}
-use Rattle.gufi_base.specs.Limits.{max_trace, max_image, max_users, max_script}
+use Rattle.gufi_base.specs.Limits.{max_dirs, max_entries, max_trace, max_image, max_users, max_script}
 use Rattle.gufi_base.specs.Basics.{line, capped_number, ◌>>=◌, ◌>>◌, refuse, result_map_err}
 use Rattle.gufi_tree.specs.Tree.{Directory}
 use Rattle.gufi_snap.specs.Snap.{Snap}
+use Rattle.gufi_snap.specs.declared.refresh.RefreshFault.{RefreshFault}
+use Rattle.gufi_snap.specs.declared.refresh.RefreshFault.TheVariants as refresh_faults
 use Rattle.gufi_image.specs.Bytes.{magic}
 use Rattle.gufi_image.specs.Reading.{image_means}
 use Rattle.gufi_image.specs.Kinds.{image_kind_text}
@@ -20,6 +22,8 @@ use Rattle.gufi_walk.specs.Refusals.{refusal_text}
 use Rattle.gufi_trace.specs.declared.fault.TraceKind.{TraceKind}
 use Rattle.gufi_trace.specs.declared.fault.TraceKind.TheVariants as kinds
 use Rattle.gufi_trace.specs.declared.fault.TraceError.TheVariants as errors
+use Rattle.gufi_trace.specs.declared.writer.WriteTraceFault.{WriteTraceFault}
+use Rattle.gufi_trace.specs.declared.writer.WriteTraceFault.TheVariants as unwritten
 use Rattle.gufi_users.specs.declared.fault.UserKind.{UserKind}
 use Rattle.gufi_users.specs.declared.fault.UserKind.TheVariants as users
 use Rattle.gufi_users.specs.declared.fault.UserError.{UserError}
@@ -46,6 +50,7 @@ use Rattle.gufi_script.specs.declared.fault.ScriptError.TheVariants as script_er
 use Rattle.gufi_script.specs.ScriptText.{PlacedAct, read_script, script_kind_text}
 use Rattle.gufi_phases.specs.declared.load.Stop.{Stop}
 use Rattle.gufi_phases.specs.declared.load.Stop.TheVariants as stops
+use Rattle.gufi_top.specs.declared.index.Indexed.{Indexed}
 use Rattle.gufi_trace.specs.TraceText.{trace_means, TraceFailure, of_line, of_tree, failure_text}
 
 -- a status other than 0, and its note
@@ -76,6 +81,10 @@ past_limit file limit = reason 6 (file ++ codes " limit " ++ decimal limit)
 
 abbrev pub line_refused : List ℕ → List ℕ → Reason
 line_refused file text = reason 5 (file ++ codes " line " ++ text)
+
+-- a file of whose tree what is asked for can't be made
+abbrev pub file_refused : List ℕ → List ℕ → Reason
+file_refused file text = reason 5 (file ++ (codes " " ++ text))
 
 -- a fault that is a limit passed has its own status
 abbrev pub limit_or : List ℕ → Reason → Option ℕ → Reason
@@ -141,6 +150,25 @@ failure_limit (of_tree fault) = None
 
 unfoldable pub trace_reason : List ℕ → TraceFailure → Reason
 trace_reason file failure = limit_or file (line_refused file (failure_text failure)) (failure_limit failure)
+
+-- ---- a tree that no trace can tell
+
+abbrev pub unwritten_reason : List ℕ → WriteTraceFault → Reason
+unwritten_reason file unwritten.DelimUsed = file_refused file (codes "DelimUsed")
+unwritten_reason file unwritten.TooLong = file_refused file (codes "TooLong")
+unwritten_reason file unwritten.Memory = no_memory
+
+-- ---- a tree that would be made with a subtree replaced by that of a trace's file
+
+-- which limit a tree passes that is too large
+abbrev pub passed_limit : List Directory → ℕ
+passed_limit tree = if nat_lt max_dirs (length tree) then max_dirs else max_entries
+
+abbrev pub refresh_reason : List ℕ → List Directory → RefreshFault → Reason
+refresh_reason file tree refresh_faults.NotThere = reason 1 (codes "not there")
+refresh_reason file tree refresh_faults.TooMany = past_limit file (passed_limit tree)
+refresh_reason file tree refresh_faults.TooDeep = file_refused file (codes "TooDeep")
+refresh_reason file tree refresh_faults.Memory = no_memory
 
 -- ---- an image's faults
 
@@ -284,3 +312,7 @@ index_by false delim limit = traced_in delim limit
 -- the limit is that of a trace's roll-up; an image keeps its own
 unfoldable pub index_in : ℕ → ℕ → List ℕ → Files → Result Snap Reason
 index_in delim limit file files = held files file >>= λ bytes. index_by (is_image bytes) delim limit file files
+
+-- the same, and whether the file is an image
+unfoldable pub told_in : ℕ → ℕ → List ℕ → Files → Result Indexed Reason
+told_in delim limit file files = held files file >>= λ bytes. index_in delim limit file files >>= λ snap. Ok (record { image = is_image bytes; snap = snap })

@@ -6,7 +6,9 @@ use Rattle.gufi_base.specs.Paths.{Components}
 use Rattle.gufi_access.specs.declared.class.Principal.{Principal}
 use Rattle.gufi_access.specs.Access.{principal}
 use Rattle.gufi_tree.specs.Tree.{Directory}
+use Rattle.gufi_tree.specs.Graft.{graft}
 use Rattle.gufi_snap.specs.Snap.{Snap}
+use Rattle.gufi_snap.specs.Refreshed.{refreshed}
 use Rattle.gufi_users.specs.Entries.{UserTables}
 use Rattle.gufi_users.specs.Users.{principal_of}
 use Rattle.gufi_find.specs.Expressions.{Find}
@@ -23,7 +25,9 @@ use Rattle.gufi_stats.specs.declared.report.Report.{Report}
 use Rattle.gufi_stats.specs.declared.report.Report.TheVariants as reports
 use Rattle.gufi_gen.specs.Generated.{gen_text}
 use Rattle.gufi_roll.specs.CanRoll.{roll_flags, roll_report, report_text}
+use Rattle.gufi_trace.specs.TraceWriting.{written_trace}
 use Rattle.gufi_image.specs.Image.{image_text}
+use Rattle.gufi_info.specs.Info.{info_text}
 use Rattle.gufi_walk.specs.declared.refusal.Refusal.{Refusal}
 use Rattle.gufi_script.specs.ScriptText.{PlacedAct}
 use Rattle.gufi_plan.specs.Plan.{Setting, Plan, plan}
@@ -33,7 +37,7 @@ use Rattle.gufi_words.specs.declared.command.ReportWord.TheVariants as report_wo
 use Rattle.gufi_words.specs.declared.command.Common.{Common}
 use Rattle.gufi_words.specs.declared.command.Command.{Command}
 use Rattle.gufi_words.specs.declared.command.Command.TheVariants as commands
-use Rattle.gufi_top.specs.Reasons.{Reason, word_refused, words_reason, find_reason, select_reason, column_twice, agg_reason, script_reason, start_reason, named_count, tables_in, acts_in, trace_in, tree_within, index_in}
+use Rattle.gufi_top.specs.Reasons.{Reason, word_refused, words_reason, find_reason, select_reason, column_twice, agg_reason, script_reason, start_reason, unwritten_reason, refresh_reason, named_count, tables_in, acts_in, trace_in, tree_within, index_in, told_in}
 use Rattle.gufi_ask.specs.Asks.{Ask, walk_ask, find_ask, ls_ask, stat_ask, stats_ask, total_ask, query_ask, agg_ask, ask_reply}
 
 -- what goes to the output, and the note of status 0
@@ -155,6 +159,33 @@ rolled_up limit tree = Ok (writes (record { out = image_text tree limit; notes =
 unfoldable pub rollup_over : List ℕ → ℕ → ℕ → Files → Result Verdict Reason
 rollup_over index delim limit files = index_in delim limit index files >>= λ snap. rolled_up limit snap.tree
 
+-- ---- index2trace: the trace of an index's tree, whose root is written as /
+
+abbrev pub trace_written : List ℕ → ℕ → List Directory → Result Verdict Reason
+trace_written index delim tree = result_map_err (unwritten_reason index) (written_trace tree [] delim) >>= writes_only
+
+unfoldable pub index2trace_over : List ℕ → ℕ → Files → Result Verdict Reason
+index2trace_over index delim files = index_in delim 0 index files >>= λ snap. trace_written index delim snap.tree
+
+-- ---- refresh: the image of an index under a limit, of which the directory at a path, with all below it, is replaced by a trace's tree
+
+-- the limit that the snapshot had plays no part
+abbrev pub refreshed_image : List ℕ → ℕ → Components → Snap → List Directory → Result Verdict Reason
+refreshed_image trace limit path snap part =
+    result_map_err (refresh_reason trace (graft snap.tree path part)) (refreshed snap path part) >>= λ after. writes_only (image_text after.tree limit)
+
+unfoldable pub refresh_by : ℕ → ℕ → Components → List ℕ → Snap → Files → Result Verdict Reason
+refresh_by delim limit path trace snap files = trace_in delim trace files >>= refreshed_image trace limit path snap
+
+-- the index is judged before the trace, and the place behind both
+unfoldable pub refresh_over : List ℕ → ℕ → ℕ → Components → List ℕ → Files → Result Verdict Reason
+refresh_over index delim limit path trace files = index_in delim limit index files >>= λ snap. refresh_by delim limit path trace snap files
+
+-- ---- info: what an index holds
+
+unfoldable pub info_over : List ℕ → ℕ → ℕ → Files → Result Verdict Reason
+info_over index delim limit files = told_in delim limit index files >>= λ indexed. writes_only (info_text indexed.image indexed.snap.tree indexed.snap.limit)
+
 -- ---- session: the phases of a script, whose users and queries are judged, in line order, behind its own faults
 
 abbrev pub plan_with : Setting → List ℕ → List PlacedAct → Result Plan Reason
@@ -211,6 +242,9 @@ unfoldable pub command_over : Command → Files → Result Verdict Reason
 command_over (commands.Walk trace uid gids delim) = walk_over trace (principal uid gids) delim
 command_over (commands.Trace2index trace delim) = trace2index_over trace delim
 command_over (commands.Rollup index delim limit) = rollup_over index delim limit
+command_over (commands.Index2trace index delim) = index2trace_over index delim
+command_over (commands.Info index delim limit) = info_over index delim limit
+command_over (commands.Refresh index delim limit path trace) = refresh_over index delim limit path trace
 command_over (commands.Query common escape header json text) = ask_over common (query_asking common.user_at (form_of escape header json) text)
 command_over (commands.Agg common names text) = ask_over common (agg_asking common.user_at names text)
 command_over (commands.Find common now prefix words) = ask_over common (find_asking common.user_at now prefix words)
@@ -225,6 +259,9 @@ abbrev pub is_one_shot : Command → Bool
 is_one_shot (commands.Walk trace uid gids delim) = true
 is_one_shot (commands.Trace2index trace delim) = true
 is_one_shot (commands.Rollup index delim limit) = true
+is_one_shot (commands.Index2trace index delim) = true
+is_one_shot (commands.Info index delim limit) = true
+is_one_shot (commands.Refresh index delim limit path trace) = true
 is_one_shot (commands.Query common escape header json text) = true
 is_one_shot (commands.Agg common names text) = true
 is_one_shot (commands.Find common now prefix words) = true
@@ -259,6 +296,9 @@ abbrev pub MayRefuse : Command → Reason → Type 0
 MayRefuse (commands.Walk trace uid gids delim) why = ⊥
 MayRefuse (commands.Trace2index trace delim) why = ⊥
 MayRefuse (commands.Rollup index delim limit) why = ⊥
+MayRefuse (commands.Index2trace index delim) why = ⊥
+MayRefuse (commands.Info index delim limit) why = ⊥
+MayRefuse (commands.Refresh index delim limit path trace) why = ⊥
 MayRefuse (commands.Query common escape header json text) why = AskMayRefuse common (query_asking common.user_at (form_of escape header json) text) why
 MayRefuse (commands.Agg common names text) why = AskMayRefuse common (agg_asking common.user_at names text) why
 MayRefuse (commands.Find common now prefix words) why = AskMayRefuse common (find_asking common.user_at now prefix words) why

@@ -3,12 +3,16 @@ ghost use Rattle.std.specs.Prelude.{◌≡◌, IfErr, IfOk, IsTrue};
 ghost use Rattle.gufi_io.specs.Kept.{Keeps};
 ghost use Rattle.gufi_top.specs.Views.{text_view};
 ghost use Rattle.gufi_access.specs.Access.{principal};
+ghost use Rattle.gufi_words.specs.CommandWords.{is_delimited};
 ghost use Rattle.gufi_top.specs.Verdict.{walk_over, command_over, is_one_shot, MayRefuse};
 ghost use Rattle.gufi_top.specs.Calls.{GivesOver, OfWordsOnlyBy, IsPastWords, HaltHasCause};
 
 use crate::generate::generate;
 use crate::halt::{Halt, Output};
+use crate::index2trace::index2trace;
+use crate::info::info;
 use crate::question::Question;
+use crate::refresh::{Replacement, refresh};
 use crate::rollup::{rollup, trace2index};
 use crate::search::ask;
 use crate::walk::walk;
@@ -62,7 +66,12 @@ pub(crate) fn workers_of(command: &Command) -> u32 {
         | Command::Stat { common }
         | Command::Stats { common, .. } => common.workers,
         Command::Session { workers, .. } | Command::Gen { workers, .. } => *workers,
-        Command::Walk { .. } | Command::Trace2index { .. } | Command::Rollup { .. } => 1,
+        Command::Walk { .. }
+        | Command::Trace2index { .. }
+        | Command::Rollup { .. }
+        | Command::Index2trace { .. }
+        | Command::Info { .. }
+        | Command::Refresh { .. } => 1,
     }
 }
 
@@ -74,7 +83,8 @@ pub(crate) fn answer_command<R: Threads + Wait + Sync, F: Shelf, G: Gate + Sync>
     command: &Command,
     shelf: &mut F,
 ) -> Result<Output, Halt>
-    requires { IsTrue (is_one_shot command.now) }
+    requires one_shot { IsTrue (is_one_shot command.now) }
+    requires delimited { IsTrue (is_delimited command.now) }
     ensures text { GivesOver (F.files shelf.old) text_view result (command_over command.now) }
     ensures words { IfErr result (OfWordsOnlyBy (MayRefuse command.now)) }
     ensures cause { IfErr result (HaltHasCause F.Shelf shelf.old shelf.new) }
@@ -95,6 +105,28 @@ pub(crate) fn answer_command<R: Threads + Wait + Sync, F: Shelf, G: Gate + Sync>
             delim,
             limit,
         } => rollup(alloc, shelf, index.as_str(), *delim, *limit),
+        Command::Index2trace { index, delim } => index2trace(alloc, shelf, index.as_str(), *delim),
+        Command::Info {
+            index,
+            delim,
+            limit,
+        } => info(alloc, shelf, index.as_str(), *delim, *limit),
+        Command::Refresh {
+            index,
+            delim,
+            limit,
+            path,
+            trace,
+        } => {
+            let asked = Replacement {
+                index,
+                delim: *delim,
+                limit: *limit,
+                path,
+                trace,
+            };
+            refresh(alloc, shelf, asked)
+        }
         Command::Find {
             common,
             now,

@@ -6,7 +6,8 @@ ghost use Rattle.gufi_io.specs.Kept.{Keeps};
 ghost use Rattle.gufi_snap.specs.Snap.{Snap};
 ghost use Rattle.gufi_image.specs.Reader.{HasRead};
 ghost use Rattle.gufi_top.specs.Views.{bytes_view};
-ghost use Rattle.gufi_top.specs.Reasons.{held, file_in, image_reason, image_in, rolled_under, traced_in, is_image, index_in};
+ghost use Rattle.gufi_top.specs.Reasons.{held, file_in, image_reason, image_in, rolled_under, traced_in, is_image, index_in, told_in};
+ghost use Rattle.gufi_top.specs.declared.index.Indexed.{Indexed as SeenIndexed};
 ghost use Rattle.gufi_top.specs.Calls.{Gives, GivesOver, IsOfBytes, IsPastWords, HaltHasCause};
 ghost use Rattle.gufi_top.specs.Fed.{BeginsAs, HasReadImage, IsImageFedUpTo};
 
@@ -25,6 +26,13 @@ const MAX_IMAGE: u32 = 1_073_741_824;
 
 /// How many bytes tell an image from a trace. A read may give fewer.
 const MARK: usize = 6;
+
+/// An index that was read: whether the file is an image, and its snapshot.
+#[derive(Drop)]
+pub(crate) struct Indexed {
+    pub(crate) image: bool,
+    pub(crate) snap: Snapshot,
+}
 
 #[tactic(auto, unfolding(crate::specs::Reasons::is_image))]
 fn is_image(front: &[u8]) -> bool
@@ -247,4 +255,28 @@ pub(crate) fn read_index<F: Shelf>(
     let room = buffer.as_mut_slice();
     let front = read_front(alloc, shelf, name, room)?;
     rest_of_index(alloc, shelf, name, delim, limit, room, front)
+}
+
+/// The same, and whether the file is an image.
+#[tactic(auto, using(crate::proofs::IndexLemmas::told, crate::proofs::StepLemmas::cause_later))]
+pub(crate) fn read_indexed<F: Shelf>(
+    alloc: Global,
+    shelf: &mut F,
+    name: &str,
+    delim: u8,
+    limit: u64,
+) -> Result<Indexed, Halt>
+    ensures told { GivesOver (F.files shelf.old) (λ (indexed : SeenIndexed). indexed) result (told_in delim limit name.now) }
+    ensures past_words { IfErr result IsPastWords }
+    ensures cause { IfErr result (HaltHasCause F.Shelf shelf.old shelf.new) }
+    ensures kept { Keeps F.Shelf shelf.old shelf.new }
+{
+    let mut buffer = piece_buffer(alloc)?;
+    let room = buffer.as_mut_slice();
+    let front = read_front(alloc, shelf, name, room)?;
+    let image = is_image(&front);
+    match rest_of_index(alloc, shelf, name, delim, limit, room, front) {
+        Ok(snap) => Ok(Indexed { image, snap }),
+        Err(halt) => Err(halt),
+    }
 }

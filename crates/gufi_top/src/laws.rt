@@ -1,9 +1,9 @@
 //! Laws of what is written.
-ghost use Rattle.gufi_top.specs.Laws.{WalkWritesTheListedRows, FindWritesTheListedRows, FindWritesTheListedRowsBehindItsPrefix, AnswerableCommandsAreAnswered, GenIsNeverRefused, TracesComeBackFromImages};
+ghost use Rattle.gufi_top.specs.Laws.{WalkWritesTheListedRows, FindWritesTheListedRows, FindWritesTheListedRowsBehindItsPrefix, AnswerableCommandsAreAnswered, GenIsNeverRefused, TracesComeBackFromImages, IndexesComeBackFromTraces, ImagesComeBackFromTraces, RefreshWritesTheImageOfItsTree};
 
 use gufi_gen::generated_traces_are_read;
-use gufi_image::written_images_read_back;
-use gufi_trace::traces_mean_sound_trees;
+use gufi_image::{images_have_one_spelling, written_images_read_back};
+use gufi_trace::{traces_mean_sound_trees, written_traces_read_back};
 
 /// `walk` writes exactly the rows that its user lists by walking from the root, each once, in path order.
 pub fn walk_writes_the_listed_rows()
@@ -41,3 +41,25 @@ pub fn traces_come_back_from_images()
     traces_mean_sound_trees();
     written_images_read_back();
 }
+
+/// What `index2trace` writes of an index means the index's tree.
+pub fn indexes_come_back_from_traces()
+    ensures { IndexesComeBackFromTraces }
+{
+    traces_mean_sound_trees();
+    written_traces_read_back();
+    images_have_one_spelling();
+}
+
+/// The image of an image's trace, under the image's limit, is the image.
+pub fn images_come_back_from_traces()
+    ensures { ImagesComeBackFromTraces }
+{
+    written_traces_read_back();
+    images_have_one_spelling();
+}
+
+/// `refresh` writes the image, under its limit, of the tree in which the trace's stands in place of a directory.
+pub fn refresh_writes_the_image_of_its_tree()
+    ensures { RefreshWritesTheImageOfItsTree }
+{}

@@ -10,10 +10,13 @@ mod ending;
 mod generate;
 mod halt;
 mod index;
+mod index2trace;
+mod info;
 mod laws;
 mod note;
 mod question;
 mod reading;
+mod refresh;
 mod rollup;
 mod run;
 mod search;
@@ -27,6 +30,8 @@ pub use ending::Outcome;
 pub use laws::{
     answerable_commands_are_answered, find_writes_the_listed_rows,
     find_writes_the_listed_rows_behind_its_prefix, gen_is_never_refused,
-    traces_come_back_from_images, walk_writes_the_listed_rows,
+    images_come_back_from_traces, indexes_come_back_from_traces,
+    refresh_writes_the_image_of_its_tree, traces_come_back_from_images,
+    walk_writes_the_listed_rows,
 };
 pub use run::gufi_run;

@@ -1,6 +1,6 @@
 //! The notes of refusals.
 ghost use Rattle.std.specs.Prelude.{◌≡◌, IfOk};
-ghost use Rattle.gufi_top.specs.Reasons.{word_refused, word_fault, text_fault, not_found, past_limit, line_refused, offset_refused, start_refused};
+ghost use Rattle.gufi_top.specs.Reasons.{word_refused, word_fault, text_fault, not_found, past_limit, file_refused, line_refused, offset_refused, reason, start_refused};
 ghost use Rattle.gufi_top.specs.Ends.{read_fault_note, write_fault_note, memory_note};
 ghost use Rattle.gufi_trace.specs.TraceText.{fault_text, failure_text, of_tree};
 ghost use Rattle.std.specs.Prelude.{◌++◌, codes, decimal};
@@ -38,6 +38,20 @@ pub(crate) fn past_limit(alloc: Global, file: &str, limit: u32) -> Result<Vec<u8
     ensures { IfOk result (λ note. note.items ≡ (past_limit file.now limit).note) }
 {
     Ok(format!(in alloc; "gufi: {file} limit {limit}\n")?.into_bytes())
+}
+
+/// A file of whose tree what is asked for can't be made.
+pub(crate) fn file_refused(alloc: Global, file: &str, text: &str) -> Result<Vec<u8>, AllocError>
+    ensures { IfOk result (λ note. note.items ≡ (file_refused file.now text.now).note) }
+{
+    Ok(format!(in alloc; "gufi: {file} {text}\n")?.into_bytes())
+}
+
+/// The path at which a directory was to be replaced is none.
+pub(crate) fn not_there(alloc: Global) -> Result<Vec<u8>, AllocError>
+    ensures { IfOk result (λ note. note.items ≡ (reason 1 (codes "not there")).note) }
+{
+    Vec::from_slice(alloc, b"gufi: not there\n")
 }
 
 /// Why a start can't be walked from.

@@ -11,6 +11,7 @@ use crate::halt::{Halt, Output};
 use crate::index::read_index;
 use crate::note;
 use crate::reading::read_trace_file;
+use crate::start::text_alone;
 use crate::walk::snapshot_of;
 use gufi_base::Memory;
 use gufi_image::write_image;
@@ -93,17 +94,23 @@ pub(crate) fn rollup<F: Shelf>(
     }
 }
 
+/// What a command writes whose text is the image of a snapshot's tree under a limit.
+pub(crate) fn image_alone(alloc: Global, snap: Snapshot, limit: u64) -> Result<Output, Halt>
+    ensures text { Gives text_view result (writes_only (image_text snap.tree limit)) }
+    ensures of_bytes { IfErr result IsOfBytes }
+    ensures past_words { IfErr result IsPastWords }
+{
+    let out = image_under(alloc, snap, limit)?;
+    Ok(text_alone(alloc, out))
+}
+
 // What `trace2index` writes of a tree.
 fn image_text_of(alloc: Global, tree: Tree) -> Result<Output, Halt>
     ensures text { Gives text_view result (writes_only (image_text tree 0)) }
     ensures of_bytes { IfErr result IsOfBytes }
     ensures past_words { IfErr result IsPastWords }
 {
-    let out = image_of(alloc, snapshot_of(alloc, tree, 0)?)?;
-    Ok(Output {
-        out,
-        notes: Vec::new(alloc),
-    })
+    image_alone(alloc, snapshot_of(alloc, tree, 0)?, 0)
 }
 
 /// What `trace2index` writes of a trace.

@@ -4,6 +4,7 @@ ghost use Rattle.std.specs.Io.KnownBytes.{Appends};
 ghost use Rattle.gufi_io.specs.Causes.{Rose};
 ghost use Rattle.gufi_io.specs.Kept.{Keeps};
 ghost use Rattle.gufi_words.specs.WordTexts.{texts};
+ghost use Rattle.gufi_words.specs.CommandWords.{is_delimited};
 ghost use Rattle.gufi_top.specs.Verdict.{is_one_shot, are_one_shot, files_ahead, files_ahead_of, MayRefuse, MayRefuseWords, command_in, command_over};
 ghost use Rattle.gufi_top.specs.Ends.{IsVerdictStatus, Ended, WriteFaulted, BrokenOff, Anywhere, FailedBehind, TextEnds, read_fault_note, memory_note};
 ghost use Rattle.gufi_top.specs.Endings.{HasRun, RefusalTells, TellsOneOf};
@@ -51,7 +52,8 @@ fn run_one_shot<R: Threads + Wait + Sync, F: Shelf, K: Sink, G: Gate + Sync>(
     notes: &mut K,
     gate: &G,
 ) -> Outcome
-    requires { IsTrue (is_one_shot command.now) }
+    requires one_shot { IsTrue (is_one_shot command.now) }
+    requires delimited { IsTrue (is_delimited command.now) }
     ensures run { HasRun F.Shelf K.Sink (files_ahead command.now) (option_map (command_over command.now) (F.files shelf.old)) result.status result.numbers.items shelf.old shelf.new out.old out.new notes.old notes.new }
     ensures words { result.status ≡ 2 → TellsOneOf K.Sink (MayRefuse command.now) notes.old notes.new }
     ensures silent { result.status ≢ 0 → result.status ≢ 4 → out.new ≡ out.old }
@@ -67,7 +69,7 @@ fn run_one_shot<R: Threads + Wait + Sync, F: Shelf, K: Sink, G: Gate + Sync>(
     }
 }
 
-// Does all that a command asks: a session writes as it goes.
+// Does all that a command asks, which words spell: a session writes as it goes.
 fn run_command<R: Threads + Wait + Sync, F: Shelf, K: Sink, G: Gate + Sync>(
     rt: &R,
     alloc: Global,
@@ -77,6 +79,7 @@ fn run_command<R: Threads + Wait + Sync, F: Shelf, K: Sink, G: Gate + Sync>(
     notes: &mut K,
     gate: &G,
 ) -> Outcome
+    requires { IsTrue (is_delimited command.now) }
     ensures run { HasRun F.Shelf K.Sink (files_ahead command.now) (option_map (command_over command.now) (F.files shelf.old)) result.status result.numbers.items shelf.old shelf.new out.old out.new notes.old notes.new }
     ensures words { result.status ≡ 2 → TellsOneOf K.Sink (MayRefuse command.now) notes.old notes.new }
     ensures silent { IsTrue (is_one_shot command.now) → result.status ≢ 0 → result.status ≢ 4 → out.new ≡ out.old }

@@ -28,7 +28,7 @@ fn refuse_start<T>(alloc: Global, refusal: Refusal) -> Result<T, Halt>
 }
 
 /// A text alone, without a note.
-fn text_of(alloc: Global, out: Vec<u8>) -> Output
+pub(crate) fn text_alone(alloc: Global, out: Vec<u8>) -> Output
     ensures { (result.out.items ≡ out.items) × (result.notes.items ≡ []) }
 {
     Output {
@@ -45,7 +45,7 @@ pub(crate) fn written(alloc: Global, reply: Result<Vec<u8>, Refusal>) -> Result<
     ensures past_words { IfErr result IsPastWords }
 {
     match reply {
-        Ok(out) => Ok(text_of(alloc, out)),
+        Ok(out) => Ok(text_alone(alloc, out)),
         Err(refusal) => refuse_start(alloc, refusal),
     }
 }

@@ -1,7 +1,8 @@
 //! The command that the words are.
-ghost use Rattle.std.specs.Prelude.{IfErr};
+ghost use Rattle.std.specs.Prelude.{IfErr, IfOk, IsTrue};
 ghost use Rattle.gufi_words.specs.declared.command.Command.{Command as SeenCommand};
 ghost use Rattle.gufi_words.specs.WordTexts.{texts};
+ghost use Rattle.gufi_words.specs.CommandWords.{is_delimited};
 ghost use Rattle.gufi_top.specs.Verdict.{command_in};
 ghost use Rattle.gufi_top.specs.Calls.{Gives, IsOfBytes, IsOfWords};
 
@@ -11,9 +12,10 @@ use gufi_words::{Command, WordError, read_words};
 use std::alloc::Global;
 
 /// The command that the words are, whether its work has come or not.
-#[tactic(auto, using(crate::proofs::RunLemmas::commands), unfolding(crate::specs::Verdict::command_in))]
+#[tactic(auto, using(crate::proofs::RunLemmas::commands, gufi_words::proofs::Delimited::words_delimited), unfolding(crate::specs::Verdict::command_in))]
 pub(crate) fn read_command(alloc: Global, words: &[String]) -> Result<Command, Halt>
     ensures command { Gives (λ (command : SeenCommand). command) result (command_in (texts words.now)) }
+    ensures delimited { IfOk result (λ command. IsTrue (is_delimited command)) }
     ensures halt { IfErr result IsOfBytes }
     ensures of_words { IfErr result IsOfWords }
 {

@@ -1,3 +1,4 @@
 pub mod Options
+pub mod Delimited
 pub mod Positionals
 mod Worked

@@ -17,13 +17,13 @@ use Rattle.gufi_words.specs.declared.option.Step.{Step}
 use Rattle.gufi_words.specs.declared.option.Step.TheVariants.{Taken, Dropped, Positional, Refused}
 
 -- what is read from a place on, by what the word there does
-abbrev after_step : CommandName → ℕ → List (List ℕ) → Step → Result Arguments WordError
+abbrev pub after_step : CommandName → ℕ → List (List ℕ) → Step → Result Arguments WordError
 after_step command place rest (Taken next) = read_options command next (place + 1) rest
 after_step command place rest (Dropped options) = Ok (record { options = options; first = place + 1 })
 after_step command place rest (Positional options) = Ok (record { options = options; first = place })
 after_step command place rest Refused = Err (refused_at place)
 
-read_step : (command : CommandName) (reading : Reading) (place : ℕ) (word : List ℕ) (rest : List (List ℕ)) → read_options command reading place (word ∷ rest) ≡ after_step command place rest (step_at command reading word)
+pub read_step : (command : CommandName) (reading : Reading) (place : ℕ) (word : List ℕ) (rest : List (List ℕ)) → read_options command reading place (word ∷ rest) ≡ after_step command place rest (step_at command reading word)
 unfolding read_options
 read_step command reading place word rest = elim (step_at command reading word) as (λ s. elim s as (λ _. Result Arguments WordError) [
   | Taken next ↦ read_options command next (place + 1) rest

@@ -7,7 +7,7 @@ use Rattle.gufi_words.specs.declared.command.ReportWord.TheVariants.{Uids}
 use Rattle.gufi_words.specs.declared.command.Command.TheVariants as commands
 use Rattle.gufi_words.specs.WordOptions.{read_options, step_at, step_free}
 use Rattle.gufi_words.specs.CommandNames.{command_named, option_named}
-use Rattle.gufi_words.specs.CommandWords.{read_words, common_of, walk_of, rollup_of, query_of, agg_of, find_of, ls_of, stats_of, session_of, gen_of}
+use Rattle.gufi_words.specs.CommandWords.{read_words, common_of, walk_of, rollup_of, index2trace_of, info_of, refresh_of, query_of, agg_of, find_of, ls_of, stats_of, session_of, gen_of}
 
 walk_by_number : read_words (codes "walk" ∷ codes "A" ∷ codes "102" ∷ codes "-" ∷ codes "|" ∷ []) ≡ Ok (commands.Walk (codes "A") 102 [] 124)
 unfolding read_words command_named walk_of read_options step_at step_free
@@ -62,6 +62,34 @@ extra_before_no_limit = refl
 limit_without_value : read_words (codes "rollup" ∷ codes "--limit" ∷ []) ≡ Err (Refused 3)
 unfolding read_words command_named option_named rollup_of read_options step_at step_free
 limit_without_value = refl
+
+trace_of_an_index : read_words (codes "index2trace" ∷ codes "--delim=|" ∷ codes "A" ∷ []) ≡ Ok (commands.Index2trace (codes "A") 124)
+unfolding read_words command_named option_named index2trace_of read_options step_at step_free
+trace_of_an_index = refl
+
+no_limit_of_a_trace : read_words (codes "index2trace" ∷ codes "--limit=2" ∷ codes "A" ∷ []) ≡ Err (Refused 2)
+unfolding read_words command_named option_named index2trace_of read_options step_at step_free
+no_limit_of_a_trace = refl
+
+limit_of_info : read_words (codes "info" ∷ codes "--limit" ∷ codes "2" ∷ codes "A" ∷ []) ≡ Ok (commands.Info (codes "A") 30 2)
+unfolding read_words command_named option_named info_of read_options step_at step_free
+limit_of_info = refl
+
+words_of_refresh : read_words (codes "refresh" ∷ codes "--delim=|" ∷ codes "--limit=2" ∷ codes "A" ∷ codes "/p" ∷ codes "B" ∷ []) ≡ Ok (commands.Refresh (codes "A") 124 2 (codes "p" ∷ []) (codes "B"))
+unfolding read_words command_named option_named refresh_of read_options step_at step_free read_path
+words_of_refresh = refl
+
+refresh_without_limit : read_words (codes "refresh" ∷ codes "A" ∷ codes "/p" ∷ codes "B" ∷ []) ≡ Err (Refused 5)
+unfolding read_words command_named refresh_of read_options step_at step_free read_path
+refresh_without_limit = refl
+
+extra_behind_refresh : read_words (codes "refresh" ∷ codes "A" ∷ codes "/p" ∷ codes "B" ∷ codes "C" ∷ []) ≡ Err (Refused 5)
+unfolding read_words command_named refresh_of read_options step_at step_free read_path
+extra_behind_refresh = refl
+
+bad_path_before_the_trace : read_words (codes "refresh" ∷ codes "--limit=2" ∷ codes "A" ∷ codes "/.." ∷ []) ≡ Err (Refused 4)
+unfolding read_words command_named option_named refresh_of read_options step_at step_free read_path
+bad_path_before_the_trace = refl
 
 option_twice : read_words (codes "session" ∷ codes "--now=1" ∷ codes "--now" ∷ codes "x" ∷ codes "s" ∷ []) ≡ Err (Refused 3)
 unfolding read_words command_named option_named session_of read_options step_at step_free

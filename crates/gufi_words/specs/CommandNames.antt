@@ -2,7 +2,7 @@
 use Rattle.std.specs.Prelude.{Bool, true, false, Option, Some, None, if◌then◌else◌, bytes_eq, codes}
 use Rattle.gufi_words.specs.WordValues.{Word}
 use Rattle.gufi_words.specs.declared.name.CommandName.{CommandName}
-use Rattle.gufi_words.specs.declared.name.CommandName.TheVariants.{Walk, Trace2index, Rollup, Query, Agg, Find, Ls, Stat, Stats, Session, Gen}
+use Rattle.gufi_words.specs.declared.name.CommandName.TheVariants.{Walk, Trace2index, Rollup, Index2trace, Info, Refresh, Query, Agg, Find, Ls, Stat, Stats, Session, Gen}
 use Rattle.gufi_words.specs.declared.name.OptionName.{OptionName}
 use Rattle.gufi_words.specs.declared.name.OptionName.TheVariants.{Passwd, Group, Delim, Limit, Workers, Now, Cache, Prefix, Long, All, Summary, Names, Escape, Header, Json}
 
@@ -11,6 +11,9 @@ command_named word =
     if bytes_eq word (codes "walk") then Some Walk
     else if bytes_eq word (codes "trace2index") then Some Trace2index
     else if bytes_eq word (codes "rollup") then Some Rollup
+    else if bytes_eq word (codes "index2trace") then Some Index2trace
+    else if bytes_eq word (codes "info") then Some Info
+    else if bytes_eq word (codes "refresh") then Some Refresh
     else if bytes_eq word (codes "query") then Some Query
     else if bytes_eq word (codes "agg") then Some Agg
     else if bytes_eq word (codes "find") then Some Find
@@ -68,6 +71,14 @@ allows Trace2index option = false
 allows Rollup Delim = true
 allows Rollup Limit = true
 allows Rollup option = false
+allows Index2trace Delim = true
+allows Index2trace option = false
+allows Info Delim = true
+allows Info Limit = true
+allows Info option = false
+allows Refresh Delim = true
+allows Refresh Limit = true
+allows Refresh option = false
 allows Query Escape = true
 allows Query Header = true
 allows Query Json = true

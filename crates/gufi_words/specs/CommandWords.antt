@@ -1,7 +1,7 @@
 -- The words of a command: its name, options, then positionals; or the first word that can't be taken.
-use Rattle.std.specs.Prelude.{ℕ, ◌+◌, List, length, drop, Result, Ok}
+use Rattle.std.specs.Prelude.{ℕ, ◌+◌, Bool, true, List, length, drop, Result, Ok}
 use Rattle.std.specs.Option.{ok_or}
-use Rattle.gufi_base.specs.Delimiters.{default_delimiter}
+use Rattle.gufi_base.specs.Delimiters.{default_delimiter, may_delimit}
 use Rattle.gufi_base.specs.Basics.{◌>>=◌, ◌>>◌}
 use Rattle.gufi_base.specs.Numbers.{read_u32}
 use Rattle.gufi_words.specs.WordNumbers.{number_at, refused_at}
@@ -11,7 +11,7 @@ use Rattle.gufi_words.specs.WordOptions.{delim_or_default, limit_or_default, wor
 use Rattle.gufi_words.specs.WordPositionals.{needed, perhaps, no_more}
 use Rattle.gufi_words.specs.declared.word.WordError.{WordError}
 use Rattle.gufi_words.specs.declared.name.CommandName.{CommandName}
-use Rattle.gufi_words.specs.declared.name.CommandName.TheVariants.{Walk, Trace2index, Rollup, Query, Agg, Find, Ls, Stat, Stats, Session, Gen}
+use Rattle.gufi_words.specs.declared.name.CommandName.TheVariants.{Walk, Trace2index, Rollup, Index2trace, Info, Refresh, Query, Agg, Find, Ls, Stat, Stats, Session, Gen}
 use Rattle.gufi_words.specs.declared.option.Options.{Options}
 use Rattle.gufi_words.specs.declared.option.Arguments.{Arguments}
 use Rattle.gufi_words.specs.declared.command.Common.{Common}
@@ -60,6 +60,30 @@ rollup_of words arguments = do
   no_more words (arguments.first + 1)
   limit ← ok_or arguments.options.limit (refused_at (length words))
   Ok (commands.Rollup index (delim_or_default arguments.options) limit)
+
+-- INDEX
+unfoldable pub index2trace_of : List Word → Arguments → Result Command WordError
+index2trace_of words arguments = do
+  index ← needed read_file words arguments.first
+  no_more words (arguments.first + 1)
+  Ok (commands.Index2trace index (delim_or_default arguments.options))
+
+-- INDEX
+unfoldable pub info_of : List Word → Arguments → Result Command WordError
+info_of words arguments = do
+  index ← needed read_file words arguments.first
+  no_more words (arguments.first + 1)
+  Ok (commands.Info index (delim_or_default arguments.options) (limit_or_default arguments.options))
+
+-- INDEX PATH TRACE, with a limit, without which the words are too few
+unfoldable pub refresh_of : List Word → Arguments → Result Command WordError
+refresh_of words arguments = do
+  index ← needed read_file words arguments.first
+  path ← needed read_start words (arguments.first + 1)
+  trace ← needed read_file words (arguments.first + 2)
+  no_more words (arguments.first + 3)
+  limit ← ok_or arguments.options.limit (refused_at (length words))
+  Ok (commands.Refresh index (delim_or_default arguments.options) limit path trace)
 
 -- INDEX USER START TEXT
 unfoldable pub query_of : List Word → Arguments → Result Command WordError
@@ -123,6 +147,9 @@ abbrev pub command_of : CommandName → List Word → Arguments → Result Comma
 command_of Walk = walk_of
 command_of Trace2index = trace2index_of
 command_of Rollup = rollup_of
+command_of Index2trace = index2trace_of
+command_of Info = info_of
+command_of Refresh = refresh_of
 command_of Query = query_of
 command_of Agg = agg_of
 command_of Find = find_of
@@ -137,3 +164,20 @@ read_words words = do
   name ← needed command_named words 0
   arguments ← read_options name start 1 (drop 1 words)
   command_of name words arguments
+
+-- the byte that is to separate the fields of what is written may do so
+abbrev pub is_delimited : Command → Bool
+is_delimited (commands.Walk trace uid gids delim) = true
+is_delimited (commands.Trace2index trace delim) = true
+is_delimited (commands.Rollup index delim limit) = true
+is_delimited (commands.Index2trace index delim) = may_delimit delim
+is_delimited (commands.Info index delim limit) = true
+is_delimited (commands.Refresh index delim limit path trace) = true
+is_delimited (commands.Query common escape header json text) = true
+is_delimited (commands.Agg common names text) = true
+is_delimited (commands.Find common now prefix words) = true
+is_delimited (commands.Ls common long all) = true
+is_delimited (commands.Stat common) = true
+is_delimited (commands.Stats common names report) = true
+is_delimited (commands.Session passwd group delim workers now cache script) = true
+is_delimited (commands.Gen n delim workers summary) = true

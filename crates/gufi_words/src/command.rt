@@ -48,6 +48,25 @@ pub enum Command {
         delim: u8,
         limit: u64,
     },
+    /// The trace of an index.
+    Index2trace {
+        index: Text,
+        delim: u8,
+    },
+    /// What an index holds.
+    Info {
+        index: Text,
+        delim: u8,
+        limit: u64,
+    },
+    /// The image of an index, of which the directory at the path is replaced by a trace's tree.
+    Refresh {
+        index: Text,
+        delim: u8,
+        limit: u64,
+        path: Path,
+        trace: Text,
+    },
     Query {
         common: Common,
         /// Columns stay columns, whatever bytes a name has.

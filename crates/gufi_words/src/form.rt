@@ -3,7 +3,7 @@
 ghost use Rattle.std.specs.Prelude.{◌≡◌, ◌≤◌, length};
 ghost use Rattle.gufi_base.specs.Basics.{GivesUnless};
 ghost use Rattle.gufi_words.specs.WordTexts.{texts};
-ghost use Rattle.gufi_words.specs.CommandWords.{common_of, walk_of, trace2index_of, rollup_of, query_of, agg_of, find_of, ls_of, stat_of, stats_of, session_of, gen_of, command_of, read_words};
+ghost use Rattle.gufi_words.specs.CommandWords.{common_of, walk_of, trace2index_of, rollup_of, index2trace_of, info_of, refresh_of, query_of, agg_of, find_of, ls_of, stat_of, stats_of, session_of, gen_of, command_of, read_words};
 
 use crate::command::{Command, Common};
 use crate::name::CommandName;
@@ -90,6 +90,56 @@ fn rollup_of(alloc: Global, words: &[String], arguments: Arguments) -> Result<Co
         index,
         delim: arguments.options.delim_or_default(),
         limit,
+    })
+}
+
+#[tactic(auto, unfolding(crate::specs::CommandWords::index2trace_of))]
+fn index2trace_of(
+    alloc: Global,
+    words: &[String],
+    arguments: Arguments,
+) -> Result<Command, WordError>
+    requires { arguments.first ≤ length words.now }
+    ensures { GivesUnless WordError.Memory result (index2trace_of (texts words.now) arguments) }
+{
+    let index = file_at(alloc, words, arguments.first)?;
+    no_more(words, arguments.first + 1)?;
+    Ok(Command::Index2trace {
+        index,
+        delim: arguments.options.delim_or_default(),
+    })
+}
+
+#[tactic(auto, unfolding(crate::specs::CommandWords::info_of))]
+fn info_of(alloc: Global, words: &[String], arguments: Arguments) -> Result<Command, WordError>
+    requires { arguments.first ≤ length words.now }
+    ensures { GivesUnless WordError.Memory result (info_of (texts words.now) arguments) }
+{
+    let index = file_at(alloc, words, arguments.first)?;
+    no_more(words, arguments.first + 1)?;
+    Ok(Command::Info {
+        index,
+        delim: arguments.options.delim_or_default(),
+        limit: arguments.options.limit_or_default(),
+    })
+}
+
+#[tactic(auto, unfolding(crate::specs::CommandWords::refresh_of))]
+fn refresh_of(alloc: Global, words: &[String], arguments: Arguments) -> Result<Command, WordError>
+    requires { arguments.first ≤ length words.now }
+    ensures { GivesUnless WordError.Memory result (refresh_of (texts words.now) arguments) }
+{
+    let index = file_at(alloc, words, arguments.first)?;
+    let path = start_at(alloc, words, arguments.first + 1)?;
+    let trace = file_at(alloc, words, arguments.first + 2)?;
+    no_more(words, arguments.first + 3)?;
+    let limit = arguments.options.limit.ok_or(refused_at(words.len()))?;
+    Ok(Command::Refresh {
+        index,
+        delim: arguments.options.delim_or_default(),
+        limit,
+        path,
+        trace,
     })
 }
 
@@ -238,6 +288,9 @@ fn command_of(
         CommandName::Walk => walk_of(alloc, words, arguments),
         CommandName::Trace2index => trace2index_of(alloc, words, arguments),
         CommandName::Rollup => rollup_of(alloc, words, arguments),
+        CommandName::Index2trace => index2trace_of(alloc, words, arguments),
+        CommandName::Info => info_of(alloc, words, arguments),
+        CommandName::Refresh => refresh_of(alloc, words, arguments),
         CommandName::Query => query_of(alloc, words, arguments),
         CommandName::Agg => agg_of(alloc, words, arguments),
         CommandName::Find => find_of(alloc, words, arguments),

@@ -9,6 +9,9 @@ pub(crate) enum CommandName {
     Walk,
     Trace2index,
     Rollup,
+    Index2trace,
+    Info,
+    Refresh,
     Query,
     Agg,
     Find,
@@ -103,6 +106,9 @@ impl CommandName {
             "walk" => Some(CommandName::Walk),
             "trace2index" => Some(CommandName::Trace2index),
             "rollup" => Some(CommandName::Rollup),
+            "index2trace" => Some(CommandName::Index2trace),
+            "info" => Some(CommandName::Info),
+            "refresh" => Some(CommandName::Refresh),
             "query" => Some(CommandName::Query),
             "agg" => Some(CommandName::Agg),
             "find" => Some(CommandName::Find),
@@ -121,8 +127,12 @@ impl CommandName {
     {
         match self {
             CommandName::Walk => false,
-            CommandName::Trace2index => matches!(option, OptionName::Delim),
-            CommandName::Rollup => matches!(option, OptionName::Delim | OptionName::Limit),
+            CommandName::Trace2index | CommandName::Index2trace => {
+                matches!(option, OptionName::Delim)
+            }
+            CommandName::Rollup | CommandName::Info | CommandName::Refresh => {
+                matches!(option, OptionName::Delim | OptionName::Limit)
+            }
             CommandName::Query => {
                 matches!(
                     option,

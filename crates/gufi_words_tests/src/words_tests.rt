@@ -254,3 +254,46 @@ fn clap_finds_the_same_in_the_words_of_query(rt: HostRuntime) -> Result<(), Fail
     let command = read_words(rt.alloc(), words.as_slice())?;
     assert_query(&rt, words.as_slice(), &command)
 }
+
+fn clap_refresh<'a>(alloc: Global) -> Result<ClapCommand<'a>, AllocError> {
+    let mut refresh = ClapCommand::new(alloc, "refresh");
+    for name in ["delim", "limit"] {
+        refresh = with_option(alloc, refresh, name)?;
+    }
+    for name in ["index", "path", "trace"] {
+        refresh = with_positional(alloc, refresh, name)?;
+    }
+    Ok(refresh)
+}
+
+fn assert_refresh<R: AllocGlobal + Abort>(
+    rt: &R,
+    words: &[String],
+    command: &Command,
+) -> Result<(), Fail> {
+    let Command::Refresh {
+        index,
+        delim,
+        limit,
+        path,
+        trace,
+    } = command
+    else {
+        panic!(rt; "it is another command");
+    };
+    let found = found_by_clap(clap_refresh(rt.alloc())?, words)?;
+    assert!(rt; has_bytes(&found, "delim", &[*delim]));
+    assert!(rt; has_bytes(&found, "path", path.printed()));
+    assert!(rt; has_value(&found, "index", Some(index.as_str())));
+    assert!(rt; has_value(&found, "trace", Some(trace.as_str())));
+    assert!(rt; has_value(&found, "limit", Some("20")));
+    assert_eq!(rt; *limit, 20);
+    Ok(())
+}
+
+#[test]
+fn clap_finds_the_same_in_the_words_of_refresh(rt: HostRuntime) -> Result<(), Fail> {
+    let words = words_of(rt.alloc(), "refresh --limit 20 --delim=| H /p T")?;
+    let command = read_words(rt.alloc(), words.as_slice())?;
+    assert_refresh(&rt, words.as_slice(), &command)
+}
