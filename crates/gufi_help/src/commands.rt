@@ -64,11 +64,11 @@ macro_rules! table {
     ) => {
         $page! {
             ("0" "the whole text was written")
-            ("1" "the start can't be listed")
+            ("1" "the start can't be listed, or the directory to replace isn't there")
             ("2" "a word can't be taken; the name of the command is word 1")
             ("3" "a file couldn't be read")
             ("4" "the text couldn't be written whole")
-            ("5" "a file is damaged")
+            ("5" "a file is damaged, or what it holds can't be written as is asked")
             ("6" "a limit is passed")
             ("7" "there was no memory")
             ("8" "a file isn't there")
