@@ -18,8 +18,11 @@ abbrev pub names_of : Option NamesBehind → List Entry
 names_of None = []
 names_of (Some row) = row.names.now
 
+abbrev pub row_of : List NamesBehind → List ℕ → Option NamesBehind
+row_of rows command = find (λ row. bytes_eq row.command.now command) rows
+
 abbrev pub names_behind : List NamesBehind → List ℕ → List Entry
-names_behind rows command = names_of (find (λ row. bytes_eq row.command.now command) rows)
+names_behind rows command = names_of (row_of rows command)
 
 -- an option takes a value, in its own word or in the next
 abbrev pub takes_value : Option Entry → Bool

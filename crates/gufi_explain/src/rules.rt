@@ -1,7 +1,7 @@
 //! The table of commands, options and rules, and what is found in it.
 ghost use Rattle.std.specs.Prelude.{◌≡◌, ◌++◌, OnOk};
 ghost use Rattle.std.specs.Option.{option_copied};
-ghost use Rattle.gufi_explain.specs.Rules.{entry_of, command_of, names_behind, takes_value, rule_line, listed, value_rule};
+ghost use Rattle.gufi_explain.specs.Rules.{entry_of, command_of, row_of, names_behind, takes_value, rule_line, listed, value_rule};
 
 use crate::shown::put_told;
 use gufi_base::{Memory, put};
@@ -74,11 +74,17 @@ pub(crate) fn command_of(
         .find(|command| command.name.as_bytes() == name)
 }
 
+fn row_of(rows: &'static [NamesBehind], command: &[u8]) -> Option<&'static NamesBehind>
+    ensures { option_copied result ≡ row_of rows.now command.now }
+{
+    rows.iter().find(|row| row.command.as_bytes() == command)
+}
+
 /// The names that may stand behind the words of the command of that name.
 pub(crate) fn names_behind(rows: &'static [NamesBehind], command: &[u8]) -> &'static [Entry]
     ensures { result.now ≡ names_behind rows.now command.now }
 {
-    match rows.iter().find(|row| row.command.as_bytes() == command) {
+    match row_of(rows, command) {
         Some(row) => row.names,
         None => &[],
     }
