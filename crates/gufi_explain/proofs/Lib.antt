@@ -1,2 +1,4 @@
+pub mod Joins
 pub mod Marks
+pub mod Places
 pub mod Words

@@ -33,7 +33,7 @@ explained rules wrapped files words status note file error bytes =
     else if status == 2 then word_told rules wrapped words note
     else if status == 3 then error_told files file error
     else if status == 4 then told (codes "standard output couldn't be written")
-    else if status == 5 then damage_told rules files bytes file note
+    else if status == 5 then damage_told rules files words bytes file note
     else if status == 6 then limit_told rules file note
     else if status == 8 then error_told files file error
     else []

@@ -6,6 +6,7 @@ pub mod Notes
 pub mod Refused
 pub mod Faults
 pub mod Errors
+pub mod Scripts
 pub mod Files
 pub mod Starts
 pub mod Explained

@@ -48,3 +48,25 @@ marked wrapped words place = words_line wrapped words ++ mark_line (length (show
 -- a text, with a mark under an offset
 abbrev pub marked_text : List ℕ → ℕ → List ℕ
 marked_text text offset = told (escaped text) ++ mark_line (length (escaped (take offset text))) 1
+
+-- how many bytes of a line or text are shown
+abbrev pub most_shown : ℕ
+most_shown = 200
+
+-- the first of them
+abbrev pub front_told : List ℕ → List ℕ
+front_told text = told (escaped (take most_shown text))
+
+-- where what is shown with a mark begins: of a longer text a hundred bytes before the mark
+abbrev pub shown_from : List ℕ → ℕ → ℕ
+shown_from text offset = if nat_le (length text) most_shown then 0 else offset - 100
+
+abbrev pub marked_bytes : List ℕ → ℕ → ℕ → List ℕ
+marked_bytes bytes offset width =
+    told (escaped bytes) ++ mark_line (length (escaped (take offset bytes))) (max 1 (length (escaped (take width (drop offset bytes)))))
+
+-- what is shown of a text, with a mark under so many bytes from an offset on
+unfoldable pub marked_part : List ℕ → ℕ → ℕ → List ℕ
+marked_part text offset width =
+    let begin = shown_from text offset in
+    marked_bytes (take most_shown (drop begin text)) (offset - begin) width

@@ -75,7 +75,16 @@ pub fn explained(
         2 => put_word(alloc, &mut text, rules, wrapped, ended.words, ended.note)?,
         3 | 8 => put_error(&mut text, files, ended.file, ended.error)?,
         4 => put_told(&mut text, b"standard output couldn't be written")?,
-        5 => put_damage(&mut text, rules, files, ended.bytes, ended.file, ended.note)?,
+        5 => put_damage(
+            alloc,
+            &mut text,
+            rules,
+            files,
+            ended.words,
+            ended.bytes,
+            ended.file,
+            ended.note,
+        )?,
         6 => put_limit(&mut text, rules, ended.file, ended.note)?,
         _ => {}
     }

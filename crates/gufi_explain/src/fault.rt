@@ -80,6 +80,23 @@ fn name_at(alloc: Global, text: &[u8], offset: usize) -> Result<Vec<u8>, AllocEr
     }
 }
 
+/// Appends the name that is nearest to that at an offset.
+pub(crate) fn put_text_name(
+    alloc: Global,
+    out: &mut Vec<u8>,
+    names: &'static [Entry],
+    text: &[u8],
+    offset: usize,
+) -> Result<(), Memory>
+    ensures { OnOk result (out.new.items ≡ out.old.items ++ text_name_line names.now (name_at text.now offset)) }
+{
+    let name = name_at(alloc, text, offset)?;
+    if name.is_empty() {
+        return Ok(());
+    }
+    put_nearest(alloc, out, names, &name)
+}
+
 // The text with a mark under an offset, and the rule of its fault there.
 fn put_text_at(
     alloc: Global,
@@ -94,11 +111,7 @@ fn put_text_at(
 {
     put_marked_text(alloc, out, text, offset)?;
     put_rule(out, rules.text_kinds, kind)?;
-    let name = name_at(alloc, text, offset)?;
-    if name.is_empty() {
-        return Ok(());
-    }
-    put_nearest(alloc, out, names, &name)
+    put_text_name(alloc, out, names, text, offset)
 }
 
 // What a note tells of an offset of a word.

@@ -2,9 +2,10 @@
 //!
 //! Contracts see the explanation as a text over the table of rules, the words, the status, the note and what is known of a file.
 //! Of a wrapper's words nothing is shown, and of files nothing but where that is asked for.
-//! It stands on `gufi_base` and `gufi_words`; the program's one run stands on it.
+//! It stands on the words of commands, and on the readers of scripts and of their queries; the program's one run stands on it.
 #![tactic(auto)]
 
+mod ask;
 mod error;
 mod explain;
 mod fault;
@@ -14,6 +15,7 @@ mod note;
 mod refused;
 mod role;
 mod rules;
+mod script;
 mod shown;
 mod start;
 mod table;

@@ -153,8 +153,8 @@ fn put_value(out: &mut Vec<u8>, rules: &Rules, option: &Entry) -> Result<(), Mem
     put_value_line(out, rules, option, b" is ")
 }
 
-// A line of a name and its rule, with a text between.
-fn put_pair(out: &mut Vec<u8>, name: &str, text: &[u8], rule: &str) -> Result<(), Memory>
+/// Appends a line of a name and its rule, with a text between.
+pub(crate) fn put_pair(out: &mut Vec<u8>, name: &str, text: &[u8], rule: &str) -> Result<(), Memory>
     ensures { OnOk result (out.new.items ≡ out.old.items ++ told (name.now ++ (text.now ++ rule.now))) }
 {
     put(out, b"  ")?;

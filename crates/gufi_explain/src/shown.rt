@@ -2,7 +2,7 @@
 ghost use Rattle.std.specs.Prelude.{◌≡◌, ◌+◌, ◌-◌, ◌++◌, OnOk, IfOk, length, option_map, replicate, take, drop};
 ghost use Rattle.std.specs.List.{slice_get};
 ghost use Rattle.gufi_words.specs.WordTexts.{texts};
-ghost use Rattle.gufi_explain.specs.Shown.{escaped_byte, escaped, told, spaced, mark_line, width_of, marked_text};
+ghost use Rattle.gufi_explain.specs.Shown.{escaped_byte, escaped, told, spaced, mark_line, width_of, marked_text, front_told, shown_from, marked_bytes, marked_part};
 
 use gufi_base::{Memory, behind, put};
 use std::alloc::Global;
@@ -136,6 +136,63 @@ pub(crate) fn put_marked_text(
     put(out, b"\n")?;
     let before = shown_width(alloc, front(text, offset))?;
     put_mark(out, before, 1)
+}
+
+// How many bytes of a line or text are shown.
+const MOST_SHOWN: usize = 200;
+
+/// Appends the first bytes of a text as a line of an explanation.
+pub(crate) fn put_front(out: &mut Vec<u8>, text: &[u8]) -> Result<(), Memory>
+    ensures { OnOk result (out.new.items ≡ out.old.items ++ front_told text.now) }
+{
+    put(out, b"  ")?;
+    put_escaped(out, front(text, MOST_SHOWN))?;
+    put(out, b"\n")
+}
+
+// Where what is shown of a text with a mark under an offset begins.
+fn shown_from(text: &[u8], offset: usize) -> usize
+    ensures { result ≡ shown_from text.now offset }
+{
+    if text.len() <= MOST_SHOWN {
+        0
+    } else {
+        offset.saturating_sub(100)
+    }
+}
+
+// Appends bytes, with a mark under so many of them from an offset on.
+fn put_marked_bytes(
+    alloc: Global,
+    out: &mut Vec<u8>,
+    bytes: &[u8],
+    offset: usize,
+    width: usize,
+) -> Result<(), Memory>
+    ensures { OnOk result (out.new.items ≡ out.old.items ++ marked_bytes bytes.now offset width) }
+{
+    put(out, b"  ")?;
+    put_escaped(out, bytes)?;
+    put(out, b"\n")?;
+    let before = shown_width(alloc, front(bytes, offset))?;
+    let marks = shown_width(alloc, front(behind(bytes, offset), width))?;
+    put_mark(out, before, marks.max(1))
+}
+
+/// Appends what is shown of a text, with a mark under so many bytes from an offset on.
+#[tactic(auto, unfolding(crate::specs::Shown::marked_part))]
+pub(crate) fn put_marked_part(
+    alloc: Global,
+    out: &mut Vec<u8>,
+    text: &[u8],
+    offset: usize,
+    width: usize,
+) -> Result<(), Memory>
+    ensures { OnOk result (out.new.items ≡ out.old.items ++ marked_part text.now offset width) }
+{
+    let begin = shown_from(text, offset);
+    let bytes = front(behind(text, begin), MOST_SHOWN);
+    put_marked_bytes(alloc, out, bytes, offset.saturating_sub(begin), width)
 }
 
 impl Wrapped {

@@ -57,14 +57,29 @@ const RUNS: [&str; 45] = [
     "walk --inserted=2,1 i 102 -;;2;;gufi: word 2 refused\n",
 ];
 
-// A trace of its root alone; a passwd file; a trace whose second line is damaged.
-const FILES: [(&str, &str); 3] = [
+// A trace of its root alone; a passwd file; a trace whose second line is damaged; a damaged passwd file; scripts, each damaged otherwise.
+const FILES: [(&str, &str); 18] = [
     ("i", "/r|d|1|493|2|0|0|0|0|0|0|0|0|\n"),
     ("p", "ann:x:1:1::/:/\n"),
     (
         "d",
         "/r|d|1|493|2|0|0|0|0|0|0|0|0|\n/r/secret|f|1|x|1|7|7|0|0|0|0|0|0|\n",
     ),
+    ("w", "ann:x:a:1::/:/\n"),
+    ("escape", "publish 1 t%2\n"),
+    ("verb", "# One word.\n  pubish 1 i\n"),
+    ("count", "rollup 1 2\n"),
+    ("number", "publish x i\n"),
+    ("lane", "ask 17 0 / find\n"),
+    ("refresh", "refresh /.. i\n"),
+    ("start", "ask 1 0 /.. find\n"),
+    ("file", "publish 1 %FF\n"),
+    ("form", "ask 1 0 / fnd\n"),
+    ("user", "ask 1 eve / find\n"),
+    ("find", "ask 1 0 / find\t-type d  -size 1x\n"),
+    ("total", "ask 1 0 / total -nmae x\n"),
+    ("named", "ask 1 0 / find -user ann -size\n"),
+    ("select", "ask 1 0 / query SELECT  nope%20FROM rows\n"),
 ];
 
 // Each word that a page lists behind START, or in a script, is taken. The lists are compared with the readers' by docs/check_help.py.
@@ -87,7 +102,7 @@ const LISTED: [&str; 12] = [
 ];
 
 // The words of runs that are explained, in which _ is a blank, as above; and all that standard error gets.
-const EXPLAINED: [[&str; 3]; 25] = [
+const EXPLAINED: [[&str; 3]; 42] = [
     [
         "--explain stat --wrokers=4 i ann /",
         "2",
@@ -215,6 +230,107 @@ const EXPLAINED: [[&str; 3]; 25] = [
         "--inserted=2,3 --explain=files stat --delim=| d 9 /",
         "5",
         "gufi: d line 2 BadNumber 4\n  a field is no decimal number of its size\n  field 4 is the mode: a decimal number below 2^32\n",
+    ],
+    [
+        "--explain=files session escape",
+        "5",
+        "gufi: escape line 1 Escape\n  publish 1 t%2\n             ^\n  two hexadecimal digits stand behind each %\n",
+    ],
+    [
+        "--explain=files session --workers 2 verb",
+        "5",
+        "gufi: verb line 2 Verb\n    pubish 1 i\n    ^^^^^^\n  a line begins with publish, rollup, refresh, ask or barrier\n",
+    ],
+    [
+        "--explain=files session count",
+        "5",
+        "gufi: count line 1 Count\n  rollup 1 2\n  words in the line: 3\n\
+         \x20 the line has too few or too many words for its first\n",
+    ],
+    [
+        "--explain=files session number",
+        "5",
+        "gufi: number line 1 Number\n  publish x i\n          ^\n\
+         \x20 a uid or gid is a number below 2^32; of a script, a limit one below 2^64\n",
+    ],
+    [
+        "--explain=files session --passwd=w number",
+        "5",
+        "gufi: w line 1 Number\n  ann:x:a:1::/:/\n\
+         \x20 a uid or gid is a number below 2^32; of a script, a limit one below 2^64\n",
+    ],
+    [
+        "--explain=files session lane",
+        "5",
+        "gufi: lane line 1 Lane\n  ask 17 0 / find\n      ^^\n  a lane is a number from 1 to 16\n",
+    ],
+    [
+        "--explain=files session refresh",
+        "5",
+        "gufi: refresh line 1 Path\n  refresh /.. i\n          ^^^\n  the path has no component .. and is within the limits\n",
+    ],
+    [
+        "--explain=files session start",
+        "5",
+        "gufi: start line 1 Path\n  ask 1 0 /.. find\n          ^^^\n\
+         \x20 the path has no component .. and is within the limits\n",
+    ],
+    [
+        "--explain=files session file",
+        "5",
+        "gufi: file line 1 File\n  publish 1 %FF\n            ^^^\n  the name of a file is UTF-8\n",
+    ],
+    [
+        "--explain=files session form",
+        "5",
+        "gufi: form line 1 Form\n  ask 1 0 / fnd\n            ^^^\n  the form of an ask is find, total or query\n",
+    ],
+    [
+        "--explain=files session user",
+        "5",
+        "gufi: user line 1 User\n  ask 1 eve / find\n        ^^^\n\
+         \x20 the user of the ask is a name of the passwd file, or UID, or UID:GID,..\n",
+    ],
+    [
+        "--explain=files session find",
+        "5",
+        "gufi: find line 1 Query\n  ask 1 0 / find\\011-type d  -size 1x\n                                   ^^\n\
+         \x20 a number is wanted there, perhaps with + or - before it; behind -size perhaps with c, k, M or G behind it; \
+         behind -perm four octal digits or fewer\n\
+         \x20 the words of the ask are no expression of its form, or no SELECT\n",
+    ],
+    [
+        "--explain=files session total",
+        "5",
+        "gufi: total line 1 Query\n  ask 1 0 / total -nmae x\n                  ^^^^^\n\
+         \x20 a primary is wanted there, as -name, or !, or (\n  nearest: -name\n\
+         \x20 the words of the ask are no expression of its form, or no SELECT\n",
+    ],
+    [
+        "--explain=files session named",
+        "5",
+        "gufi: named line 1 Query\n  ask 1 0 / find -user ann -size\n                       ^^^\n\
+         \x20 a name of the passwd file, or a number, is wanted there\n  names need --passwd\n\
+         \x20 the words of the ask are no expression of its form, or no SELECT\n",
+    ],
+    [
+        "--explain=files session --passwd=p named",
+        "5",
+        "gufi: named line 1 Query\n  ask 1 0 / find -user ann -size\n                       ^^^\n\
+         \x20 a name of the passwd file, or a number, is wanted there\n\
+         \x20 it is that word, or one behind it: the file of --passwd isn't read again\n\
+         \x20 the words of the ask are no expression of its form, or no SELECT\n",
+    ],
+    [
+        "--explain=files session select",
+        "5",
+        "gufi: select line 1 Query\n  ask 1 0 / query SELECT  nope%20FROM rows\n  SELECT nope FROM rows\n         ^\n\
+         \x20 a column is wanted there\n  nearest: name\n  the words of the ask are no expression of its form, or no SELECT\n",
+    ],
+    [
+        "--explain session select",
+        "5",
+        "gufi: select line 1 Query\n  the words of the ask are no expression of its form, or no SELECT\n",
     ],
 ];
 
