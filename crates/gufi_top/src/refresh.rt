@@ -22,6 +22,7 @@ use std::mem::forget;
 
 /// How many directories an index may have, and how many entries.
 const MAX_DIRS: u32 = 262_144;
+
 const MAX_ENTRIES: u32 = 1_048_576;
 
 /// What the command names.
@@ -59,12 +60,7 @@ fn passed_limit(dirs: u64) -> u32
 }
 
 // A directory isn't replaced: of what would be made so many directories were counted.
-fn refuse_refresh<T>(
-    alloc: Global,
-    trace: &str,
-    dirs: u64,
-    fault: RefreshFault,
-) -> Result<T, Halt>
+fn refuse_refresh<T>(alloc: Global, trace: &str, dirs: u64, fault: RefreshFault) -> Result<T, Halt>
     ensures reason { (tree : List Directory) → (fault ≢ RefreshFault.NotThere → dirs ≡ length tree) → fault ≢ RefreshFault.Memory → Gives (λ (x : T). x) result (Err (refresh_reason trace.now tree fault)) }
     ensures memory { fault ≡ RefreshFault.Memory → result ≡ Err Halt.Memory }
     ensures of_bytes { IfErr result IsOfBytes }
