@@ -38,7 +38,7 @@ CALLS = r"""
 2 COMMAND is missing; gufi
 2 nearest: find; gufi fnd lab.index 0 /
 2 nearest: query; gufi Query lab.index 0 / 'SELECT name FROM rows'
-2 nearest: stats; gufi stat5 lab.index 0 / levels
+2 nearest: stats; gufi sttats lab.index 0 / levels
 2 the commands are walk find query agg ls stat stats trace2index rollup index2trace info refresh session gen; gufi search lab.index 0 /
 2 nearest: --workers; gufi find --wrokers=4 lab.index 0 /
 2 nearest: --passwd; gufi find --paswd=lab.passwd lab.index ana /
@@ -110,7 +110,7 @@ CALLS = r"""
 5 a lane is a number from 1 to 16; gufi session --delim='|' --passwd=lab.passwd lanes.session
 """
 
-CALL = re.compile(r"(\d) (.*); ((?:chmod \d+ [a-z.]+; )?gufi.*)")
+CALL = re.compile(r"(\d) (.*?); ((?:chmod \d+ [a-z.]+; )?gufi.*)")
 
 
 def calls():
