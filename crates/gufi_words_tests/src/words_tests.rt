@@ -31,7 +31,9 @@ fn unseen(alloc: Global, command: &Command) -> Result<String, AllocError> {
 
 fn unseen_of(alloc: Global, words: &[String]) -> Result<String, Fail> {
     let command = read_words(alloc, words)?;
-    Ok(unseen(alloc, &command)?)
+    let text = unseen(alloc, &command);
+    drop(command);
+    Ok(text?)
 }
 
 #[test]
@@ -189,7 +191,9 @@ fn assert_ls<R: AllocGlobal + Abort>(
 fn clap_finds_the_same_in_the_words_of_ls(rt: HostRuntime) -> Result<(), Fail> {
     let words = words_of(rt.alloc(), "ls --delim=| --passwd=P --group=G -l H ana /")?;
     let command = read_words(rt.alloc(), words.as_slice())?;
-    assert_ls(&rt, words.as_slice(), &command)
+    let outcome = assert_ls(&rt, words.as_slice(), &command);
+    drop(command);
+    outcome
 }
 
 fn assert_find<R: AllocGlobal + Abort>(
@@ -213,7 +217,9 @@ fn clap_finds_the_same_in_the_words_of_find(rt: HostRuntime) -> Result<(), Fail>
     let line = "find --delim=| --passwd=P --prefix /data/site2 --group=G H ana /";
     let words = words_of(rt.alloc(), line)?;
     let command = read_words(rt.alloc(), words.as_slice())?;
-    assert_find(&rt, words.as_slice(), &command)
+    let outcome = assert_find(&rt, words.as_slice(), &command);
+    drop(command);
+    outcome
 }
 
 fn assert_forms<R: Abort>(rt: &R, found: &ArgMatches<'_>, escape: bool, header: bool, json: bool) {
@@ -252,7 +258,9 @@ fn clap_finds_the_same_in_the_words_of_query(rt: HostRuntime) -> Result<(), Fail
     let line = "query --delim=| --header --passwd=P --group=G --escape H ana / SELECT";
     let words = words_of(rt.alloc(), line)?;
     let command = read_words(rt.alloc(), words.as_slice())?;
-    assert_query(&rt, words.as_slice(), &command)
+    let outcome = assert_query(&rt, words.as_slice(), &command);
+    drop(command);
+    outcome
 }
 
 fn clap_refresh<'a>(alloc: Global) -> Result<ClapCommand<'a>, AllocError> {
@@ -295,5 +303,7 @@ fn assert_refresh<R: AllocGlobal + Abort>(
 fn clap_finds_the_same_in_the_words_of_refresh(rt: HostRuntime) -> Result<(), Fail> {
     let words = words_of(rt.alloc(), "refresh --limit 20 --delim=| H /p T")?;
     let command = read_words(rt.alloc(), words.as_slice())?;
-    assert_refresh(&rt, words.as_slice(), &command)
+    let outcome = assert_refresh(&rt, words.as_slice(), &command);
+    drop(command);
+    outcome
 }
