@@ -226,9 +226,10 @@ fn tell<G: Gate>(gate: &G, id: DirId, first: DirId) {
     }
 }
 
-/// Adds the rows of the pieces at and below a directory as they are shown, those that meet the question so. It takes the directories in path order, but none that
-/// lies too deep for a row that meets the query, and none below a directory that is ruled out.
-pub(crate) fn add_rows_below<T: Tester, Y: Yield, S: Skip, G: Gate, L: Ledger>(
+/// Adds the rows of the pieces at and below a directory as they are shown, those that meet the question so, where depths are counted
+/// from `above` components on. It takes the directories in path order, but none that lies too deep for a row that meets the query, and
+/// none below a directory that is ruled out. Cost: as `answer_alone`.
+pub fn add_rows_below<T: Tester, Y: Yield, S: Skip, G: Gate, L: Ledger>(
     alloc: Global,
     snap: &Snapshot,
     who: &Principal,

@@ -19,12 +19,13 @@ mod task;
 mod total;
 mod walkers;
 
-pub use descent::answer_alone;
+pub use descent::{add_rows_below, answer_alone};
 pub use laws::{answers_are_private, folds_hold_the_answer, walks_are_private};
 pub use refusal::Refusal;
 pub use reply::{
     PathLines, answer_lines, answer_list, answer_paths, answer_rows, answer_sum, put_refusal,
 };
+pub use shown::Shown;
 pub use start::found_start;
 pub use total::{answer_total, total_from};
 pub use walkers::{Walkers, answer};

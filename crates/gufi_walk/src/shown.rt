@@ -8,8 +8,8 @@ use gufi_base::{RowRef, View};
 
 /// Rows as they are shown to a principal: the names of a file's extended attributes only where the file itself may be read.
 #[derive(Clone, Copy)]
-pub(crate) struct Shown<'a> {
-    pub(crate) who: &'a Principal,
+pub struct Shown<'a> {
+    pub who: &'a Principal,
 }
 
 /// Whether a file may be read.
