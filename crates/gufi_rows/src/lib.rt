@@ -8,6 +8,7 @@
 mod kept;
 mod kept_paths;
 mod lines;
+mod ordered;
 mod path_lines;
 mod path_list;
 mod path_order;
@@ -21,7 +22,8 @@ mod run_places;
 mod spot;
 mod stretch;
 
+pub use ordered::OrderedRows;
 pub use path_list::PathList;
 pub use row_line::RowLine;
 pub use row_list::RowList;
-pub use row_parts::{depth_of, parts_of};
+pub use row_parts::{depth_of, parts_of, row_cmp};

@@ -2,9 +2,11 @@
 
 ghost use Rattle.std.specs.Prelude.{◌≡◌, length};
 ghost use Rattle.gufi_base.specs.declared.record.Row.{Row as SeenRow};
-ghost use Rattle.gufi_base.specs.Rows.{Stands, StandsForSome};
+ghost use Rattle.gufi_base.specs.Rows.{Stands, StandsForSome, row_cmp};
 
+use crate::spot::{Parts, parts_cmp};
 use gufi_base::{PathRef, Row, RowRef};
+use std::cmp::Ordering;
 
 /// A row in borrowed parts. Nothing is copied.
 pub fn parts_of(row: &Row) -> RowRef<'_>
@@ -32,4 +34,19 @@ pub fn depth_of(row: RowRef<'_>) -> usize
         return 0;
     }
     PathRef::of_text(row.stem).depth() + 1
+}
+
+/// The order of two rows, by their paths. Nothing is copied.
+pub fn row_cmp(a: RowRef<'_>, b: RowRef<'_>) -> Ordering
+    ensures { (one other : SeenRow) → Stands a.entry one → Stands b.entry other → result ≡ row_cmp one other }
+{
+    let left = Parts {
+        stem: a.stem,
+        base: a.base,
+    };
+    let right = Parts {
+        stem: b.stem,
+        base: b.base,
+    };
+    parts_cmp(left, right)
 }
