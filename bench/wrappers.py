@@ -50,6 +50,12 @@ QUESTIONS = [
     ),
     (["find", "/", "-name", "*e*", "-type", "f", "-mtime", "+1"], "/mine/key\n", "/barred/secret\n"),
     (["find", "/", "-name", "\u00e9*", "-o", "-name", "a.txt"], "/open/a.txt\n", "/open/a.txt\n"),
+    (["du", "/", "0"], "21\t56\t3\t4\t/\n", "16\t40\t2\t3\t/\n"),
+    (
+        ["du", "/", "1", "-size", "-6c"],
+        "5\t8\t1\t0\t/\n0\t0\t0\t0\t/mine\n5\t8\t1\t0\t/open\n0\t0\t0\t0\t/shared\n",
+        "5\t8\t1\t0\t/\n0\t0\t0\t0\t/barred\n5\t8\t1\t0\t/open\n",
+    ),
     (["ls", "/"], "mine\nopen\nshared\n", "barred\nopen\n"),
     (["query", "/", "SELECT size, name FROM entries"], "9\tkey\n5\ta.txt\n7\tplan\n", "11\tsecret\n5\ta.txt\n"),
     (["agg", "/", "SELECT type, COUNT(*) FROM rows GROUP BY type"], "d\t4\nf\t3\n", "d\t3\nf\t2\n"),

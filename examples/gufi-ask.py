@@ -45,6 +45,7 @@ ENVIRONMENT = {"GLIBC_TUNABLES": "glibc.malloc.hugetlb=1:glibc.malloc.top_pad=67
 
 HELP = {
     "find": ("START [EXPRESSION]", "the paths of what you can list from START on, as -name '*.h5' -size +2048 chooses"),
+    "du": ("START DEPTH [EXPRESSION]", "what each directory takes up that you can list at most DEPTH below START: bytes, blocks, files, directories"),
     "ls": ("[-l] [-A] START", "what lies right below START"),
     "stat": ("START", "the record of START, and the sum of what you can list below it"),
     "query": ("START SELECT", "columns of the rows: 'SELECT size, path FROM entries'"),
@@ -161,7 +162,7 @@ def explained(words):
 def words_of_site(command, user):
     """The words that the site puts before START."""
     words = ["--passwd=%s/passwd" % SITE, "--group=%s/group" % SITE]
-    if command == "find":
+    if command in ("find", "du"):
         words.append("--now=%d" % time.time())
     return words + [SITE + "/index", user]
 
