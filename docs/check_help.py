@@ -21,7 +21,7 @@ KINDS = {
     "WORD_KINDS": [("gufi_find/Faults", "find_kind_text")],
     "TEXT_KINDS": [("gufi_select/Faults", "select_kind_text"), ("gufi_agg/Faults", "agg_kind_text")],
     "LINE_KINDS": [
-        ("gufi_trace/TraceText", "trace_kind_text"),
+        ("gufi_line/LineText", "trace_kind_text"),
         ("gufi_trace/TraceText", "failure_text"),
         ("gufi_users/Users", "user_kind_text"),
         ("gufi_script/ScriptText", "script_kind_text"),

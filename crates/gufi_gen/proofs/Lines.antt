@@ -6,11 +6,11 @@ use Rattle.std.proofs.lemmas.List.{append-nil}
 use Rattle.std.proofs.lemmas.List.Concat.{flat_map-append}
 use Rattle.std.proofs.lemmas.List.Folds.{flat_map-map}
 use Rattle.gufi_base.specs.Paths.{Components, slashed_text}
-use Rattle.gufi_trace.specs.TraceRows.{row_line}
+use Rattle.gufi_line.specs.TraceRows.{row_line}
 use Rattle.gufi_tree.specs.declared.tree.Entry.{Entry}
 use Rattle.gufi_tree.specs.Tree.{Directory, dir_row, entry_row, own_rows}
-use Rattle.gufi_trace.specs.Writing.{rec_text}
-use Rattle.gufi_trace.proofs.Writes.{line_text}
+use Rattle.gufi_line.specs.LineParts.{rec_text}
+use Rattle.gufi_line.proofs.Writes.{line_text}
 use Rattle.gufi_gen.specs.Generated.{path_within, directory_path, directory_meta, entry_meta, linkless, made_file, made_dir, made_root, gen_text}
 use Rattle.gufi_gen.specs.Lines.{made_path_text, directory_line, entry_line, entry_lines, stanza_text}
 

@@ -24,7 +24,8 @@ use Rattle.gufi_tree.specs.Tree.{Directory, dir_row, entry_row, own_rows, entry_
 use Rattle.gufi_tree.proofs.Built.{Has, path_eq-Decides, directories_are}
 use Rattle.gufi_tree.proofs.Faultless.{none_from_faultless}
 use Rattle.gufi_tree.proofs.Shaped.{faultless_from_shape}
-use Rattle.gufi_trace.specs.TraceText.{root_of, trace_means, of_tree}
+use Rattle.gufi_line.specs.LineText.{root_of}
+use Rattle.gufi_trace.specs.TraceText.{trace_means, of_tree}
 use Rattle.gufi_trace.proofs.RowsBack.{texts_of, taken, lines_back, rows-taken, tree_placed}
 use Rattle.gufi_trace.proofs.TraceBack.{root_back, text_lines_back}
 use Rattle.gufi_trace.proofs.TreeBack.{All_weaken}

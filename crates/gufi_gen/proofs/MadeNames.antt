@@ -16,9 +16,9 @@ use Rattle.gufi_base.specs.Basics.{last_of}
 use Rattle.gufi_base.proofs.Parts.{last_of_push}
 use Rattle.gufi_gen.specs.Generated.{path_within, directory_path, made_root}
 use Rattle.gufi_gen.proofs.Lines.{fuel_same}
-use Rattle.gufi_trace.proofs.FieldsBack.{is_plain}
-use Rattle.gufi_trace.proofs.NumbersBack.{decimal_plain}
-use Rattle.gufi_trace.proofs.PathsRead.{size, slashed_size}
+use Rattle.gufi_line.proofs.FieldsBack.{is_plain}
+use Rattle.gufi_line.proofs.NumbersBack.{decimal_plain}
+use Rattle.gufi_line.proofs.PathsRead.{size, slashed_size}
 
 -- ---- names
 

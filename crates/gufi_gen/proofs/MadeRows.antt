@@ -15,11 +15,11 @@ use Rattle.gufi_base.proofs.Parts.{has_no}
 use Rattle.gufi_tree.specs.Tree.{Directory, dir_row, entry_row, own_rows}
 use Rattle.gufi_tree.proofs.Built.{Has, All-from_Has}
 use Rattle.gufi_tree.proofs.RowHomes.{Has-flat_map}
-use Rattle.gufi_trace.specs.TraceWriting.{holds_byte}
-use Rattle.gufi_trace.proofs.FieldsBack.{is_plain, plain_field}
-use Rattle.gufi_trace.proofs.LinesBack.{IsWritable}
+use Rattle.gufi_line.specs.TraceRows.{holds_byte}
+use Rattle.gufi_line.proofs.FieldsBack.{is_plain, plain_field}
+use Rattle.gufi_line.proofs.LinesBack.{IsWritable}
 use Rattle.gufi_trace.proofs.ListTexts.{no_list_holds}
-use Rattle.gufi_trace.proofs.MetaRead.{fits_below}
+use Rattle.gufi_line.proofs.MetaRead.{fits_below}
 use Rattle.gufi_gen.specs.Generated.{directory_path, directory_mode, made_meta, made_file, made_dir, made_dirs, made_root}
 use Rattle.gufi_gen.proofs.MadeNames.{is_made_name, entry_name, directory_named, path_depth, not_too_long}
 use Rattle.gufi_gen.proofs.MadeTrees.{range_found}

@@ -2,7 +2,7 @@
 use Rattle.std.specs.Prelude.{ℕ, List, ◌++◌}
 use Rattle.std.specs.List.{flat_map, range_with_len}
 use Rattle.gufi_base.specs.Paths.{path_text}
-use Rattle.gufi_trace.specs.TraceRows.{row_line}
+use Rattle.gufi_line.specs.TraceRows.{row_line}
 use Rattle.gufi_tree.specs.Tree.{dir_row, entry_row, own_rows}
 use Rattle.gufi_gen.specs.Generated.{directory_path, made_file, made_dir, made_root}
 

@@ -10,9 +10,10 @@ use Rattle.gufi_tree.specs.Build.{tree_of}
 use Rattle.gufi_tree.specs.Graft.{graft}
 use Rattle.gufi_tree.specs.Resolve.{resolve}
 use Rattle.gufi_walk.specs.Answer.{answer}
-use Rattle.gufi_trace.specs.AclField.{acl_field}
-use Rattle.gufi_trace.specs.AttributeField.{xattrs_of}
-use Rattle.gufi_trace.specs.TraceText.{trace_means, trace_lines, read_line, read_lines, read_meta, read_line_path}
+use Rattle.gufi_line.specs.AclField.{acl_field}
+use Rattle.gufi_line.specs.AttributeField.{xattrs_of}
+use Rattle.gufi_line.specs.LineText.{read_line, read_lines, read_meta, read_line_path}
+use Rattle.gufi_trace.specs.TraceText.{trace_means, trace_lines}
 use Rattle.gufi_sums.specs.Total.{total}
 use Rattle.gufi_users.specs.Users.{principal_of}
 use Rattle.gufi_find.specs.Reading.{read_find, read_find_words, wants_primary}

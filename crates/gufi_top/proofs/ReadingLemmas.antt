@@ -13,9 +13,9 @@ use Rattle.gufi_tree.specs.Build.{tree_of}
 use Rattle.gufi_tree.specs.declared.fault.TreeFault.{TreeFault}
 use Rattle.gufi_trace.specs.TraceText.{trace_lines, trace_means, of_line, of_tree}
 use Rattle.gufi_trace.specs.Reader.{Reading, HasRead}
-use Rattle.gufi_trace.specs.declared.fault.TraceFault.{TraceFault}
-use Rattle.gufi_trace.specs.declared.fault.TraceError.{TraceError}
-use Rattle.gufi_trace.specs.declared.fault.TraceError.TheVariants as errors
+use Rattle.gufi_line.specs.declared.fault.TraceFault.{TraceFault}
+use Rattle.gufi_line.specs.declared.fault.TraceError.{TraceError}
+use Rattle.gufi_line.specs.declared.fault.TraceError.TheVariants as errors
 use Rattle.gufi_top.specs.declared.halt.Halt.{Halt}
 use Rattle.gufi_top.specs.declared.halt.Halt.TheVariants as halts
 use Rattle.gufi_top.specs.Reasons.{Reason, held, not_found, past_limit, file_in, trace_in, tree_within, trace_reason}

@@ -19,9 +19,9 @@ use Rattle.gufi_image.specs.declared.fault.ImageError.TheVariants as image_error
 use Rattle.gufi_walk.specs.declared.refusal.Refusal.{Refusal}
 use Rattle.gufi_walk.specs.declared.refusal.Refusal.TheVariants as refusals
 use Rattle.gufi_walk.specs.Refusals.{refusal_text}
-use Rattle.gufi_trace.specs.declared.fault.TraceKind.{TraceKind}
-use Rattle.gufi_trace.specs.declared.fault.TraceKind.TheVariants as kinds
-use Rattle.gufi_trace.specs.declared.fault.TraceError.TheVariants as errors
+use Rattle.gufi_line.specs.declared.fault.TraceKind.{TraceKind}
+use Rattle.gufi_line.specs.declared.fault.TraceKind.TheVariants as kinds
+use Rattle.gufi_line.specs.declared.fault.TraceError.TheVariants as errors
 use Rattle.gufi_trace.specs.declared.writer.WriteTraceFault.{WriteTraceFault}
 use Rattle.gufi_trace.specs.declared.writer.WriteTraceFault.TheVariants as unwritten
 use Rattle.gufi_users.specs.declared.fault.UserKind.{UserKind}

@@ -2,7 +2,8 @@
 ghost use Rattle.std.specs.Prelude.{◌≡◌, IfOk};
 ghost use Rattle.gufi_top.specs.Reasons.{word_refused, word_fault, text_fault, not_found, past_limit, file_refused, line_refused, offset_refused, reason, start_refused};
 ghost use Rattle.gufi_top.specs.Ends.{read_fault_note, write_fault_note, memory_note};
-ghost use Rattle.gufi_trace.specs.TraceText.{fault_text, failure_text, of_tree};
+ghost use Rattle.gufi_line.specs.LineText.{fault_text};
+ghost use Rattle.gufi_trace.specs.TraceText.{failure_text, of_tree};
 ghost use Rattle.std.specs.Prelude.{◌++◌, codes, decimal};
 ghost use Rattle.gufi_users.specs.Users.{user_kind_text};
 ghost use Rattle.gufi_script.specs.ScriptText.{script_kind_text};

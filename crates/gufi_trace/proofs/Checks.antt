@@ -9,15 +9,15 @@ use Rattle.gufi_base.specs.declared.record.Rec.{Rec}
 use Rattle.gufi_base.specs.declared.record.Row.{Row}
 use Rattle.gufi_base.specs.Delimiters.{may_delimit}
 use Rattle.gufi_base.specs.Paths.{Components, slashed_text, is_too_long}
-use Rattle.gufi_trace.specs.TraceRows.{row_line}
+use Rattle.gufi_line.specs.TraceRows.{row_line}
 use Rattle.gufi_base.specs.PathTexts.{closed_names, kept_text}
 use Rattle.gufi_base.proofs.Texts.{slashed_text-closed}
 use Rattle.gufi_tree.specs.declared.tree.Entry.{Entry}
 use Rattle.gufi_tree.specs.Tree.{Directory, own_rows, entry_row}
 use Rattle.gufi_tree.specs.Places.{path_at}
-use Rattle.gufi_trace.specs.TraceWriting.{holds_byte, rec_holds, row_holds}
+use Rattle.gufi_line.specs.TraceRows.{holds_byte, rec_holds, row_holds}
 use Rattle.gufi_trace.specs.Writing.{directory, own_holds, own_too_long, own_text, is_over}
-use Rattle.gufi_trace.proofs.FieldsBack.{plain_apart}
+use Rattle.gufi_line.proofs.FieldsBack.{plain_apart}
 
 no_slash : (delim : ℕ) → may_delimit delim ≡ true → eqb 47 delim ≡ false
 no_slash delim may = not-true _ (plain_apart delim 47 may refl)

@@ -1,26 +1,10 @@
 pub mod Streams
-pub mod LineIs
-pub mod Counts
 pub mod Feeds
-pub mod FieldsBack
-pub mod AttributeNames
-pub mod AclFields
 pub mod ListTexts
-pub mod NumbersBack
-pub mod PathsBack
-pub mod LinesBack
 pub mod RowsBack
 pub mod TreeBack
 pub mod TraceBack
-pub mod FirstParts
-pub mod NearEnds
-pub mod Writes
 pub mod Checks
-pub mod SoundLines
 pub mod LineTrees
-pub mod PathsRead
-pub mod MetaRead
-pub mod LinesRead
 pub mod TreesRead
 mod Worked
-pub mod Pairs

@@ -9,8 +9,8 @@ use Rattle.gufi_base.specs.Delimiters.{may_delimit}
 use Rattle.gufi_access.specs.declared.acl.Entry.{Entry}
 use Rattle.gufi_access.specs.Acl.{entries}
 use Rattle.gufi_acl.specs.AclTexts.{mark, is_named, tag_word, id_text, bit_text, bits_text, entry_text, acl_text}
-use Rattle.gufi_trace.specs.TraceWriting.{holds_byte}
-use Rattle.gufi_trace.proofs.FieldsBack.{is_plain, plain_apart}
+use Rattle.gufi_line.specs.TraceRows.{holds_byte}
+use Rattle.gufi_line.proofs.FieldsBack.{is_plain, plain_apart}
 
 -- ---- plain bytes
 

@@ -12,7 +12,7 @@ use Rattle.gufi_base.specs.Limits.{max_dirs, max_entries}
 use Rattle.gufi_base.specs.Basics.{is_empty}
 use Rattle.gufi_base.specs.Kinds.{is_dir}
 use Rattle.gufi_base.specs.Paths.{Components, is_child_of}
-use Rattle.gufi_trace.specs.TraceRows.{row_fields}
+use Rattle.gufi_line.specs.TraceRows.{row_fields}
 use Rattle.gufi_base.specs.Delimiters.{may_delimit}
 use Rattle.gufi_tree.specs.declared.tree.Entry.{Entry}
 use Rattle.gufi_tree.specs.Tree.{Directory, dir_row, entry_row, own_rows, entry_count}
@@ -21,11 +21,11 @@ use Rattle.gufi_tree.specs.Tree.{is_kinded}
 use Rattle.gufi_tree.specs.Gathered.{row_of_line}
 use Rattle.gufi_tree.proofs.Built.{path_eq-refl, parent_path-child}
 use Rattle.gufi_tree.specs.StanzaLines.{stanza_holds}
-use Rattle.gufi_trace.specs.TraceText.{read_lines}
-use Rattle.gufi_trace.specs.Lines.{dirs_of, entries_of, place_fault}
-use Rattle.gufi_trace.proofs.Counts.{count_yes, count_no}
-use Rattle.gufi_trace.proofs.FieldsBack.{joined_line}
-use Rattle.gufi_trace.proofs.LinesBack.{IsWritable, are_fields, line_at, line_back}
+use Rattle.gufi_line.specs.LineText.{read_lines}
+use Rattle.gufi_line.specs.Lines.{dirs_of, entries_of, place_fault}
+use Rattle.gufi_line.proofs.Counts.{count_yes, count_no}
+use Rattle.gufi_line.proofs.FieldsBack.{joined_line}
+use Rattle.gufi_line.proofs.LinesBack.{IsWritable, are_fields, line_at, line_back}
 
 abbrev pub texts_of : Components → ℕ → List Row → List (List ℕ)
 texts_of root delim rows = map (λ row. join_with_byte delim (row_fields root row)) rows

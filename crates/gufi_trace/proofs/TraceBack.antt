@@ -15,16 +15,18 @@ use Rattle.gufi_base.specs.Limits.{max_dirs, max_entries}
 use Rattle.gufi_base.specs.Names.{is_name}
 use Rattle.gufi_base.specs.Paths.{Components, is_too_long, path_text, read_path}
 use Rattle.gufi_base.specs.Rows.{fits_types, are_bytes, row_fits_types}
-use Rattle.gufi_trace.specs.TraceRows.{row_fields, row_line}
+use Rattle.gufi_line.specs.TraceRows.{row_fields, row_line}
 use Rattle.gufi_base.specs.Delimiters.{may_delimit}
 use Rattle.gufi_base.proofs.Parts.{closed_by, front_closed, last_closed}
 use Rattle.gufi_tree.specs.Tree.{Directory, own_rows, dir_row, entry_row, is_tree, entry_count, is_well_formed, is_directory_of}
 use Rattle.gufi_trace.specs.declared.writer.WriteTraceFault.TheVariants.{DelimUsed, TooLong}
-use Rattle.gufi_trace.specs.TraceText.{whole_lines, cut_line, root_of, read_lines, lines_so_far, trace_lines, trace_means, of_tree}
-use Rattle.gufi_trace.specs.TraceWriting.{trace_text, holds_byte, rec_holds, row_holds, TraceReadsBack}
-use Rattle.gufi_trace.proofs.FieldsBack.{split_joined}
-use Rattle.gufi_trace.proofs.PathsBack.{read_path-path_text}
-use Rattle.gufi_trace.proofs.LinesBack.{IsWritable, are_fields}
+use Rattle.gufi_line.specs.LineText.{root_of, read_lines}
+use Rattle.gufi_trace.specs.TraceText.{whole_lines, cut_line, lines_so_far, trace_lines, trace_means, of_tree}
+use Rattle.gufi_line.specs.TraceRows.{holds_byte, rec_holds, row_holds}
+use Rattle.gufi_trace.specs.TraceWriting.{trace_text, TraceReadsBack}
+use Rattle.gufi_line.proofs.FieldsBack.{split_joined}
+use Rattle.gufi_line.proofs.PathsBack.{read_path-path_text}
+use Rattle.gufi_line.proofs.LinesBack.{IsWritable, are_fields}
 use Rattle.gufi_trace.proofs.RowsBack.{texts_of, taken, lines_back, rows-taken, texts_open, tree_placed}
 use Rattle.gufi_trace.proofs.TreeBack.{TreeParts, tree_parts, directory_parts, list_all_weaken, all_own, all_entries, kinds_of, root_first, tree_back}
 

@@ -25,14 +25,15 @@ use Rattle.gufi_tree.proofs.Built.{Has}
 use Rattle.gufi_tree.proofs.Faultless.{IsFaultless}
 use Rattle.gufi_tree.proofs.Numbered.{both_counted}
 use Rattle.gufi_tree.proofs.Placed.{list_all-IsPermutation, list_all-Has, list_all-from_Has}
-use Rattle.gufi_trace.specs.Lines.{dirs_of}
-use Rattle.gufi_trace.specs.TraceText.{whole_lines, cut_line, lines_so_far, trace_lines, trace_means, fault_at, of_line, of_tree}
-use Rattle.gufi_trace.specs.declared.fault.TraceKind.TheVariants.{CutLine}
+use Rattle.gufi_line.specs.Lines.{dirs_of}
+use Rattle.gufi_line.specs.LineText.{fault_at}
+use Rattle.gufi_trace.specs.TraceText.{whole_lines, cut_line, lines_so_far, trace_lines, trace_means, of_line, of_tree}
+use Rattle.gufi_line.specs.declared.fault.TraceKind.TheVariants.{CutLine}
 use Rattle.gufi_trace.specs.TraceTrees.{trace_root, is_close, IsTraceTree, TracesMeanSoundTrees}
 use Rattle.gufi_trace.proofs.LineTrees.{rows_of_lines, lines_shape, tree_given}
-use Rattle.gufi_trace.proofs.LinesRead.{IsLineText, IsReadLine, AreReadLines, lines_read}
-use Rattle.gufi_trace.proofs.MetaRead.{bound, passed, map_err_ok}
-use Rattle.gufi_trace.proofs.PathsRead.{split_all, split_apart, front_all}
+use Rattle.gufi_line.proofs.LinesRead.{IsLineText, IsReadLine, AreReadLines, lines_read}
+use Rattle.gufi_line.proofs.MetaRead.{bound, passed, map_err_ok}
+use Rattle.gufi_line.proofs.PathsRead.{split_all, split_apart, front_all}
 
 -- ---- rows of a directory
 

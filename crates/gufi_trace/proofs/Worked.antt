@@ -10,9 +10,10 @@ use Rattle.gufi_tree.specs.Tree.{Directory}
 use Rattle.gufi_tree.specs.Build.{tree_of}
 use Rattle.gufi_access.specs.Acl.{entries, ascends_after, count_of}
 use Rattle.gufi_acl.specs.AclTexts.{read_bits, entry_in, all_entries, acl_of_text, acl_text}
-use Rattle.gufi_trace.specs.AttributeField.{xattrs_of}
-use Rattle.gufi_trace.specs.AclField.{acl_field}
-use Rattle.gufi_trace.specs.TraceText.{trace_means, trace_lines, read_line, read_lines, read_meta, read_line_path, TraceFailure, failure_text}
+use Rattle.gufi_line.specs.AttributeField.{xattrs_of}
+use Rattle.gufi_line.specs.AclField.{acl_field}
+use Rattle.gufi_line.specs.LineText.{read_line, read_lines, read_meta, read_line_path}
+use Rattle.gufi_trace.specs.TraceText.{trace_means, trace_lines, TraceFailure, failure_text}
 use Rattle.gufi_trace.specs.TraceWriting.{trace_text}
 
 abbrev a1 : List ℕ

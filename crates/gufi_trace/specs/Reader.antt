@@ -5,10 +5,10 @@ use Rattle.std.specs.List.{flat_map, list_all}
 use Rattle.gufi_base.specs.declared.record.Line.{Line}
 use Rattle.gufi_base.specs.Basics.{◌>>◌}
 use Rattle.gufi_base.specs.Paths.{Components}
-use Rattle.gufi_trace.specs.declared.fault.TraceError.{TraceError}
-use Rattle.gufi_trace.specs.declared.fault.TraceError.TheVariants.{Fault, Memory}
+use Rattle.gufi_line.specs.declared.fault.TraceError.{TraceError}
+use Rattle.gufi_line.specs.declared.fault.TraceError.TheVariants.{Fault, Memory}
 use Rattle.gufi_trace.specs.TraceText.{whole_lines, cut_line, lines_so_far}
-use Rattle.gufi_trace.specs.Progress.{lines_of, lines_from}
+use Rattle.gufi_line.specs.Progress.{lines_of, lines_from}
 
 -- A reader: its delimiter, the root, the lines so far with the newest first, what has come of the next line, and the error that it answered.
 pub record Reading : Type 0 where

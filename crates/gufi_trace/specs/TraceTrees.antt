@@ -5,7 +5,8 @@ use Rattle.gufi_base.specs.Limits.{max_components, max_path}
 use Rattle.gufi_base.specs.Paths.{Components, path_text, is_too_long}
 use Rattle.gufi_base.specs.Rows.{are_bytes}
 use Rattle.gufi_tree.specs.Tree.{Directory, own_rows, is_program_tree, is_too_large}
-use Rattle.gufi_trace.specs.TraceText.{whole_lines, root_of, trace_means}
+use Rattle.gufi_line.specs.LineText.{root_of}
+use Rattle.gufi_trace.specs.TraceText.{whole_lines, trace_means}
 
 -- The root's path, before it is taken away, is the first line's.
 abbrev pub trace_root : ℕ → List ℕ → Components

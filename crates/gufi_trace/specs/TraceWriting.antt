@@ -1,11 +1,8 @@
 -- The trace of a tree: one stanza for each directory, in path order.
-use Rattle.std.specs.Prelude.{◌≡◌, IsTrue, not, ℕ, Bool, ◌==◌, ◌||◌, List, ◌++◌, Result, Ok}
+use Rattle.std.specs.Prelude.{◌≡◌, IsTrue, not, ℕ, ◌||◌, List, ◌++◌, Result, Ok}
 use Rattle.std.specs.List.{flat_map, list_any, list_all}
 use Rattle.gufi_base.specs.Paths.{Components, is_too_long}
-use Rattle.gufi_acl.specs.AclTexts.{acl_text}
-use Rattle.gufi_trace.specs.TraceRows.{row_line}
-use Rattle.gufi_base.specs.declared.record.Rec.{Rec}
-use Rattle.gufi_base.specs.declared.record.Row.{Row}
+use Rattle.gufi_line.specs.TraceRows.{row_line, holds_byte, row_holds}
 use Rattle.gufi_base.specs.Basics.{◌>>◌, refuse}
 use Rattle.gufi_tree.specs.Tree.{is_too_large}
 use Rattle.gufi_base.specs.Delimiters.{may_delimit}
@@ -17,16 +14,6 @@ use Rattle.gufi_trace.specs.TraceText.{trace_means}
 
 abbrev pub trace_text : List Directory → Components → ℕ → List ℕ
 trace_text tree root delim = flat_map (λ dir. flat_map (row_line delim root) (own_rows dir)) tree
-
--- a name of the tree or the root, a link, the names of extended attributes, or the text of an access control list hold the delimiter
-abbrev pub holds_byte : ℕ → List ℕ → Bool
-holds_byte delim bytes = list_any (λ b. b == delim) bytes
-
-abbrev pub rec_holds : ℕ → Rec → Bool
-rec_holds delim rec = holds_byte delim rec.link || holds_byte delim rec.xattrs || holds_byte delim (acl_text rec.acl)
-
-abbrev pub row_holds : ℕ → Row → Bool
-row_holds delim row = list_any (holds_byte delim) row.path || rec_holds delim row.rec
 
 abbrev pub written_trace : List Directory → Components → ℕ → Result (List ℕ) WriteTraceFault
 written_trace tree root delim =

@@ -4,14 +4,11 @@ ghost use Rattle.std.specs.Prelude.{◌≡◌, ◌≢◌, ◌≤◌, ◌+◌, �
 ghost use Rattle.gufi_base.specs.Limits.{max_dirs, max_entries};
 ghost use Rattle.gufi_base.specs.Basics.{GivesUnless};
 ghost use Rattle.gufi_trace.specs.TraceText.{whole_lines, cut_line, trace_lines};
-ghost use Rattle.gufi_trace.specs.Progress.{lines_from, Stops};
+ghost use Rattle.gufi_line.specs.Progress.{lines_from, Stops};
 ghost use Rattle.gufi_trace.specs.Reader.{HasRead, answer_of, answer_so_far, GivesLines, stream_of, is_open};
 
-use crate::digits::DigitPairs;
-use crate::fault::{TraceError, TraceFault, TraceKind};
-use crate::fields::Parts;
-use crate::lines::Progress;
 use gufi_base::{Bytes, Line, Memory};
+use gufi_line::{DigitPairs, Parts, Progress, TraceError, TraceFault, TraceKind};
 use gufi_tree::Stanzas;
 use std::alloc::Global;
 use std::marker::Model;

@@ -5,16 +5,20 @@ ghost use Rattle.std.specs.List.{flat_map, list_any};
 ghost use Rattle.gufi_base.specs.declared.record.Rec.{Rec};
 ghost use Rattle.gufi_base.specs.Delimiters.{may_delimit};
 ghost use Rattle.gufi_base.specs.Paths.{is_too_long};
+ghost use Rattle.gufi_acl.specs.AclTexts.{acl_text};
 ghost use Rattle.gufi_tree.specs.Tree.{own_rows};
-ghost use Rattle.gufi_trace.specs.TraceWriting.{holds_byte, rec_holds as of_rec, row_holds, trace_text, written_trace, TraceReadsBack};
+ghost use Rattle.gufi_line.specs.TraceRows.{holds_byte, rec_holds as of_rec, row_holds};
+ghost use Rattle.gufi_trace.specs.TraceWriting.{trace_text, written_trace, TraceReadsBack};
 ghost use Rattle.gufi_trace.specs.Writing.{directory, own_holds, own_too_long, own_text, is_over as passes_limits, GivesText};
 
-use crate::acls::list_holds;
-use crate::row::{put_directory, put_entry};
 use gufi_base::{Memory, Path, PathRef, RecRef};
+use gufi_line::{put_directory, put_entry};
 use gufi_tree::{DirId, EntriesRef, EntryRef, Tree};
 use std::alloc::Global;
 use thiserror::Error;
+
+/// So many bytes of a list are one entry.
+const ENTRY: usize = 6;
 
 /// Why a tree isn't written as a trace.
 #[derive(Clone, Copy, Debug, PartialEq, Eq, Error)]
@@ -38,6 +42,17 @@ fn path_holds(path: &PathRef<'_>, delim: u8) -> bool
     ensures { result ≡ list_any (holds_byte delim) path.now }
 {
     holds(path.text(), delim)
+}
+
+/// Whether the text of a list holds the delimiter: of its bytes only the colons in an entry and the commas between entries may delimit.
+fn list_holds(acl: &[u8], delim: u8) -> bool
+    requires { IsTrue (may_delimit delim) }
+    ensures { result ≡ holds_byte delim (acl_text acl.now) }
+{
+    if delim == b':' {
+        return acl.len() >= ENTRY;
+    }
+    delim == b',' && acl.len() >= 2 * ENTRY
 }
 
 /// Whether the link, the names of extended attributes or the text of the list hold the delimiter.

@@ -2,7 +2,7 @@ use Rattle.std.proofs.Common.{List, ℕ, ◌∷◌, [], ◌++◌, arith, ap, sym
 use Rattle.std.specs.Prelude.{decimal, ◌-◌, ◌/◌}
 use Rattle.gufi_base.specs.Paths.{slashed_text}
 use Rattle.gufi_gen.specs.Generated.{directory_path}
-use Rattle.gufi_trace.proofs.Writes.{append_ok}
+use Rattle.gufi_line.proofs.Writes.{append_ok}
 use Rattle.gufi_gen.proofs.Lines.{names_text}
 use Rattle.gufi_gen.proofs.trace.+put_names.Goals as goal
 

@@ -2,8 +2,8 @@ use Rattle.std.proofs.Common.{List, ℕ, ◌∷◌, [], ◌++◌, ap, sym, ◌�
 use Rattle.std.specs.Prelude.{decimal}
 use Rattle.gufi_gen.specs.Generated.{entry_meta, linkless}
 use Rattle.gufi_gen.specs.Lines.{made_path_text}
-use Rattle.gufi_trace.specs.Writing.{rec_text}
-use Rattle.gufi_trace.proofs.Writes.{append_ok}
+use Rattle.gufi_line.specs.LineParts.{rec_text}
+use Rattle.gufi_line.proofs.Writes.{append_ok}
 use Rattle.gufi_gen.proofs.Lines.{entry_parts}
 use Rattle.gufi_gen.proofs.trace.put_entry.Goals as goal
 

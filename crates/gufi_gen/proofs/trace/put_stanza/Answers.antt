@@ -1,4 +1,4 @@
-use Rattle.gufi_trace.proofs.Writes.{append_ok}
+use Rattle.gufi_line.proofs.Writes.{append_ok}
 use Rattle.gufi_gen.proofs.Lines.{stanza_parts}
 use Rattle.gufi_gen.proofs.trace.put_stanza.Goals as goal
 

@@ -1,6 +1,6 @@
 use Rattle.std.proofs.Common.{[], ◌++◌, List, ℕ, sym, ap, ◌∙◌}
 use Rattle.gufi_base.specs.Basics.{all_but_last, last_of}
-use Rattle.gufi_trace.specs.Progress.{lines_from}
+use Rattle.gufi_line.specs.Progress.{lines_from}
 use Rattle.gufi_base.proofs.Cuts.{split_behind, split_some}
 use Rattle.gufi_trace.proofs.reader.take_piece.Goals as goal
 

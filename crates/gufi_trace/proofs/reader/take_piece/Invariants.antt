@@ -1,7 +1,7 @@
 use Rattle.std.proofs.Common.{◌≡◌, ℕ, List, ◌++◌, ◌∷◌, length}
 use Rattle.gufi_base.specs.Basics.{all_but_last, last_of}
 use Rattle.gufi_trace.specs.TraceText.{whole_lines, cut_line}
-use Rattle.gufi_trace.specs.Progress.{lines_from}
+use Rattle.gufi_line.specs.Progress.{lines_from}
 use Rattle.gufi_trace.proofs.reader.take_piece.Given as goal
 
 abbrev pub invariant-lines : goal.invariant-lines

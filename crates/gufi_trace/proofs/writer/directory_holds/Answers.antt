@@ -1,6 +1,6 @@
 use Rattle.std.proofs.Common.{sym, ◌∙◌}
 use Rattle.std.specs.List.{list_any}
-use Rattle.gufi_trace.specs.TraceWriting.{holds_byte, rec_holds}
+use Rattle.gufi_line.specs.TraceRows.{holds_byte, rec_holds}
 use Rattle.gufi_trace.specs.Writing.{directory, own_holds}
 use Rattle.gufi_trace.proofs.Checks.{own_holds-parts, entry_holds, third_is}
 use Rattle.gufi_trace.proofs.writer.directory_holds.Goals as goal

@@ -1,5 +1,5 @@
 use Rattle.std.proofs.Common.{sym, ◌∙◌, arith}
-use Rattle.gufi_trace.specs.TraceWriting.{row_holds}
+use Rattle.gufi_line.specs.TraceRows.{row_holds}
 use Rattle.gufi_trace.specs.Writing.{own_holds}
 use Rattle.gufi_trace.proofs.Checks.{any_rows, any_here, none_more, none_all}
 use Rattle.gufi_trace.proofs.writer.is_delim_used.Goals as goal

@@ -1,5 +1,5 @@
 use Rattle.std.proofs.Common.{ap, ◌∙◌}
-use Rattle.gufi_trace.specs.TraceWriting.{holds_byte}
+use Rattle.gufi_line.specs.TraceRows.{holds_byte}
 use Rattle.gufi_trace.proofs.Checks.{text_holds}
 use Rattle.gufi_trace.proofs.writer.path_holds.Goals as goal
 

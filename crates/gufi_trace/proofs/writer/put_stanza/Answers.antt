@@ -1,5 +1,5 @@
 use Rattle.std.proofs.Common.{List, ℕ, ◌++◌, ◌∷◌, [], take, sym, ap, ◌∙◌, arith, append_assoc}
-use Rattle.gufi_trace.specs.TraceRows.{row_line}
+use Rattle.gufi_line.specs.TraceRows.{row_line}
 use Rattle.gufi_trace.specs.Writing.{directory, own_text}
 use Rattle.gufi_trace.proofs.Checks.{own_text_more}
 use Rattle.gufi_trace.proofs.writer.put_stanza.Goals as goal

@@ -1,0 +1,17 @@
+pub mod LineIs
+pub mod Counts
+pub mod LinesTaken
+pub mod FieldsBack
+pub mod AttributeNames
+pub mod AclFields
+pub mod NumbersBack
+pub mod PathsBack
+pub mod LinesBack
+pub mod FirstParts
+pub mod NearEnds
+pub mod Writes
+pub mod SoundLines
+pub mod PathsRead
+pub mod MetaRead
+pub mod LinesRead
+pub mod Pairs

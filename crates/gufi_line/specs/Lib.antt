@@ -1,0 +1,12 @@
+pub mod LineText
+pub mod AttributeField
+pub mod AclField
+pub mod TraceRows
+pub mod Fields
+pub mod Lines
+pub mod Few
+pub mod Taken
+pub mod Reading
+pub mod Progress
+pub mod LineParts
+pub mod Pairs

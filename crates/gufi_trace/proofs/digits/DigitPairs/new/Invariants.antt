@@ -1,5 +1,0 @@
-use Rattle.gufi_trace.specs.Pairs.{AreFirstPairs}
-use Rattle.gufi_trace.proofs.digits.DigitPairs.new.Given as goal
-
-abbrev pub invariant-loop-place : goal.invariant-loop-place
-invariant-loop-place l = AreFirstPairs l.separator l.values.items l.place

@@ -1,5 +1,0 @@
-use Rattle.gufi_trace.proofs.FirstParts.{first_place}
-use Rattle.gufi_trace.proofs.fields.end_of.Goals as goal
-
-pub returns : goal.returns
-returns c = first_place c.args.delim c.args.text.now c.memchr.result c.memchr.ensures

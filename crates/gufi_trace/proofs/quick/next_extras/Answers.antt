@@ -1,6 +1,0 @@
-use Rattle.std.proofs.Common.{[], refl}
-use Rattle.gufi_trace.proofs.AttributeNames.{unmarked}
-use Rattle.gufi_trace.proofs.quick.next_extras.Goals as goal
-
-pub returns-in_default-clause-names : goal.returns-in_default-clause-names
-returns-in_default-clause-names c = let e = c.in_default.ensures in rw e.0 (unmarked [] refl)

@@ -1,6 +1,0 @@
-use Rattle.std.proofs.Common.{◌++◌, ◌∷◌, []}
-use Rattle.gufi_trace.proofs.Writes.{append_ok, line_text}
-use Rattle.gufi_trace.proofs.row.put_entry.Goals as goal
-
-pub returns : goal.returns
-returns c = append_ok c.put_record.result _ c.put_entry_path.new.out.items _ _ _ _ c.in_ok-put_entry_path.ensures c.put_record.ensures (line_text c.args.delim c.args.root.now (record { path = c.args.path.now ++ c.args.name.now ∷ []; rec = c.args.rec.now }))
