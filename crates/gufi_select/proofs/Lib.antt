@@ -1,7 +1,6 @@
 mod Worked
 pub mod WordLemmas
 pub mod PartLemmas
-pub mod PatternLemmas
 pub mod RowLemmas
 pub mod HintLemmas
 pub mod DepthLemmas

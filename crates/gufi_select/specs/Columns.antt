@@ -12,7 +12,7 @@ use Rattle.gufi_base.specs.Paths.{Components, path_text, base_name}
 use Rattle.gufi_base.specs.Kinds.{kind_letter, is_dir}
 use Rattle.gufi_base.specs.Rows.{depth_below}
 use Rattle.gufi_formula.specs.Formulas.{Formula, holds}
-use Rattle.gufi_select.specs.Patterns.{is_pattern_found}
+use Rattle.gufi_pattern.specs.Patterns.{is_pattern_found}
 use Rattle.gufi_select.specs.declared.column.Column.{Column}
 use Rattle.gufi_select.specs.declared.column.Column.TheVariants.{Path, Name, Kind, Inode, Mode, Nlink, Uid, Gid, Size, Blksize, Blocks, Atime, Mtime, Ctime, Linkname, Xattrs, Level}
 use Rattle.gufi_select.specs.declared.column.Table.{Table}

@@ -1,4 +1,3 @@
-pub mod Patterns
 pub mod Columns
 pub mod Depths
 pub mod Parts

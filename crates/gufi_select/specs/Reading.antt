@@ -26,7 +26,7 @@ use Rattle.gufi_select.specs.declared.word.Word.TheVariants.{OfGrammar, OfColumn
 use Rattle.gufi_select.specs.Columns.{is_text_column, Select}
 use Rattle.gufi_select.specs.Levels.{negated, nested, closed}
 use Rattle.gufi_select.specs.Names.{starred}
-use Rattle.gufi_select.specs.Patterns.{is_bad_pattern}
+use Rattle.gufi_pattern.specs.Patterns.{is_bad_pattern}
 use Rattle.gufi_select.specs.Tokens.{PlacedToken, tokens}
 
 -- what is wanted next, what was read, what stands open, and the REGEXP with its pattern's offset

@@ -1,8 +1,8 @@
 //! The SELECT profile: a query that chooses rows by a condition and prints columns of them.
 //!
 //! Contracts see a SELECT as its columns, its table, its REGEXP and a formula of conditions. It stands on rows, lists of
+//! rows, formulas and patterns; what prints queries stands on it.
 //! A tester borrows what it tests by: the borrow stands in what `question()` makes, as no associated type can have a lifetime.
-//! rows, formulas and the `regex` crate; what prints queries stands on it.
 #![tactic(auto)]
 
 mod column;
@@ -12,7 +12,6 @@ mod fault;
 mod hint;
 mod laws;
 mod operator;
-mod pattern;
 mod place;
 mod projection;
 mod reading;

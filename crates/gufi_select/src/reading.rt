@@ -6,13 +6,13 @@ ghost use Rattle.gufi_select.specs.States.{state_kept};
 ghost use Rattle.gufi_select.specs.TokenFaults.{Gives, Tells, fault_of};
 
 use crate::fault::{SelectError, SelectKind, TokenFault};
-use crate::pattern::{Pattern, PatternFault};
 use crate::place::Place;
 use crate::regexp::Regexp;
 use crate::select::Select;
 use crate::state::{Sought, State};
 use crate::token::{Token, front_token, is_blank};
 use gufi_base::{behind, capped_u32, split_first};
+use gufi_pattern::{Pattern, PatternFault};
 use std::alloc::Global;
 
 /// The fault of the token at an offset.

@@ -4,8 +4,8 @@ ghost use Rattle.gufi_select.specs.Columns.{regexp_holds};
 ghost use Rattle.gufi_select.specs.Parts.{seen_parts};
 
 use crate::column::Column;
-use crate::pattern::{Pattern, Search};
 use gufi_base::{Memory, RowRef};
+use gufi_pattern::{Pattern, Search};
 use std::alloc::{AllocError, Global};
 use std::marker::Model;
 

@@ -1,5 +1,5 @@
-use Rattle.gufi_select.proofs.PatternLemmas.{bad_of_no_utf8, bad_of_refuses, good_of_reads}
-use Rattle.gufi_select.proofs.pattern.Pattern.of.Goals as goal
+use Rattle.gufi_pattern.proofs.PatternLemmas.{bad_of_no_utf8, bad_of_refuses, good_of_reads}
+use Rattle.gufi_pattern.proofs.pattern.Pattern.of.Goals as goal
 
 -- no UTF-8
 pub returns-in_default-clause-bad : goal.returns-in_default-clause-bad

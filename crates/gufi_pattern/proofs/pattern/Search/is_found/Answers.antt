@@ -1,5 +1,5 @@
-use Rattle.gufi_select.proofs.PatternLemmas.{found_of_reads}
-use Rattle.gufi_select.proofs.pattern.Search.is_found.Goals as goal
+use Rattle.gufi_pattern.proofs.PatternLemmas.{found_of_reads}
+use Rattle.gufi_pattern.proofs.pattern.Search.is_found.Goals as goal
 
 pub returns-clause-found : goal.returns-clause-found
 returns-clause-found c =

@@ -1,6 +1,6 @@
 //! Patterns of REGEXP.
 ghost use Rattle.std.specs.Prelude.{◌≡◌, true, false, IfOk, IfErr};
-ghost use Rattle.gufi_select.specs.Patterns.{is_bad_pattern, is_pattern_found};
+ghost use Rattle.gufi_pattern.specs.Patterns.{is_bad_pattern, is_pattern_found};
 
 use gufi_base::Memory;
 use regex::Error;
@@ -10,7 +10,7 @@ use std::marker::Model;
 
 /// Why no pattern was built.
 #[derive(Clone, Copy)]
-pub(crate) enum PatternFault {
+pub enum PatternFault {
     /// It is no UTF-8, has no reading, or is nested too deep.
     Bad,
     /// Memory was wanted, or the program of the pattern would be too large.
@@ -19,14 +19,14 @@ pub(crate) enum PatternFault {
 
 /// A pattern that was read. Contracts see it as its text.
 #[derive(Drop)]
-pub(crate) struct Pattern {
+pub struct Pattern {
     regex: Regex,
 }
 
 impl Model for Pattern {
     ghost use Rattle.std.specs.Prelude.{◌≡◌, List, ℕ};
     ghost use Rattle.regex.specs.Bytes.{regex_source, regex_config, IsReadFromSource};
-    ghost use Rattle.gufi_select.specs.Patterns.{bytes_config};
+    ghost use Rattle.gufi_pattern.specs.Patterns.{bytes_config};
 
     ghost Value = { List ℕ };
 
@@ -37,7 +37,7 @@ impl Model for Pattern {
 
 impl Pattern {
     /// Reads a pattern by the syntax of the `regex` crate over bytes.
-    pub(crate) fn of(alloc: Global, pattern: &[u8]) -> Result<Pattern, PatternFault>
+    pub fn of(alloc: Global, pattern: &[u8]) -> Result<Pattern, PatternFault>
         ensures built { IfOk result (λ p. p ≡ pattern.now) }
         ensures good { IfOk result (λ _. is_bad_pattern pattern.now ≡ false) }
         ensures bad { IfErr result (λ e. e ≡ PatternFault.Bad → is_bad_pattern pattern.now ≡ true) }
@@ -53,7 +53,7 @@ impl Pattern {
     }
 
     /// A search for it.
-    pub(crate) fn search(&self, alloc: Global) -> Result<Search<'_>, Memory>
+    pub fn search(&self, alloc: Global) -> Result<Search<'_>, Memory>
         ensures { IfOk result (λ s. s ≡ self.now) }
     {
         let matcher = self.regex.matcher(alloc)?;
@@ -66,7 +66,7 @@ impl Pattern {
 
 /// A search for a pattern, kept for text after text. Contracts see it as the pattern's text.
 #[derive(Drop)]
-pub(crate) struct Search<'p> {
+pub struct Search<'p> {
     regex: &'p Regex,
     matcher: Matcher<'p>,
 }
@@ -74,7 +74,7 @@ pub(crate) struct Search<'p> {
 impl<'p> Model for Search<'p> {
     ghost use Rattle.std.specs.Prelude.{◌≡◌, List, ℕ};
     ghost use Rattle.regex.specs.Bytes.{regex_source, regex_config, regex_pattern, matcher_pattern, IsReadFromSource};
-    ghost use Rattle.gufi_select.specs.Patterns.{bytes_config};
+    ghost use Rattle.gufi_pattern.specs.Patterns.{bytes_config};
 
     ghost Value = { List ℕ };
 
@@ -86,7 +86,7 @@ impl<'p> Model for Search<'p> {
 
 impl<'p> Search<'p> {
     /// Whether the pattern is found in the text.
-    pub(crate) fn is_found(&mut self, text: &[u8]) -> bool
+    pub fn is_found(&mut self, text: &[u8]) -> bool
         ensures found { result ≡ is_pattern_found self.old text.now }
         ensures same { self.new ≡ self.old }
     {

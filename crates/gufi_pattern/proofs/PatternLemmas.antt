@@ -11,7 +11,7 @@ use Rattle.regex_syntax.specs.Grammar.{Names, group_count}
 use Rattle.regex_syntax.specs.Brackets.{Nested}
 use Rattle.regex.specs.Patterns.{Re, find, SameCaptures, Reads, Refuses}
 use Rattle.regex.proofs.ForCallers.{is_match_alike}
-use Rattle.gufi_select.specs.Patterns.{bytes_config, reading, is_deep, is_bad_pattern, found_by, is_pattern_found}
+use Rattle.gufi_pattern.specs.Patterns.{bytes_config, reading, is_deep, is_bad_pattern, found_by, is_pattern_found}
 
 abbrev Reading : Type 0
 Reading = Option (Nested Re × Names)

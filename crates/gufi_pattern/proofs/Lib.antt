@@ -1,0 +1,4 @@
+pub mod PatternLemmas
+pub mod Sharing
+pub mod Sending
+pub mod Searching
