@@ -137,8 +137,8 @@ names_of_agg : read_words (codes "agg" ∷ codes "--names" ∷ codes "E" ∷ cod
 unfolding read_words command_named option_named agg_of common_of read_options step_at step_free read_path
 names_of_agg = refl
 
-words_of_du : read_words (codes "du" ∷ codes "--now=9" ∷ codes "E" ∷ codes "102" ∷ codes "/p" ∷ codes "2" ∷ codes "-size" ∷ codes "1" ∷ [])
-    ≡ Ok (commands.Du (record { passwd = None; group = None; delim = 30; limit = 0; workers = 1; index = codes "E"; user = codes "102"; user_at = 4; start = codes "p" ∷ [] }) (Some 9) 2 (codes "-size" ∷ codes "1" ∷ []))
+words_of_du : read_words (codes "du" ∷ codes "--limit=3" ∷ codes "E" ∷ codes "102" ∷ codes "/p" ∷ codes "2" ∷ codes "-size" ∷ codes "1" ∷ [])
+    ≡ Ok (commands.Du (record { passwd = None; group = None; delim = 30; limit = 3; workers = 1; index = codes "E"; user = codes "102"; user_at = 4; start = codes "p" ∷ [] }) None 2 (codes "-size" ∷ codes "1" ∷ []))
 unfolding read_words command_named option_named du_of common_of read_options step_at step_free read_path
 words_of_du = refl
 
