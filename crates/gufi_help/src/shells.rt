@@ -1,7 +1,7 @@
 //! The completions of the three shells, of the table of commands.
 //!
 //! In each, one function tells the words of the table: the commands, the options of a command, the same with their values, and what stands
-//! behind START. Another one looks how many words stand before the one that is completed: DEPTH is none of those behind START.
+//! behind START, or behind DEPTH. Another one looks how many words stand before the one that is completed.
 
 macro_rules! bash {
     (
