@@ -1,6 +1,7 @@
 //! Pages and runs over one file, and sinks in memory: the status, how the text begins, and the note.
-use gufi_help::{Channel, WatchedShelf, own_pages, run, without_words};
+use gufi_help::{Channel, WatchedShelf, run, without_words};
 use gufi_io::{MemShelf, MemSink, NoGate, names_differ};
+use gufi_pages::own_pages;
 use std::alloc::{AllocError, Global};
 use std::process::Abort;
 use std::sync::Wait;
