@@ -6,8 +6,9 @@
 #![tactic(auto)]
 
 use core::thread::Anything;
-use gufi_help::{Channel, Watched, WatchedShelf, own_pages, run, without_words};
+use gufi_help::{Channel, Watched, WatchedShelf, run, without_words};
 use gufi_io::{FileShelf, NoGate, Shelf, Sink, StdSink};
+use gufi_pages::own_pages;
 use std::alloc::Global;
 use std::io::ErrorKind;
 use std::process::ExitCode;

@@ -37,6 +37,8 @@ pub(crate) enum Command<'a> {
         from: usize,
         to: usize,
     },
+    Head(usize),
+    Wordless,
     Run(&'a str),
 }
 
@@ -125,6 +127,8 @@ pub(crate) fn read_command(line: &str) -> Result<Command<'_>, Fault> {
         "reads" => fail(Call::Read, words),
         "writes" => fail(Call::Write, words),
         "notes" => fail(Call::Note, words),
+        "head" => Ok(Command::Head(place(words)?)),
+        "wordless" => Ok(Command::Wordless),
         "run" => Ok(Command::Run(words)),
         _ => Err(Fault::Command),
     }

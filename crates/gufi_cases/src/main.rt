@@ -1,4 +1,4 @@
-//! Runs of the top call over files in memory, as data: `args` names the files of cases, and `stdout` has what each run gives.
+//! Runs of the program over files in memory, as data: `args` names the files of cases, and `stdout` has what each run gives.
 //!
 //! `# TITLE` begins a case, without files; `-- REMARK` says nothing. `file NAME COUNT` is a file of the lines of bytes below, each
 //! COUNT times (once), and `more COUNT` puts further ones behind them. `each NAME` makes each run anew for every line below, as the whole file.
@@ -6,8 +6,10 @@
 //! `\#` is which of the COUNT copies this is, from 1, and what stands between `\(` and `\)` stands there as often as that number says.
 //! `pieces READ WRITE` is the most that is read and written at a time: 65536 and 5 bytes where it is left out.
 //! For the next run alone, `byte NAME PLACE VALUE` changes a byte. `cut NAME FROM TO` makes it anew for each such count of first bytes,
-//! and `opens`, `reads`, `writes` and `notes`, with `FROM TO`, for each call of that number, which fails.
+//! and `opens`, `reads`, `writes` and `notes`, with `FROM TO`, for each call of that number, which fails. `head N` tells the first N bytes
+//! of its text alone.
 //! `run WORDS` tells the words, the status, the numbers, the note behind `!`, and the text. A word in `"` may hold blanks.
+//! `wordless` is a run for whose words there is no memory.
 #![tactic(auto)]
 
 mod bytes;
@@ -19,7 +21,7 @@ mod sweep;
 
 use crate::command::{Command, read_command};
 use crate::fault::Fault;
-use crate::run::put_runs;
+use crate::run::{put_runs, put_wordless};
 use crate::setting::Setting;
 use anyhow::{Result, bail};
 use std::io::Write;
@@ -50,6 +52,8 @@ fn obey<R: AllocGlobal + Threads + Wait + Sync>(
         Command::Byte { name, place, value } => setting.put_byte(name, place, value)?,
         Command::Cut { name, from, to } => setting.put_cut(name, from, to)?,
         Command::Fail { call, from, to } => setting.put_fault(call, from, to),
+        Command::Head(count) => setting.put_head(count),
+        Command::Wordless => put_wordless(alloc, setting, text)?,
         Command::Run(words) => {
             put_runs(rt, setting, words, text)?;
             setting.forget(alloc);

@@ -3,8 +3,9 @@ use crate::bytes::put_lines;
 use crate::fault::Fault;
 use crate::setting::Setting;
 use crate::sweep::{Call, Kind};
-use gufi_io::NoGate;
-use gufi_top::{Outcome, gufi_run};
+use gufi_help::{Channel, run, without_words};
+use gufi_io::{MemSink, NoGate};
+use gufi_pages::own_pages;
 use std::alloc::{AllocError, Global};
 use std::sync::Wait;
 use std::thread::Threads;
@@ -42,17 +43,29 @@ fn read_words(alloc: Global, line: &str) -> Result<Vec<String>, Fault> {
 }
 
 // A line of the status and of the numbers, the note, and the text.
-fn tell(alloc: Global, outcome: &Outcome, note: &[u8], text: &[u8]) -> Result<Vec<u8>, Fault> {
-    let status = outcome.status;
+fn tell(
+    alloc: Global,
+    status: u8,
+    numbers: &[u64],
+    note: &[u8],
+    text: &[u8],
+) -> Result<Vec<u8>, Fault> {
     let mut told = Vec::new(alloc);
     told.extend_from_slice(format!(in alloc; "status {status}")?.as_bytes())?;
-    for number in outcome.numbers.iter() {
+    for number in numbers {
         told.extend_from_slice(format!(in alloc; " at {number}")?.as_bytes())?;
     }
     told.push(b'\n')?;
     put_lines(alloc, &mut told, "! ", note)?;
     put_lines(alloc, &mut told, "  ", text)?;
     Ok(told)
+}
+
+fn taken(channel: &Channel<MemSink>) -> &[u8] {
+    match channel {
+        Channel::To(sink) => sink.taken(),
+        Channel::Held(text) => &text.bytes,
+    }
 }
 
 fn run_at<R: AllocGlobal + Threads + Wait + Sync>(
@@ -65,8 +78,12 @@ fn run_at<R: AllocGlobal + Threads + Wait + Sync>(
     let mut out = setting.sink_at(alloc, Call::Write, at)?;
     let mut notes = setting.sink_at(alloc, Call::Note, at)?;
     let mut shelf = setting.shelf_at(alloc, at)?;
-    let outcome = gufi_run(rt, alloc, words, &mut shelf, &mut out, &mut notes, &NoGate);
-    tell(alloc, &outcome, notes.taken(), out.taken())
+    let pages = own_pages();
+    let outcome = run(
+        rt, alloc, &pages, words, &mut shelf, &mut out, &mut notes, &NoGate,
+    );
+    let text = setting.head_of(taken(&out));
+    tell(alloc, outcome.status, &outcome.numbers, taken(&notes), text)
 }
 
 fn put_told(all: &mut Vec<Alike>, at: usize, told: Vec<u8>) -> Result<(), Fault> {
@@ -115,5 +132,19 @@ pub(crate) fn put_runs<R: AllocGlobal + Threads + Wait + Sync>(
         put_told(&mut all, at, run_at(rt, setting, &words, at)?)?;
     }
     put_alike(alloc, sweep.kind, &all, text)?;
+    Ok(())
+}
+
+/// Puts what a run comes to for whose words there is no memory.
+pub(crate) fn put_wordless(
+    alloc: Global,
+    setting: &Setting,
+    text: &mut Vec<u8>,
+) -> Result<(), Fault> {
+    let mut notes = setting.sink_at(alloc, Call::Note, 1)?;
+    let status = without_words(&mut notes);
+    text.extend_from_slice(b"wordless\n")?;
+    let told = tell(alloc, status, &[], taken(&notes), &[])?;
+    text.extend_from_slice(&told)?;
     Ok(())
 }

@@ -2,6 +2,7 @@
 use crate::bytes::read_line;
 use crate::fault::Fault;
 use crate::sweep::{Call, Kind, Sweep};
+use gufi_help::{Channel, WatchedShelf};
 use gufi_io::{MemShelf, MemSink, names_differ};
 use std::alloc::Global;
 use std::num::NonZeroU32;
@@ -34,10 +35,12 @@ pub(crate) struct Setting {
     write: NonZeroU32,
     changes: Vec<Change>,
     sweep: Sweep,
+    // How many bytes of the text are told.
+    head: usize,
 }
 
 // The most bytes of a text.
-const ROOM: usize = 4096;
+const ROOM: usize = 32_768;
 
 fn place_of(files: &[(String, Vec<u8>)], name: &str) -> Option<usize> {
     for (place, file) in files.iter().enumerate() {
@@ -59,6 +62,7 @@ impl Setting {
             write: NonZeroU32::new(5).unwrap(),
             changes: Vec::new(alloc),
             sweep: Sweep::ONCE,
+            head: usize::MAX,
         }
     }
 
@@ -145,10 +149,20 @@ impl Setting {
         };
     }
 
+    pub(crate) fn put_head(&mut self, head: usize) {
+        self.head = head;
+    }
+
     /// Forgets what held for one run.
     pub(crate) fn forget(&mut self, alloc: Global) {
         self.changes = Vec::new(alloc);
         self.sweep = Sweep::ONCE;
+        self.head = usize::MAX;
+    }
+
+    /// What is told of a text.
+    pub(crate) fn head_of<'a>(&self, text: &'a [u8]) -> &'a [u8] {
+        text.split_at(self.head.min(text.len())).0
     }
 
     pub(crate) fn sweep(&self) -> Sweep {
@@ -206,7 +220,11 @@ impl Setting {
     }
 
     /// The shelf of a run.
-    pub(crate) fn shelf_at(&self, alloc: Global, at: usize) -> Result<MemShelf, Fault> {
+    pub(crate) fn shelf_at(
+        &self,
+        alloc: Global,
+        at: usize,
+    ) -> Result<WatchedShelf<MemShelf>, Fault> {
         let opens = self.bad_calls(alloc, Call::Open, at)?;
         let reads = self.bad_calls(alloc, Call::Read, at)?;
         let files = self.files_at(alloc, at)?;
@@ -214,13 +232,19 @@ impl Setting {
             drop(files);
             return Err(Fault::DoubleName);
         }
-        Ok(MemShelf::new(files, self.read.get(), opens, reads))
+        let shelf = MemShelf::new(files, self.read.get(), opens, reads);
+        Ok(WatchedShelf::new(alloc, shelf))
     }
 
     /// A sink of a run, whose writes are these calls.
-    pub(crate) fn sink_at(&self, alloc: Global, call: Call, at: usize) -> Result<MemSink, Fault> {
+    pub(crate) fn sink_at(
+        &self,
+        alloc: Global,
+        call: Call,
+        at: usize,
+    ) -> Result<Channel<MemSink>, Fault> {
         let writes = self.bad_calls(alloc, call, at)?;
         let room = vec![in alloc; 0; ROOM]?;
-        Ok(MemSink::new(room, self.write.get(), writes))
+        Ok(Channel::To(MemSink::new(room, self.write.get(), writes)))
     }
 }

@@ -1,5 +1,3 @@
-pub mod Pages
-pub mod Shown
 pub mod Channels
 pub mod Inserted
 pub mod Runs

@@ -3,8 +3,8 @@ ghost use Rattle.std.specs.Prelude.{◌≡◌, ◌⊎◌, [], None, true, drop, 
 ghost use Rattle.gufi_words.specs.WordTexts.{texts};
 ghost use Rattle.gufi_top.specs.Verdict.{MayRefuseWords};
 ghost use Rattle.gufi_top.specs.Ends.{TakesNote, memory_note};
-ghost use Rattle.gufi_help.specs.Pages.{page_of};
-ghost use Rattle.gufi_help.specs.Shown.{IsShown, CutShort};
+ghost use Rattle.gufi_pages.specs.Pages.{page_of};
+ghost use Rattle.gufi_pages.specs.Shown.{IsShown, CutShort};
 ghost use Rattle.gufi_help.specs.Channels.{held_bytes, is_held_whole};
 ghost use Rattle.gufi_help.specs.Inserted.{inserted_of, renumbered};
 ghost use Rattle.gufi_help.specs.Runs.{HasRunWords, HasRunInserted, IsToldToCaller, TellsCallerOneOf};
@@ -14,28 +14,14 @@ ghost use Rattle.gufi_explain.specs.Explained.{detail_of};
 use crate::channel::Channel;
 use crate::explaining::{Asked, run_explained};
 use crate::inserted::{Inserted, inserted_words, renumbered};
-use crate::pages::{Pages, page};
 use crate::watched::Watched;
 use gufi_explain::{Rules, detail_words};
 use gufi_io::{Gate, Shelf, Sink, write_whole};
+use gufi_pages::{Pages, page, show};
 use gufi_top::{Outcome, gufi_run};
 use std::alloc::Global;
 use std::sync::Wait;
 use std::thread::Threads;
-
-// Writes a page. Where that fails the note says so.
-fn show<K: Sink>(text: &str, out: &mut K, notes: &mut K) -> u8
-    ensures status { (result ≡ 0) ⊎ (result ≡ 4) }
-    ensures whole { result ≡ 0 → IsShown K.Sink out.old out.new notes.old notes.new text.now }
-    ensures cut { result ≡ 4 → CutShort K.Sink out.old out.new notes.old notes.new text.now }
-{
-    if write_whole(out, text.as_bytes()).is_ok() {
-        return 0;
-    }
-    // Where that note fails too, only the status is left to tell.
-    let _ = write_whole(notes, b"gufi: write fault\n");
-    4
-}
 
 /// Says that there is no memory to collect the words in, and gives the status of that.
 pub fn without_words<K: Sink>(notes: &mut K) -> u8

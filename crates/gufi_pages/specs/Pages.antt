@@ -1,7 +1,7 @@
 -- Which words ask for which page.
 use Rattle.std.specs.Prelude.{ℕ, Bool, ◌||◌, List, [], ◌∷◌, find, Option, Some, None, if◌then◌else◌, bytes_eq, codes}
-use Rattle.gufi_help.specs.declared.pages.CommandPage.{CommandPage}
-use Rattle.gufi_help.specs.declared.pages.Pages.{Pages}
+use Rattle.gufi_pages.specs.declared.pages.CommandPage.{CommandPage}
+use Rattle.gufi_pages.specs.declared.pages.Pages.{Pages}
 
 abbrev pub asks_help : List ℕ → Bool
 asks_help word = bytes_eq word (codes "--help") || bytes_eq word (codes "-h")

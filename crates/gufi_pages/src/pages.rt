@@ -2,7 +2,7 @@
 ghost use Rattle.std.specs.Prelude.{◌≡◌};
 ghost use Rattle.std.specs.Option.{option_copied};
 ghost use Rattle.gufi_words.specs.WordTexts.{texts};
-ghost use Rattle.gufi_help.specs.Pages.{asks_help, lone_page, page_among, page_of};
+ghost use Rattle.gufi_pages.specs.Pages.{asks_help, lone_page, page_among, page_of};
 
 use crate::commands::table;
 use crate::rules::own_rules;
