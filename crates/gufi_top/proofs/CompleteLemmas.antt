@@ -23,11 +23,12 @@ use Rattle.gufi_base.specs.Paths.{Components}
 use Rattle.gufi_info.specs.Info.{info_text}
 use Rattle.gufi_trace.specs.TraceWriting.{written_trace}
 use Rattle.gufi_top.specs.Reasons.{Reason, unwritten_reason, trace_in, index_in, told_in}
-use Rattle.gufi_top.specs.Verdict.{Written, Verdict, writes, runs, Asking, stat_asking, find_asking, ls_asking, stats_asking, report_of, form_of, query_asking, agg_asking, replied, ask_over, trace2index_over, rollup_over, index2trace_over, info_over, refresh_over, session_plan, max_cache, run_over, session_over, summary_of, generated_tree, summary_over, gen_verdict, command_over, verdict}
+use Rattle.gufi_top.specs.Verdict.{Written, Verdict, writes, runs, Asking, stat_asking, find_asking, ls_asking, stats_asking, report_of, form_of, query_asking, agg_asking, replied, ask_over, diff_over, trace2index_over, rollup_over, index2trace_over, info_over, refresh_over, session_plan, max_cache, run_over, session_over, summary_of, generated_tree, summary_over, gen_verdict, command_over, verdict}
 use Rattle.gufi_top.specs.Ends.{told_verdict, RunEnds, EndsWith, EndedBy, IsVerdictStatus}
 use Rattle.gufi_top.specs.Endings.{HasRun}
-use Rattle.gufi_top.specs.Complete.{AskIsAnswerable, TraceIsAnswerable, RefreshIsAnswerable, SessionIsAnswerable, IsAnswerable, IsAnswered, Completes}
+use Rattle.gufi_top.specs.Complete.{AskIsAnswerable, DiffIsAnswerable, TraceIsAnswerable, RefreshIsAnswerable, SessionIsAnswerable, IsAnswerable, IsAnswered, Completes}
 use Rattle.gufi_top.specs.Laws.{AnswerableCommandsAreAnswered, RefreshWritesTheImageOfItsTree}
+use Rattle.gufi_top.proofs.DiffLemmas.{diff_text}
 use Rattle.gufi_top.proofs.GenLemmas.{gen_written}
 use Rattle.gufi_top.proofs.IndexCommands.{unwritten_ok, told_where_read, refresh_text}
 use Rattle.gufi_top.proofs.ListedTexts.{verdict_of, walk_text, asking_text}
@@ -71,6 +72,9 @@ refresh_answered index delim limit path trace files can = answered_by _ _ (refre
 ask_answered : (common : Common) (asking : Asking) (files : Files) → AskIsAnswerable common asking files → IsAnswered (ask_over common asking files)
 ask_answered common asking files can = answered_by _ _ (asking_text common asking files can)
 
+diff_answered : (old : List ℕ) (common : Common) (files : Files) → DiffIsAnswerable old common files → IsAnswered (diff_over old common files)
+diff_answered old common files can = answered_by _ _ (diff_text old common files can)
+
 session_answered : (files : Files) (cache : ℕ) (planned : Result Plan Reason) → SessionIsAnswerable files planned → IsAnswered (planned >>= λ plan. run_over cache plan files)
 session_answered files cache planned can = rw can.1 can.2
 
@@ -86,9 +90,11 @@ command_answered (commands.Refresh index delim limit path trace) files can = ref
 command_answered (commands.Query common escape header json text) files can = ask_answered common (query_asking common.user_at (form_of escape header json) text) files can
 command_answered (commands.Agg common names text) files can = ask_answered common (agg_asking common.user_at names text) files can
 command_answered (commands.Find common now prefix words) files can = ask_answered common (find_asking common.user_at now prefix words) files can
+command_answered (commands.Du common now depth words) files can = ask_answered common stat_asking files can -- STUB OF DU
 command_answered (commands.Ls common long all) files can = ask_answered common (ls_asking long all) files can
 command_answered (commands.Stat common) files can = ask_answered common stat_asking files can
 command_answered (commands.Stats common names report) files can = ask_answered common (stats_asking names (report_of report)) files can
+command_answered (commands.Diff old common) files can = diff_answered old common files can
 command_answered (commands.Session passwd group delim workers now cache script) files can = session_answered files (min cache max_cache) (session_plan passwd group delim now script files) can
 command_answered (commands.Gen n delim workers summary) files can = gen_answered n delim summary (gen_written generated_read roots_listed n delim summary can.0 can.1 can.2)
 

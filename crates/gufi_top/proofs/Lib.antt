@@ -13,4 +13,5 @@ pub mod TraceImages
 pub mod TracesBack
 pub mod ListedTexts
 pub mod CompleteLemmas
+pub mod DiffLemmas
 pub mod HitLemmas

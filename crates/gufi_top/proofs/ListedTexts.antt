@@ -30,7 +30,7 @@ use Rattle.gufi_top.specs.Laws.{WalkWritesTheListedRows, FindWritesTheListedRows
 use Rattle.gufi_ask.proofs.AskLemmas.{reply_found}
 use Rattle.gufi_top.proofs.GenLemmas.{none_refused}
 
-filter_all : (rows : List Row) → filter (λ row. true) rows ≡ rows
+pub filter_all : (rows : List Row) → filter (λ row. true) rows ≡ rows
 filter_all [] = refl
 filter_all (row ∷ rows) = ap (λ l. row ∷ l) (filter_all rows)
 

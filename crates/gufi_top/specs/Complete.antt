@@ -60,6 +60,19 @@ pub record RefreshIsAnswerable (index : List ℕ) (delim limit : ℕ) (path : Co
   pub few : IsTrue (not (is_too_large (graft snap.tree path part)))
   pub short : IsTrue (not (is_too_deep (graft snap.tree path part)))
 
+-- The files are there, well-formed and within their limits, USER is one of the users, and the start is found in both indexes.
+pub record DiffIsAnswerable (old : List ℕ) (common : Common) (files : Files) : Type 0 where
+  pub tables : UserTables
+  pub before : Snap
+  pub after : Snap
+  pub who : Principal
+  pub users : tables_in common.passwd common.group files ≡ Ok tables
+  pub first : index_in common.delim common.limit old files ≡ Ok before
+  pub second : index_in common.delim common.limit common.index files ≡ Ok after
+  pub user : principal_of tables common.user ≡ Some who
+  pub found : IsTrue (is_found (resolve before.tree who common.start))
+  pub found_again : IsTrue (is_found (resolve after.tree who common.start))
+
 -- A session's users and script are there and well-formed, and so is each user and query of the script; no phase lacks a file or has
 -- too long ones. A damaged trace is a line of its text.
 abbrev pub SessionIsAnswerable : Files → Result Plan Reason → Type 0
@@ -75,9 +88,11 @@ IsAnswerable (commands.Refresh index delim limit path trace) files = RefreshIsAn
 IsAnswerable (commands.Query common escape header json text) files = AskIsAnswerable common (query_asking common.user_at (form_of escape header json) text) files
 IsAnswerable (commands.Agg common names text) files = AskIsAnswerable common (agg_asking common.user_at names text) files
 IsAnswerable (commands.Find common now prefix words) files = AskIsAnswerable common (find_asking common.user_at now prefix words) files
+IsAnswerable (commands.Du common now depth words) files = AskIsAnswerable common stat_asking files -- STUB OF DU
 IsAnswerable (commands.Ls common long all) files = AskIsAnswerable common (ls_asking long all) files
 IsAnswerable (commands.Stat common) files = AskIsAnswerable common stat_asking files
 IsAnswerable (commands.Stats common names report) files = AskIsAnswerable common (stats_asking names (report_of report)) files
+IsAnswerable (commands.Diff old common) files = DiffIsAnswerable old common files
 IsAnswerable (commands.Session passwd group delim workers now cache script) files = SessionIsAnswerable files (session_plan passwd group delim now script files)
 IsAnswerable (commands.Gen n delim workers summary) files = (1 ≤ n) × (n ≤ 200000) × IsTrue (may_delimit delim)
 

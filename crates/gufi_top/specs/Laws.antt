@@ -17,7 +17,8 @@ use Rattle.gufi_users.specs.Entries.{UserTables}
 use Rattle.gufi_users.specs.Users.{principal_of}
 use Rattle.gufi_find.specs.Expressions.{Find, find_holds}
 use Rattle.gufi_find.specs.Reading.{read_find}
-use Rattle.gufi_walk.specs.Answer.{listed_rows}
+use Rattle.gufi_walk.specs.Answer.{listed_rows, Alike}
+use Rattle.gufi_diff.specs.Changes.{diff_lines}
 use Rattle.gufi_trace.specs.TraceText.{trace_means}
 use Rattle.gufi_trace.specs.TraceTrees.{trace_root}
 use Rattle.gufi_trace.specs.TraceWriting.{written_trace}
@@ -51,6 +52,23 @@ FindWritesTheListedRowsBehindItsPrefix = (words : List (List ℕ)) (files : File
     → principal_of tables common.user ≡ Some who → read_find tests tables now ≡ Ok expression → IsTrue (is_found (resolve snap.tree who common.start))
     → verdict words files
     ≡ writes_only (flat_map (λ row. line (prefix ++ slashed_text row.path)) (filter (λ row. find_holds expression row (depth_below (length common.start) row)) (listed_rows snap.tree who common.start)))
+
+-- `diff` writes, in path order, a line for each change from the rows that USER lists by walking from START in the tree that OLD means to those in the tree that NEW means, as they are shown to him.
+abbrev pub DiffWritesTheChanges : Type 0
+DiffWritesTheChanges = (words : List (List ℕ)) (files : Files) (old : List ℕ) (common : Common) (tables : UserTables) (before after : Snap) (who : Principal)
+    → read_words words ≡ Ok (commands.Diff old common) → tables_in common.passwd common.group files ≡ Ok tables
+    → index_in common.delim common.limit old files ≡ Ok before → index_in common.delim common.limit common.index files ≡ Ok after
+    → principal_of tables common.user ≡ Some who → IsTrue (is_found (resolve before.tree who common.start)) → IsTrue (is_found (resolve after.tree who common.start))
+    → verdict words files ≡ writes_only (diff_lines (listed_rows before.tree who common.start) (listed_rows after.tree who common.start))
+
+-- To one who can't tell the trees of OLD in two sets of files apart by what he may list, nor those of NEW, `diff` comes to the same over both.
+abbrev pub DiffsArePrivate : Type 0
+DiffsArePrivate = (old : List ℕ) (common : Common) (files others : Files) (tables : UserTables) (before after before' after' : Snap) (who : Principal)
+    → tables_in common.passwd common.group files ≡ Ok tables → tables_in common.passwd common.group others ≡ Ok tables → principal_of tables common.user ≡ Some who
+    → index_in common.delim common.limit old files ≡ Ok before → index_in common.delim common.limit common.index files ≡ Ok after
+    → index_in common.delim common.limit old others ≡ Ok before' → index_in common.delim common.limit common.index others ≡ Ok after'
+    → Alike before.tree before'.tree who common.start → Alike after.tree after'.tree who common.start
+    → command_over (commands.Diff old common) files ≡ command_over (commands.Diff old common) others
 
 -- Where the files let a command be answered, nothing is refused: its verdict is a whole text, or a session that no file ends.
 abbrev pub AnswerableCommandsAreAnswered : Type 0

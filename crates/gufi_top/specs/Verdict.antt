@@ -2,6 +2,7 @@
 use Rattle.std.specs.Prelude.{◌≡◌, ℕ, ◌+◌, ℤ, min, Bool, true, false, List, [], ◌∷◌, ◌++◌, Option, Some, None, ok_or, Result, Ok, Err, if◌then◌else◌, codes}
 use Rattle.gufi_io.specs.Files.{Files}
 use Rattle.gufi_base.specs.Basics.{◌>>=◌, result_map_err}
+use Rattle.gufi_base.specs.declared.record.Row.{Row}
 use Rattle.gufi_base.specs.Paths.{Components}
 use Rattle.gufi_access.specs.declared.class.Principal.{Principal}
 use Rattle.gufi_access.specs.Access.{principal}
@@ -29,6 +30,8 @@ use Rattle.gufi_trace.specs.TraceWriting.{written_trace}
 use Rattle.gufi_image.specs.Image.{image_text}
 use Rattle.gufi_info.specs.Info.{info_text}
 use Rattle.gufi_walk.specs.declared.refusal.Refusal.{Refusal}
+use Rattle.gufi_walk.specs.Answer.{reply_rows}
+use Rattle.gufi_diff.specs.Changes.{diff_lines}
 use Rattle.gufi_script.specs.ScriptText.{PlacedAct}
 use Rattle.gufi_plan.specs.Plan.{Setting, Plan, plan}
 use Rattle.gufi_words.specs.CommandWords.{read_words}
@@ -186,6 +189,30 @@ refresh_over index delim limit path trace files = index_in delim limit index fil
 unfoldable pub info_over : List ℕ → ℕ → ℕ → Files → Result Verdict Reason
 info_over index delim limit files = told_in delim limit index files >>= λ indexed. writes_only (info_text indexed.image indexed.snap.tree indexed.snap.limit)
 
+-- ---- diff: what changed from one index to another of the rows that USER lists from START
+
+-- the rows that a principal lists from a start, as they are shown to him, or the refusal of the start
+abbrev pub listed_for : List Directory → Principal → Components → Result (List Row) Reason
+listed_for tree who start = result_map_err start_reason (reply_rows tree who start (λ row depth. true))
+
+-- USER is judged behind the file
+abbrev pub listed_by : Common → UserTables → Snap → Result (List Row) Reason
+listed_by common tables snap = user_in common tables >>= λ who. listed_for snap.tree who common.start
+
+unfoldable pub listed_in : Common → UserTables → List ℕ → Files → Result (List Row) Reason
+listed_in common tables index files = index_in common.delim common.limit index files >>= listed_by common tables
+
+-- the new index, where the rows of the old one are known
+unfoldable pub diff_from : List Row → Common → UserTables → Files → Result Verdict Reason
+diff_from old common tables files = listed_in common tables common.index files >>= λ new. writes_only (diff_lines old new)
+
+-- the old index is judged, and the start in it, before the new one
+unfoldable pub diff_by : List ℕ → Common → UserTables → Files → Result Verdict Reason
+diff_by old common tables files = listed_in common tables old files >>= λ rows. diff_from rows common tables files
+
+unfoldable pub diff_over : List ℕ → Common → Files → Result Verdict Reason
+diff_over old common files = tables_in common.passwd common.group files >>= λ tables. diff_by old common tables files
+
 -- ---- session: the phases of a script, whose users and queries are judged, in line order, behind its own faults
 
 abbrev pub plan_with : Setting → List ℕ → List PlacedAct → Result Plan Reason
@@ -248,9 +275,11 @@ command_over (commands.Refresh index delim limit path trace) = refresh_over inde
 command_over (commands.Query common escape header json text) = ask_over common (query_asking common.user_at (form_of escape header json) text)
 command_over (commands.Agg common names text) = ask_over common (agg_asking common.user_at names text)
 command_over (commands.Find common now prefix words) = ask_over common (find_asking common.user_at now prefix words)
+command_over (commands.Du common now depth words) = ask_over common stat_asking -- STUB OF DU
 command_over (commands.Ls common long all) = ask_over common (ls_asking long all)
 command_over (commands.Stat common) = ask_over common stat_asking
 command_over (commands.Stats common names report) = ask_over common (stats_asking names (report_of report))
+command_over (commands.Diff old common) = diff_over old common
 command_over (commands.Session passwd group delim workers now cache script) = session_over passwd group delim now (min cache max_cache) script
 command_over (commands.Gen n delim workers summary) = gen_over n delim summary
 
@@ -265,9 +294,11 @@ is_one_shot (commands.Refresh index delim limit path trace) = true
 is_one_shot (commands.Query common escape header json text) = true
 is_one_shot (commands.Agg common names text) = true
 is_one_shot (commands.Find common now prefix words) = true
+is_one_shot (commands.Du common now depth words) = true
 is_one_shot (commands.Ls common long all) = true
 is_one_shot (commands.Stat common) = true
 is_one_shot (commands.Stats common names report) = true
+is_one_shot (commands.Diff old common) = true
 is_one_shot (commands.Session passwd group delim workers now cache script) = false
 is_one_shot (commands.Gen n delim workers summary) = true
 
@@ -291,6 +322,10 @@ verdict words files = command_in words >>= λ command. command_over command file
 abbrev pub AskMayRefuse : Common → Asking → Reason → Type 0
 AskMayRefuse common asking why = (tables : UserTables) × (snap : Snap) × (asked_by common asking tables snap ≡ Err why)
 
+-- the same of a command that compares two indexes, of which USER is judged behind the first
+abbrev pub DiffMayRefuse : Common → Reason → Type 0
+DiffMayRefuse common why = (tables : UserTables) × (snap : Snap) × (listed_by common tables snap ≡ Err why)
+
 -- Only words that are judged behind the files may be refused of a command: its USER, the text of its query and the words of its expression.
 abbrev pub MayRefuse : Command → Reason → Type 0
 MayRefuse (commands.Walk trace uid gids delim) why = ⊥
@@ -302,9 +337,11 @@ MayRefuse (commands.Refresh index delim limit path trace) why = ⊥
 MayRefuse (commands.Query common escape header json text) why = AskMayRefuse common (query_asking common.user_at (form_of escape header json) text) why
 MayRefuse (commands.Agg common names text) why = AskMayRefuse common (agg_asking common.user_at names text) why
 MayRefuse (commands.Find common now prefix words) why = AskMayRefuse common (find_asking common.user_at now prefix words) why
+MayRefuse (commands.Du common now depth words) why = AskMayRefuse common stat_asking why -- STUB OF DU
 MayRefuse (commands.Ls common long all) why = AskMayRefuse common (ls_asking long all) why
 MayRefuse (commands.Stat common) why = AskMayRefuse common stat_asking why
 MayRefuse (commands.Stats common names report) why = AskMayRefuse common (stats_asking names (report_of report)) why
+MayRefuse (commands.Diff old common) why = DiffMayRefuse common why
 MayRefuse (commands.Session passwd group delim workers now cache script) why = ⊥
 MayRefuse (commands.Gen n delim workers summary) why = ⊥
 

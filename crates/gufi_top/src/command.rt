@@ -7,6 +7,7 @@ ghost use Rattle.gufi_words.specs.CommandWords.{is_delimited};
 ghost use Rattle.gufi_top.specs.Verdict.{walk_over, command_over, is_one_shot, MayRefuse};
 ghost use Rattle.gufi_top.specs.Calls.{GivesOver, OfWordsOnlyBy, IsPastWords, HaltHasCause};
 
+use crate::diff::diff;
 use crate::generate::generate;
 use crate::halt::{Halt, Output};
 use crate::index2trace::index2trace;
@@ -60,6 +61,7 @@ fn walk_as<R: Threads + Wait + Sync, F: Shelf, G: Gate + Sync>(
 pub(crate) fn workers_of(command: &Command) -> u32 {
     match command {
         Command::Find { common, .. }
+        | Command::Diff { common, .. }
         | Command::Query { common, .. }
         | Command::Agg { common, .. }
         | Command::Ls { common, .. }
@@ -71,7 +73,9 @@ pub(crate) fn workers_of(command: &Command) -> u32 {
         | Command::Rollup { .. }
         | Command::Index2trace { .. }
         | Command::Info { .. }
-        | Command::Refresh { .. } => 1,
+        | Command::Refresh { .. }
+        // STUB OF DU
+        | Command::Du { .. } => 1,
     }
 }
 
@@ -161,6 +165,8 @@ pub(crate) fn answer_command<R: Threads + Wait + Sync, F: Shelf, G: Gate + Sync>
             };
             ask(walkers, alloc, shelf, common, &question)
         }
+        // STUB OF DU
+        Command::Du { common, .. } => ask(walkers, alloc, shelf, common, &Question::Stat),
         Command::Stat { common } => ask(walkers, alloc, shelf, common, &Question::Stat),
         Command::Stats {
             common,
@@ -176,6 +182,7 @@ pub(crate) fn answer_command<R: Threads + Wait + Sync, F: Shelf, G: Gate + Sync>
             summary,
             ..
         } => generate(alloc, *n, *delim, *summary),
+        Command::Diff { old, common } => diff(walkers, alloc, shelf, old.as_str(), common),
         Command::Session { .. } => unreachable!(),
     }
 }

@@ -1,5 +1,5 @@
 //! Laws of what is written.
-ghost use Rattle.gufi_top.specs.Laws.{WalkWritesTheListedRows, FindWritesTheListedRows, FindWritesTheListedRowsBehindItsPrefix, AnswerableCommandsAreAnswered, GenIsNeverRefused, TracesComeBackFromImages, IndexesComeBackFromTraces, ImagesComeBackFromTraces, RefreshWritesTheImageOfItsTree};
+ghost use Rattle.gufi_top.specs.Laws.{WalkWritesTheListedRows, FindWritesTheListedRows, FindWritesTheListedRowsBehindItsPrefix, DiffWritesTheChanges, DiffsArePrivate, AnswerableCommandsAreAnswered, GenIsNeverRefused, TracesComeBackFromImages, IndexesComeBackFromTraces, ImagesComeBackFromTraces, RefreshWritesTheImageOfItsTree};
 
 use gufi_gen::generated_traces_are_read;
 use gufi_image::{images_have_one_spelling, written_images_read_back};
@@ -19,6 +19,17 @@ pub fn find_writes_the_listed_rows()
 /// `find --prefix` writes exactly those rows, each once, in path order, behind its prefix.
 pub fn find_writes_the_listed_rows_behind_its_prefix()
     ensures { FindWritesTheListedRowsBehindItsPrefix }
+{}
+
+/// `diff` writes exactly the changes from what its user lists from the start in one index to what he lists in the other, in path
+/// order.
+pub fn diff_writes_the_changes()
+    ensures { DiffWritesTheChanges }
+{}
+
+/// `diff` tells its user nothing of what he can't list in either index.
+pub fn diffs_are_private()
+    ensures { DiffsArePrivate }
 {}
 
 /// Completeness: nothing is refused of a command whose words and files are good and whose start is found. Its text is whole, or it

@@ -15,7 +15,7 @@ use std::alloc::Global;
 use std::mem::forget;
 
 /// The refusal of a start.
-fn refuse_start<T>(alloc: Global, refusal: Refusal) -> Result<T, Halt>
+pub(crate) fn refuse_start<T>(alloc: Global, refusal: Refusal) -> Result<T, Halt>
     ensures reason { refusal ≢ Refusal.Memory → Gives (λ (x : T). x) result (Err (start_reason refusal)) }
     ensures memory { refusal ≡ Refusal.Memory → result ≡ Err Halt.Memory }
     ensures of_bytes { IfErr result IsOfBytes }

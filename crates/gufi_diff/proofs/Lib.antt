@@ -1,0 +1,5 @@
+pub mod SameRecords
+pub mod Least
+pub mod Skips
+pub mod Firsts
+pub mod Passes
