@@ -1,5 +1,5 @@
 -- Lemmas on files that are read.
-use Rattle.std.proofs.Common.{◌≡◌, ℕ, ◌<◌, ◌≤◌, List, ◌++◌, length, refl, sym, ap, ◌∙◌, arith, true}
+use Rattle.std.proofs.Common.{◌≡◌, ℕ, ◌^◌, ◌<◌, ◌≤◌, List, ◌++◌, length, refl, sym, ap, ◌∙◌, arith, true}
 use Rattle.std.specs.Prelude.{Option, Some, None, Result, Ok, Err, nat_lt, Vec}
 use Rattle.std.specs.declared.alloc.Global.{Global}
 use Rattle.std.proofs.lemmas.List.{length-append}
@@ -21,7 +21,7 @@ use Rattle.gufi_top.specs.declared.halt.Halt.TheVariants as halts
 use Rattle.gufi_top.specs.Reasons.{Reason, held, not_found, past_limit, file_in, trace_in, tree_within, trace_reason}
 use Rattle.gufi_top.specs.Calls.{Gives, GivesOver}
 use Rattle.gufi_top.specs.Views.{bytes_view}
-use Rattle.gufi_top.specs.Fed.{lines_within, lines_in, HasReadFile, IsFedUpTo}
+use Rattle.gufi_top.specs.Fed.{lines_within, lines_in, HasReadFile, IsFedUpTo, IsCount, HasBytes}
 
 pub file_whole : (told : Option Files) (max : ℕ) (name : List ℕ) (bytes : Vec ℕ Global) → Holds told name bytes.items → length bytes.items ≤ max
     → GivesOver told bytes_view (Ok bytes) (file_in max name)
@@ -58,6 +58,11 @@ pub ruleset opening = unheld
 
 pub fed_from_front : (told : Option Files) (name front : List ℕ) (left : Option (List ℕ)) (reader : Reading) → HasRead reader front → IsReadUpTo told name front left → IsFedUpTo told name left reader (length front)
 fed_from_front told name front left reader read upto = record { bytes = front; taken = read; count = refl; upto = upto }
+
+-- a file that was read whole isn't too long for its count
+pub counted : (told : Option Files) (name bytes : List ℕ) (max count : ℕ) → Holds told name bytes → length bytes ≤ max → max < 2 ^ 64 → IsCount count bytes → HasBytes told name count
+counted None name bytes max count holds short fits is = tt
+counted (Some files) name bytes max count holds short fits is = (bytes, holds, omega arith)
 
 -- ---- lines, and the tree of them
 

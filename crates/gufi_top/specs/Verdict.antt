@@ -184,7 +184,7 @@ refresh_over index delim limit path trace files = index_in delim limit index fil
 -- ---- info: what an index holds
 
 unfoldable pub info_over : List ℕ → ℕ → ℕ → Files → Result Verdict Reason
-info_over index delim limit files = told_in delim limit index files >>= λ indexed. writes_only (info_text indexed.image indexed.snap.tree indexed.snap.limit)
+info_over index delim limit files = told_in delim limit index files >>= λ indexed. writes_only (info_text indexed.image indexed.bytes indexed.snap.tree indexed.snap.limit)
 
 -- ---- session: the phases of a script, whose users and queries are judged, in line order, behind its own faults
 
