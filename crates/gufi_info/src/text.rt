@@ -156,12 +156,7 @@ fn report_of(alloc: Global, tree: &Tree, limit: u64) -> Result<RollReport, Memor
 ///
 /// Linear in the rows.
 #[tactic(auto, unfolding(crate::specs::Info::info_text))]
-pub fn info_text(
-    alloc: Global,
-    snap: &Snapshot,
-    image: bool,
-    bytes: u64,
-) -> Result<Vec<u8>, Memory>
+pub fn info_text(alloc: Global, snap: &Snapshot, image: bool, bytes: u64) -> Result<Vec<u8>, Memory>
     ensures { IfOk result (λ text. text.items ≡ info_text image bytes snap.now.tree snap.now.limit) }
 {
     let tree = snap.tree();

@@ -103,7 +103,7 @@ impl TakeBytes for Feed {
 
 // Feeds the rest of the file in hand to a reader that has read so many bytes of it, to its end or until it is longer than
 // an image may be, and tells how many bytes there are.
-#[tactic(auto, using(crate::proofs::ReadingLemmas::file_too_long))]
+#[tactic(auto, using(crate::proofs::ReadingLemmas::file_too_long, crate::proofs::ReadingLemmas::counted))]
 fn feed_rest<F: Shelf>(
     alloc: Global,
     shelf: &mut F,

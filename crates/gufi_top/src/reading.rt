@@ -1,5 +1,5 @@
 //! The files that the words name.
-ghost use Rattle.std.specs.Prelude.{◌≡◌, ◌≤◌, ◌<◌, ◌+◌, ◌++◌, List, [], true, length, IfErr, IfOk, OnOk, IsTrue, Err};
+ghost use Rattle.std.specs.Prelude.{◌≡◌, ◌≤◌, ◌<◌, ℕ, ◌+◌, ◌++◌, List, [], true, length, IfErr, IfOk, OnOk, IsTrue, Err};
 ghost use Rattle.gufi_base.specs.Basics.{result_map_err};
 ghost use Rattle.gufi_base.specs.Limits.{max_dirs, max_entries, max_trace};
 ghost use Rattle.gufi_tree.specs.Build.{tree_of};
@@ -116,7 +116,7 @@ impl TakeBytes for Feed {
 
 // Feeds the rest of the file in hand to a reader that has read so many bytes of it, to its end or until it is longer than
 // a trace may be, and tells how many bytes there are.
-#[tactic(auto, using(crate::proofs::ReadingLemmas::file_too_long))]
+#[tactic(auto, using(crate::proofs::ReadingLemmas::file_too_long, crate::proofs::ReadingLemmas::counted))]
 fn feed_rest<F: Shelf>(
     alloc: Global,
     shelf: &mut F,
