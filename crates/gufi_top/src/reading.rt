@@ -11,7 +11,7 @@ ghost use Rattle.gufi_trace.specs.TraceText.{of_line, of_tree};
 ghost use Rattle.gufi_top.specs.Views.{bytes_view};
 ghost use Rattle.gufi_top.specs.Reasons.{held, file_in, trace_in, tree_within, trace_reason};
 ghost use Rattle.gufi_top.specs.Calls.{Gives, GivesOver, IsOfBytes, IsPastWords, HaltHasCause};
-ghost use Rattle.gufi_top.specs.Fed.{lines_in, HasReadFile, IsFedUpTo, IsCount, HasBytes};
+ghost use Rattle.gufi_top.specs.Fed.{lines_within, lines_in, HasReadFile, IsFedUpTo, IsCount, HasBytes};
 
 use crate::halt::{Halt, refused};
 use crate::note;
@@ -159,9 +159,24 @@ fn feed_rest<F: Shelf>(
     }
 }
 
+// The lines of all that a reader has read, by their stanzas.
+#[tactic(auto, using(crate::proofs::ReadingLemmas::lines_refused))]
+fn lines_of(alloc: Global, name: &str, reader: TraceReader) -> Result<Stanzas, Halt>
+    ensures lines { (stream : List ℕ) → HasRead reader stream → Gives (λ lines. lines) result (lines_within reader.delim name.now stream) }
+    ensures of_bytes { IfErr result IsOfBytes }
+    ensures past_words { IfErr result IsPastWords }
+    ensures few { IfOk result (λ lines. length lines ≤ max_dirs + max_entries) }
+{
+    match reader.finish_stanzas() {
+        Ok(lines) => Ok(lines),
+        Err(TraceError::Fault(fault)) => refuse_line(alloc, name, fault),
+        Err(TraceError::Memory) => Err(Halt::Memory),
+    }
+}
+
 // The lines of the trace in hand by their stanzas, of which this front was read, and how many bytes there are. These are never all
 // in memory.
-#[tactic(auto, using(crate::proofs::ReadingLemmas::lines))]
+#[tactic(auto, using(crate::proofs::ReadingLemmas::lines, crate::proofs::StepLemmas::cause_of_bytes))]
 fn rest_of_lines<F: Shelf>(
     alloc: Global,
     shelf: &mut F,
@@ -183,11 +198,7 @@ fn rest_of_lines<F: Shelf>(
 {
     let reader = reader_of(alloc, delim, front)?;
     let reader = feed_rest(alloc, shelf, name, room, reader, front.len(), bytes)?;
-    match reader.finish_stanzas() {
-        Ok(lines) => Ok(lines),
-        Err(TraceError::Fault(fault)) => refuse_line(alloc, name, fault),
-        Err(TraceError::Memory) => Err(Halt::Memory),
-    }
+    lines_of(alloc, name, reader)
 }
 
 // The tree of the lines.
