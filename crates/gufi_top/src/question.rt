@@ -1,7 +1,7 @@
 //! What the commands with a USER and a START ask.
-ghost use Rattle.std.specs.Prelude.{◌≡◌, ◌+◌, Ok, Err, IfErr, IfOk};
+ghost use Rattle.std.specs.Prelude.{◌≡◌, ◌+◌, Err, IfErr, IfOk};
 ghost use Rattle.std.specs.Option.{option_copied};
-ghost use Rattle.gufi_base.specs.Basics.{capped_number, ◌>>=◌};
+ghost use Rattle.gufi_base.specs.Basics.{capped_number};
 ghost use Rattle.gufi_find.specs.Expressions.{Find as SeenFind};
 ghost use Rattle.gufi_find.specs.Faults.{find_kind_text};
 ghost use Rattle.gufi_select.specs.Columns.{Select as SeenSelect};
@@ -12,7 +12,7 @@ ghost use Rattle.gufi_ask.specs.Asks.{find_ask, query_ask, agg_ask};
 ghost use Rattle.gufi_top.specs.Questions.{asks};
 ghost use Rattle.gufi_top.specs.Reasons.{word_fault, text_fault, column_twice};
 ghost use Rattle.gufi_top.specs.Views.{text_view};
-ghost use Rattle.gufi_top.specs.Verdict.{asked, asked_if, expression_in, find_asking, named_by, stats_asking, report_of, form_of, twice_in, written_in, select_in, query_asking, agg_in, agg_asking};
+ghost use Rattle.gufi_top.specs.Verdict.{asked, asked_if, expression_in, find_asking, named_by, stats_asking, report_of, form_of, twice_in, written_in, select_in, query_asked, query_asking, agg_in, agg_asking};
 ghost use Rattle.gufi_top.specs.Calls.{Gives, IsOfBytes};
 
 use crate::halt::{Halt, Output, refused};
@@ -335,7 +335,7 @@ impl Query<'_> {
         who: &Principal,
         start: &Path,
     ) -> Result<Output, Halt>
-        ensures text { Gives text_view result (asked_if snap.tree who.now start.now (select_in self.now.user_at self.now.form self.now.text.now >>= λ select. Ok (query_ask self.now.form select))) }
+        ensures text { Gives text_view result (asked_if snap.tree who.now start.now (query_asked self.now.user_at self.now.form self.now.text.now)) }
         ensures of_bytes { IfErr result IsOfBytes }
     {
         match self.select(alloc) {
