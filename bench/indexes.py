@@ -66,14 +66,15 @@ def replaced(rows, at, part):
     return below + [{**row, "path": b"/" + b"/".join(at + components(row))} for row in part]
 
 
-def told(rows, image, limit, report):
-    """What `info` has to tell, but for an image's version."""
+def told(rows, image, size, limit, report):
+    """What `info` has to tell of a file of that size."""
     words = report.split()
     directories = sum(row["type"] == b"d" for row in rows)
     times = b"".join(b"%s %d %d\n" % (time.encode(), min(row[time] for row in rows), max(row[time] for row in rows)) for time in TIMES)
     version = b"3" if any(row["acl"] for row in rows) else b"2" if any(row["xattrs"] for row in rows) else b"1"
-    return b"version %s\nlimit %d\ndirectories %d\nentries %d\ndepth %d\nrolled %s\ntops %s\nrows %s\n%sacls %s\nxattrs %s\n" % (
+    return b"version %s\nbytes %d\nlimit %d\ndirectories %d\nentries %d\ndepth %d\nrolled %s\ntops %s\nrows %s\n%sacls %s\nxattrs %s\n" % (
         version if image else b"-",
+        size,
         limit,
         directories,
         len(rows) - directories,
@@ -111,7 +112,8 @@ class Site:
 def differing(site, rng):
     """What differs of one random tree."""
     rows, part, limit, other = with_lists(rng, tree(rng)[0]), with_lists(rng, tree(rng)[0]), rng.choice((0, 3, 10, 1000)), rng.choice((0, 2, 20))
-    site.put("t", trace(rows))
+    text = trace(rows)
+    site.put("t", text)
     site.put("part", trace(part))
     image, report = site.made("rollup", "--limit=%d" % limit, "t")
     site.put("i", image)
@@ -123,9 +125,9 @@ def differing(site, rng):
         yield "the trace of a trace"
     if sorted(back.split(b"\n")[:-1]) != sorted(from_root(row) for row in rows):
         yield "the lines of a trace"
-    if site.made("info", "i")[0] != told(rows, True, limit, report):
+    if site.made("info", "i")[0] != told(rows, True, len(image), limit, report):
         yield "what an image holds"
-    if site.made("info", "--limit=%d" % limit, "t")[0] != told(rows, False, limit, report):
+    if site.made("info", "--limit=%d" % limit, "t")[0] != told(rows, False, len(text), limit, report):
         yield "what a trace holds"
     at = components(rng.choice([row for row in rows if row["type"] == b"d"]))
     place = b"/" + b"/".join(at)

@@ -1,15 +1,14 @@
 -- The version of an image, by what its rows have.
-use Rattle.std.proofs.Common.{◌≡◌, Bool, true, false, ◌||◌, List, [], ◌∷◌, ◌++◌, map, refl, sym, ap, ◌∙◌}
+use Rattle.std.proofs.Common.{◌≡◌, Bool, true, false, ◌||◌, List, [], ◌∷◌, map, refl, sym, ap, ◌∙◌}
 use Rattle.std.specs.List.{list_any, flat_map}
 use Rattle.std.proofs.lemmas.List.Folds.{list_any-append}
-use Rattle.gufi_base.specs.declared.record.Rec.{Rec}
 use Rattle.gufi_base.specs.declared.record.Row.{Row}
 use Rattle.gufi_base.specs.Paths.{Components}
 use Rattle.gufi_tree.specs.declared.tree.Entry.{Entry}
 use Rattle.gufi_tree.specs.Tree.{Directory, entry_row, own_rows}
 use Rattle.gufi_image.specs.declared.width.Width.{Width}
 use Rattle.gufi_image.specs.declared.width.Width.TheVariants.{Named, Guarded}
-use Rattle.gufi_image.specs.Widths.{version_of, width_of, record_needs, entries_need, directory_needs, tree_needs, least}
+use Rattle.gufi_image.specs.Widths.{version_of, width_of, record_needs, entries_need, tree_needs, least}
 use Rattle.gufi_info.specs.declared.census.Census.{Census}
 use Rattle.gufi_info.specs.Census.{census_of}
 

@@ -30,6 +30,10 @@ abbrev pub version_line : Bool → ℕ → List ℕ
 version_line true version = number_line (codes "version ") version
 version_line false version = line (codes "version -")
 
+-- of the file: an image's version, and how many bytes it has
+unfoldable pub file_lines : Bool → ℕ → ℕ → List ℕ
+file_lines image version bytes = version_line image version ++ number_line (codes "bytes ") bytes
+
 unfoldable pub size_lines : ℕ → ℕ → ℕ → ℕ → List ℕ
 size_lines limit dirs entries depth =
     number_line (codes "limit ") limit ++ (number_line (codes "directories ") dirs ++ (number_line (codes "entries ") entries ++ number_line (codes "depth ") depth))
@@ -42,8 +46,8 @@ row_lines census =
     span_line (codes "atime ") census.atime ++ (span_line (codes "mtime ") census.mtime ++ (span_line (codes "ctime ") census.ctime
     ++ (answer_line (codes "acls ") census.acls ++ answer_line (codes "xattrs ") census.xattrs)))
 
--- Of a tree under a limit, which an image holds or not: an image has the least version that holds its tree.
-unfoldable pub info_text : Bool → List Directory → ℕ → List ℕ
-info_text image tree limit =
+-- Of a tree under a limit, in a file of so many bytes, which is an image or not: an image has the least version that holds its tree.
+unfoldable pub info_text : Bool → ℕ → List Directory → ℕ → List ℕ
+info_text image bytes tree limit =
     let census = census_of (flat_map own_rows tree) in
-    version_line image (version_of (width_of tree)) ++ (size_lines limit (length tree) (entry_count tree) census.depth ++ (roll_lines (roll_report tree (roll_flags tree limit)) ++ row_lines census))
+    file_lines image (version_of (width_of tree)) bytes ++ (size_lines limit (length tree) (entry_count tree) census.depth ++ (roll_lines (roll_report tree (roll_flags tree limit)) ++ row_lines census))

@@ -6,7 +6,7 @@ ghost use Rattle.std.specs.List.{flat_map};
 ghost use Rattle.gufi_roll.specs.CanRoll.{roll_flags, roll_report};
 ghost use Rattle.gufi_tree.specs.Tree.{own_rows};
 ghost use Rattle.gufi_info.specs.Census.{census_of};
-ghost use Rattle.gufi_info.specs.Info.{number_line, pair_line, span_line, answer_line, version_line, size_lines, roll_lines, row_lines, info_text};
+ghost use Rattle.gufi_info.specs.Info.{number_line, pair_line, span_line, answer_line, version_line, file_lines, size_lines, roll_lines, row_lines, info_text};
 ghost use Rattle.gufi_image.specs.Widths.{version_of, width_of};
 
 use crate::census::{Census, entry_count};
@@ -88,6 +88,15 @@ fn put_version(out: &mut Vec<u8>, image: bool, version: u64) -> Result<(), Memor
     put(out, b"version -\n")
 }
 
+/// The same, and how many bytes the file has.
+#[tactic(auto, unfolding(crate::specs::Info::file_lines))]
+fn put_file(out: &mut Vec<u8>, image: bool, version: u64, bytes: u64) -> Result<(), Memory>
+    ensures { OnOk result (out.new.items ≡ out.old.items ++ file_lines image version bytes) }
+{
+    put_version(out, image, version)?;
+    put_number(out, b"bytes ", bytes)
+}
+
 #[tactic(auto, unfolding(crate::specs::Info::number_line))]
 fn put_depth(out: &mut Vec<u8>, depth: u128) -> Result<(), Memory>
     ensures { OnOk result (out.new.items ≡ out.old.items ++ number_line (codes "depth ") depth) }
@@ -141,20 +150,20 @@ fn report_of(alloc: Global, tree: &Tree, limit: u64) -> Result<RollReport, Memor
     Ok(roll_report(tree, &flags))
 }
 
-/// What is told of an index, which is an image or not: a line each of its version, the limit of its roll-up, how many directories
-/// and entries it has and how deep they lie, what is rolled up, the least and the greatest of its rows' times in seconds, and
-/// whether a row has an access control list, or names of extended attributes.
+/// What is told of an index, which is an image or not, of a file of so many bytes: a line each of its version, the bytes, the limit
+/// of its roll-up, how many directories and entries it has and how deep they lie, what is rolled up, the least and the greatest of
+/// its rows' times in seconds, and whether a row has an access control list, or names of extended attributes.
 ///
 /// Linear in the rows.
 #[tactic(auto, unfolding(crate::specs::Info::info_text))]
-pub fn info_text(alloc: Global, snap: &Snapshot, image: bool) -> Result<Vec<u8>, Memory>
-    ensures { IfOk result (λ text. text.items ≡ info_text image snap.now.tree snap.now.limit) }
+pub fn info_text(alloc: Global, snap: &Snapshot, image: bool, bytes: u64) -> Result<Vec<u8>, Memory>
+    ensures { IfOk result (λ text. text.items ≡ info_text image bytes snap.now.tree snap.now.limit) }
 {
     let tree = snap.tree();
     let census = Census::of(tree);
     let report = report_of(alloc, tree, snap.limit())?;
     let mut text = Vec::new(alloc);
-    put_version(&mut text, image, version_of(tree, census))?;
+    put_file(&mut text, image, version_of(tree, census), bytes)?;
     put_sizes(
         &mut text,
         snap.limit(),

@@ -64,7 +64,7 @@ trace_answered index delim files can =
 
 info_answered : (index : List ℕ) (delim limit : ℕ) (files : Files) → is_ok (index_in delim limit index files) ≡ true → IsAnswered (info_over index delim limit files)
 unfolding info_over
-info_answered index delim limit files can = answered_if (told_in delim limit index files) (λ indexed. record { out = info_text indexed.image indexed.snap.tree indexed.snap.limit; notes = [] }) (told_where_read delim limit index files can)
+info_answered index delim limit files can = answered_if (told_in delim limit index files) (λ indexed. record { out = info_text indexed.image indexed.bytes indexed.snap.tree indexed.snap.limit; notes = [] }) (told_where_read delim limit index files can)
 
 refresh_answered : (index : List ℕ) (delim limit : ℕ) (path : Components) (trace : List ℕ) (files : Files) → RefreshIsAnswerable index delim limit path trace files → IsAnswered (refresh_over index delim limit path trace files)
 refresh_answered index delim limit path trace files can = answered_by _ _ (refresh_text index delim limit path trace files can)

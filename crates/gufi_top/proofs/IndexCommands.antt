@@ -76,15 +76,15 @@ unwritten_ok index (Err fault) h = h
 -- ---- info
 
 pub info_ok : (told : Option Files) (index : List ℕ) (delim limit : ℕ) (indexed : Indexed) (r : Result Output Halt) → GivesOver {A = Indexed} told (λ i. i) (Ok indexed) (told_in delim limit index)
-    → Gives text_view r (writes_only (info_text indexed.image indexed.snap.tree indexed.snap.limit)) → GivesOver told text_view r (info_over index delim limit)
+    → Gives text_view r (writes_only (info_text indexed.image indexed.bytes indexed.snap.tree indexed.snap.limit)) → GivesOver told text_view r (info_over index delim limit)
 unfolding info_over
 info_ok told index delim limit indexed r read given =
-    over_ok told (λ i. i) text_view indexed r (told_in delim limit index) (λ i files. writes_only (info_text i.image i.snap.tree i.snap.limit)) read (given_over told text_view r _ given)
+    over_ok told (λ i. i) text_view indexed r (told_in delim limit index) (λ i files. writes_only (info_text i.image i.bytes i.snap.tree i.snap.limit)) read (given_over told text_view r _ given)
 
 pub info_err : (told : Option Files) (index : List ℕ) (delim limit : ℕ) (e : Halt)
     → GivesOver {A = Indexed} told (λ i. i) (Err e) (told_in delim limit index) → GivesOver told text_view (Err e) (info_over index delim limit)
 unfolding info_over
-info_err told index delim limit e read = over_err told (λ i. i) text_view e (told_in delim limit index) (λ i files. writes_only (info_text i.image i.snap.tree i.snap.limit)) read
+info_err told index delim limit e read = over_err told (λ i. i) text_view e (told_in delim limit index) (λ i files. writes_only (info_text i.image i.bytes i.snap.tree i.snap.limit)) read
 
 pub ruleset info_steps = (info_ok, info_err)
 
@@ -93,14 +93,15 @@ no_index : (delim limit : ℕ) (index : List ℕ) (files : Files) → files inde
 unfolding index_in
 no_index delim limit index files none = rw none refl
 
-told_then : (image : Bool) (read : Result Snap Reason) → is_ok read ≡ true → is_ok (read >>= λ snap. let indexed : Result Indexed Reason = Ok (record { image = image; snap = snap }) in indexed) ≡ true
-told_then image (Ok snap) h = refl
-told_then image (Err why) h = absurd (false≢true h)
+told_then : (image : Bool) (bytes : ℕ) (read : Result Snap Reason) → is_ok read ≡ true
+    → is_ok (read >>= λ snap. let indexed : Result Indexed Reason = Ok (record { image = image; bytes = bytes; snap = snap }) in indexed) ≡ true
+told_then image bytes (Ok snap) h = refl
+told_then image bytes (Err why) h = absurd (false≢true h)
 
 told_by : (delim limit : ℕ) (index : List ℕ) (files : Files) (found : Option (List ℕ)) → files index ≡ found → is_ok (index_in delim limit index files) ≡ true → is_ok (told_in delim limit index files) ≡ true
 unfolding told_in
 told_by delim limit index files None is can = absurd (false≢true (sym (ap is_ok (no_index delim limit index files is)) ∙ can))
-told_by delim limit index files (Some bytes) is can = rw is (told_then (is_image bytes) (index_in delim limit index files) can)
+told_by delim limit index files (Some bytes) is can = rw is (told_then (is_image bytes) (length bytes) (index_in delim limit index files) can)
 
 pub told_where_read : (delim limit : ℕ) (index : List ℕ) (files : Files) → is_ok (index_in delim limit index files) ≡ true → is_ok (told_in delim limit index files) ≡ true
 told_where_read delim limit index files can = told_by delim limit index files (files index) refl can

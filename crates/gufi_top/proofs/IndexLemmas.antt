@@ -17,7 +17,7 @@ use Rattle.gufi_top.specs.declared.index.Indexed.{Indexed}
 use Rattle.gufi_top.specs.Reasons.{Reason, held, file_in, trace_in, image_reason, image_within, image_in, rolled_under, traced_in, is_image, index_by, index_in, told_in}
 use Rattle.gufi_top.specs.Calls.{Gives, GivesOver}
 use Rattle.gufi_top.specs.Views.{bytes_view}
-use Rattle.gufi_top.specs.Fed.{BeginsAs, HasReadImage, IsImageFedUpTo}
+use Rattle.gufi_top.specs.Fed.{BeginsAs, HasReadImage, IsImageFedUpTo, HasBytes}
 use Rattle.gufi_io.proofs.Fronts.{upto_more}
 use Rattle.gufi_top.proofs.ReadingLemmas.{held_bytes, given_as, stays}
 use Rattle.gufi_top.proofs.StepLemmas.{over_ok, over_err, given_over}
@@ -118,13 +118,16 @@ index_unread (Some files) delim limit name e read = stays e (held files name) _ 
 
 pub ruleset unread = index_unread
 
--- ---- and whether it is an image
+-- ---- and whether it is an image, and how many bytes it has
 
-pub told_ok : (told : Option Files) (delim limit : ℕ) (name : List ℕ) (image : Bool) (snap : Snap) → BeginsAs told name image
-    → GivesOver {A = Snap} told (λ s. s) (Ok snap) (index_in delim limit name) → GivesOver told (λ (i : Indexed). i) (Ok (record { image = image; snap = snap })) (told_in delim limit name)
+pub told_ok : (told : Option Files) (delim limit : ℕ) (name : List ℕ) (image : Bool) (count : ℕ) (snap : Snap) → BeginsAs told name image → HasBytes told name count
+    → GivesOver {A = Snap} told (λ s. s) (Ok snap) (index_in delim limit name) → GivesOver told (λ (i : Indexed). i) (Ok (record { image = image; bytes = count; snap = snap })) (told_in delim limit name)
 unfolding told_in
-told_ok None delim limit name image snap begins given = tt
-told_ok (Some files) delim limit name image snap begins given = rw (begins.1, given, begins.2) refl
+told_ok None delim limit name image count snap begins has given = tt
+told_ok (Some files) delim limit name image count snap begins has given =
+    let same : begins.0 ≡ has.0 = (let one = begins.1 in let other = has.1 in cc) in
+    let long : length begins.0 ≡ count = ap (λ (bytes : List ℕ). length bytes) same ∙ sym has.2 in
+    rw (begins.1, given, begins.2, long) refl
 
 pub told_err : (told : Option Files) (delim limit : ℕ) (name : List ℕ) (image : Bool) (e : Halt) → BeginsAs told name image
     → GivesOver {A = Snap} told (λ s. s) (Err e) (index_in delim limit name) → GivesOver {A = Indexed} told (λ i. i) (Err e) (told_in delim limit name)

@@ -1,5 +1,5 @@
 -- Lemmas on files that are read.
-use Rattle.std.proofs.Common.{◌≡◌, ℕ, ◌<◌, ◌≤◌, List, ◌++◌, length, refl, sym, ap, ◌∙◌, arith, true}
+use Rattle.std.proofs.Common.{◌≡◌, ℕ, ◌^◌, ◌<◌, ◌≤◌, List, ◌++◌, length, refl, sym, ap, ◌∙◌, arith, true}
 use Rattle.std.specs.Prelude.{Option, Some, None, Result, Ok, Err, nat_lt, Vec}
 use Rattle.std.specs.declared.alloc.Global.{Global}
 use Rattle.std.proofs.lemmas.List.{length-append}
@@ -21,7 +21,7 @@ use Rattle.gufi_top.specs.declared.halt.Halt.TheVariants as halts
 use Rattle.gufi_top.specs.Reasons.{Reason, held, not_found, past_limit, file_in, trace_in, tree_within, trace_reason}
 use Rattle.gufi_top.specs.Calls.{Gives, GivesOver}
 use Rattle.gufi_top.specs.Views.{bytes_view}
-use Rattle.gufi_top.specs.Fed.{lines_within, lines_in, HasReadFile, IsFedUpTo}
+use Rattle.gufi_top.specs.Fed.{lines_within, lines_in, HasReadFile, IsFedUpTo, IsCount, HasBytes}
 
 pub file_whole : (told : Option Files) (max : ℕ) (name : List ℕ) (bytes : Vec ℕ Global) → Holds told name bytes.items → length bytes.items ≤ max
     → GivesOver told bytes_view (Ok bytes) (file_in max name)
@@ -59,6 +59,11 @@ pub ruleset opening = unheld
 pub fed_from_front : (told : Option Files) (name front : List ℕ) (left : Option (List ℕ)) (reader : Reading) → HasRead reader front → IsReadUpTo told name front left → IsFedUpTo told name left reader (length front)
 fed_from_front told name front left reader read upto = record { bytes = front; taken = read; count = refl; upto = upto }
 
+-- a file that was read whole isn't too long for its count
+pub counted : (told : Option Files) (name bytes : List ℕ) (max count : ℕ) → Holds told name bytes → length bytes ≤ max → max < 2 ^ 64 → IsCount count bytes → HasBytes told name count
+counted None name bytes max count holds short fits is = tt
+counted (Some files) name bytes max count holds short fits is = (bytes, holds, omega arith)
+
 -- ---- lines, and the tree of them
 
 -- a call that tells a reason, as one of a step that gives it
@@ -80,20 +85,19 @@ lines_are : (files : Files) (delim : ℕ) (name bytes : List ℕ) → files name
 unfolding lines_in
 lines_are files delim name bytes held short = ap (λ (r : Result (List ℕ) Reason). r >>= lines_within delim name) (held_bytes max_trace files name bytes held short)
 
-pub lines_ok : (told : Option Files) (delim : ℕ) (name : List ℕ) (reader : Reading) (lines : List Line) → HasReadFile told name reader → reader.delim ≡ delim
-    → ((stream : List ℕ) → HasRead reader stream → GivesUnless errors.Memory (Ok lines) (trace_lines reader.delim stream)) → GivesOver told (λ ls. ls) (Ok lines) (lines_in delim name)
+pub lines_read : (delim : ℕ) (name bytes : List ℕ) (lines : List Line) → trace_lines delim bytes ≡ Ok lines → lines_within delim name bytes ≡ Ok lines
 unfolding lines_within
-lines_ok None delim name reader lines file is read = tt
-lines_ok (Some files) delim name reader lines file is read =
-    lines_are files delim name file.0 file.1 file.2 ∙ ap (result_map_err (line_reason name)) (ap (λ (d : ℕ). trace_lines d file.0) (sym is) ∙ read file.0 file.3)
+lines_read delim name bytes lines read = ap (result_map_err (line_reason name)) read
 
-pub lines_refused : (told : Option Files) (delim : ℕ) (name : List ℕ) (reader : Reading) (fault : TraceFault) (r : Result (List Line) Halt) → HasReadFile told name reader → reader.delim ≡ delim
-    → ((stream : List ℕ) → HasRead reader stream → GivesUnless errors.Memory (Err (errors.Fault fault)) (trace_lines reader.delim stream)) → Gives (λ x. x) r (Err (trace_reason name (of_line (errors.Fault fault)))) → GivesOver told (λ ls. ls) r (lines_in delim name)
+pub lines_refused : (delim : ℕ) (name bytes : List ℕ) (fault : TraceFault) (r : Result (List Line) Halt)
+    → GivesUnless errors.Memory (Err (errors.Fault fault)) (trace_lines delim bytes) → Gives (λ x. x) r (Err (trace_reason name (of_line (errors.Fault fault)))) → Gives (λ ls. ls) r (lines_within delim name bytes)
 unfolding lines_within
-lines_refused None delim name reader fault r file is read told = tt
-lines_refused (Some files) delim name reader fault r file is read told =
-    given_as (λ ls. ls) r (trace_reason name (of_line (errors.Fault fault))) _ told
-    (lines_are files delim name file.0 file.1 file.2 ∙ ap (result_map_err (line_reason name)) (ap (λ (d : ℕ). trace_lines d file.0) (sym is) ∙ read file.0 file.3 (λ e. absurd cc)))
+lines_refused delim name bytes fault r read told = given_as (λ ls. ls) r (trace_reason name (of_line (errors.Fault fault))) _ told (ap (result_map_err (line_reason name)) (read (λ e. absurd cc)))
+
+pub lines_ok : (told : Option Files) (delim : ℕ) (name : List ℕ) (reader : Reading) (r : Result (List Line) Halt) → HasReadFile told name reader → reader.delim ≡ delim
+    → ((stream : List ℕ) → HasRead reader stream → Gives (λ ls. ls) r (lines_within reader.delim name stream)) → GivesOver told (λ ls. ls) r (lines_in delim name)
+lines_ok None delim name reader r file is read = tt
+lines_ok (Some files) delim name reader r file is read = rw (lines_are files delim name file.0 file.1 file.2, sym is) (read file.0 file.3)
 
 -- a reason that stays the reason of what follows
 pub stays : {A B : Type 0} (e : Halt) (step : Result A Reason) (next : Result B Reason) → Gives {A = A} (λ x. x) (Err e) step → ((why : Reason) → step ≡ Err why → next ≡ Err why) → Gives {A = B} (λ x. x) (Err e) next
@@ -106,7 +110,7 @@ unfolding lines_in
 lines_err None delim name e file = tt
 lines_err (Some files) delim name e file = stays e (file_in max_trace name files) _ file (λ why is. rw is refl)
 
-pub ruleset lines = (fed_from_front, lines_ok, lines_refused, lines_err)
+pub ruleset lines = (fed_from_front, lines_ok, lines_err)
 
 -- ---- the tree of a trace in a file
 

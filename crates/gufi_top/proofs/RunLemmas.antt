@@ -120,7 +120,7 @@ command_writes (variants.Index2trace index delim) files one =
     then_writes (index_in delim 0 index files) (λ snap. trace_written index delim snap.tree) (λ snap.
     then_writes (result_map_err (unwritten_reason index) (written_trace snap.tree [] delim)) writes_only (λ text. tt))
 command_writes (variants.Info index delim limit) files one =
-    then_writes (told_in delim limit index files) (λ indexed. writes_only (info_text indexed.image indexed.snap.tree indexed.snap.limit)) (λ indexed. tt)
+    then_writes (told_in delim limit index files) (λ indexed. writes_only (info_text indexed.image indexed.bytes indexed.snap.tree indexed.snap.limit)) (λ indexed. tt)
 command_writes (variants.Refresh index delim limit path trace) files one =
     then_writes (index_in delim limit index files) (λ snap. refresh_by delim limit path trace snap files) (λ snap.
     then_writes (trace_in delim trace files) (refreshed_image trace limit path snap) (λ part.

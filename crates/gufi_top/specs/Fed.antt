@@ -1,5 +1,6 @@
 -- Files that are taken as they come.
 use Rattle.std.specs.Prelude.{◌≡◌, ℕ, ◌≤◌, Bool, List, length, ⊤, Option, Some, None, Result}
+use Rattle.std.specs.Io.Iter.{u64_saturate}
 use Rattle.gufi_base.specs.Limits.{max_trace, max_image}
 use Rattle.gufi_base.specs.Basics.{◌>>=◌, result_map_err}
 use Rattle.gufi_base.specs.declared.record.Line.{Line}
@@ -38,3 +39,12 @@ IsImageFedUpTo = IsTakenUpTo HasReadImageBytes
 abbrev pub BeginsAs : Option Files → List ℕ → Bool → Type 0
 BeginsAs None name image = ⊤
 BeginsAs (Some files) name image = (bytes : List ℕ) × (files name ≡ Some bytes) × (is_image bytes ≡ image)
+
+-- how many bytes these are, capped at the greatest u64: what is counted of a file, which may be too long
+abbrev pub IsCount : ℕ → List ℕ → Type 0
+IsCount count bytes = count ≡ u64_saturate (length bytes)
+
+-- the file has so many bytes, where they are told
+abbrev pub HasBytes : Option Files → List ℕ → ℕ → Type 0
+HasBytes None name count = ⊤
+HasBytes (Some files) name count = (bytes : List ℕ) × (files name ≡ Some bytes) × (count ≡ length bytes)

@@ -313,6 +313,6 @@ index_by false delim limit = traced_in delim limit
 unfoldable pub index_in : ℕ → ℕ → List ℕ → Files → Result Snap Reason
 index_in delim limit file files = held files file >>= λ bytes. index_by (is_image bytes) delim limit file files
 
--- the same, and whether the file is an image
+-- the same, whether the file is an image, and how many bytes it has
 unfoldable pub told_in : ℕ → ℕ → List ℕ → Files → Result Indexed Reason
-told_in delim limit file files = held files file >>= λ bytes. index_in delim limit file files >>= λ snap. Ok (record { image = is_image bytes; snap = snap })
+told_in delim limit file files = held files file >>= λ bytes. index_in delim limit file files >>= λ snap. Ok (record { image = is_image bytes; bytes = length bytes; snap = snap })

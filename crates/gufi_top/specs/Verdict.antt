@@ -139,8 +139,11 @@ written_in user_at form select = unless_twice user_at select (twice_in form sele
 abbrev pub select_in : ℕ → Form → List ℕ → Result Select Reason
 select_in user_at form text = result_map_err (select_reason user_at) (read_select text) >>= written_in user_at form
 
+abbrev pub query_asked : ℕ → Form → List ℕ → Result Ask Reason
+query_asked user_at form text = select_in user_at form text >>= λ select. Ok (query_ask form select)
+
 abbrev pub query_asking : ℕ → Form → List ℕ → Asking
-query_asking user_at form text tables = select_in user_at form text >>= λ select. Ok (query_ask form select)
+query_asking user_at form text tables = query_asked user_at form text
 
 -- the text of an agg, in which no users play a part either
 abbrev pub agg_in : ℕ → List ℕ → Result Agg Reason
@@ -187,7 +190,7 @@ refresh_over index delim limit path trace files = index_in delim limit index fil
 -- ---- info: what an index holds
 
 unfoldable pub info_over : List ℕ → ℕ → ℕ → Files → Result Verdict Reason
-info_over index delim limit files = told_in delim limit index files >>= λ indexed. writes_only (info_text indexed.image indexed.snap.tree indexed.snap.limit)
+info_over index delim limit files = told_in delim limit index files >>= λ indexed. writes_only (info_text indexed.image indexed.bytes indexed.snap.tree indexed.snap.limit)
 
 -- ---- diff: what changed from one index to another of the rows that USER lists from START
 

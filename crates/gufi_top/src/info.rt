@@ -15,12 +15,12 @@ use std::mem::forget;
 
 // What `info` writes of an index that was read.
 fn tell_indexed(alloc: Global, indexed: Indexed) -> Result<Output, Halt>
-    ensures text { Gives text_view result (writes_only (info_text indexed.image indexed.snap.tree indexed.snap.limit)) }
+    ensures text { Gives text_view result (writes_only (info_text indexed.image indexed.bytes indexed.snap.tree indexed.snap.limit)) }
     ensures of_bytes { IfErr result IsOfBytes }
     ensures past_words { IfErr result IsPastWords }
 {
-    let Indexed { image, snap } = indexed;
-    let text = info_text(alloc, &snap, image);
+    let Indexed { image, bytes, snap } = indexed;
+    let text = info_text(alloc, &snap, image, bytes);
     // The run ends soon, so the snapshot isn't given back part by part.
     forget(snap);
     Ok(Output {

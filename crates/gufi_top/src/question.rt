@@ -12,7 +12,7 @@ ghost use Rattle.gufi_ask.specs.Asks.{find_ask, query_ask, agg_ask};
 ghost use Rattle.gufi_top.specs.Questions.{asks};
 ghost use Rattle.gufi_top.specs.Reasons.{word_fault, text_fault, column_twice};
 ghost use Rattle.gufi_top.specs.Views.{text_view};
-ghost use Rattle.gufi_top.specs.Verdict.{asked, asked_if, expression_in, find_asking, named_by, stats_asking, report_of, form_of, twice_in, written_in, select_in, query_asking, agg_in, agg_asking};
+ghost use Rattle.gufi_top.specs.Verdict.{asked, asked_if, expression_in, find_asking, named_by, stats_asking, report_of, form_of, twice_in, written_in, select_in, query_asked, query_asking, agg_in, agg_asking};
 ghost use Rattle.gufi_top.specs.Calls.{Gives, IsOfBytes};
 
 use crate::halt::{Halt, Output, refused};
@@ -299,6 +299,83 @@ fn grouped<R: Threads + Wait + Sync, G: Gate + Sync>(
     written_over(alloc, snap, reply)
 }
 
+impl Find<'_> {
+    // What is written of a snapshot: the words are judged before the start.
+    #[tactic(auto, using(crate::proofs::SearchLemmas::expressions))]
+    fn answer<R: Threads + Wait + Sync, G: Gate + Sync>(
+        &self,
+        walkers: &Walkers<'_, R, G>,
+        alloc: Global,
+        users: &Users,
+        snap: Snapshot,
+        who: &Principal,
+        start: &Path,
+    ) -> Result<Output, Halt>
+        ensures text { Gives text_view result (asked_if snap.tree who.now start.now (find_asking self.now.user_at self.now.moment (option_copied self.now.prefix) self.now.words.now users.now)) }
+        ensures of_bytes { IfErr result IsOfBytes }
+    {
+        match self.expression(alloc, users) {
+            Ok(expression) => found(walkers, alloc, snap, who, start, self.prefix, expression),
+            Err(halt) => {
+                drop(snap);
+                Err(halt)
+            }
+        }
+    }
+}
+
+impl Query<'_> {
+    // The same of a SELECT.
+    #[tactic(auto, using(crate::proofs::SearchLemmas::selects))]
+    fn answer<R: Threads + Wait + Sync, G: Gate + Sync>(
+        &self,
+        walkers: &Walkers<'_, R, G>,
+        alloc: Global,
+        snap: Snapshot,
+        who: &Principal,
+        start: &Path,
+    ) -> Result<Output, Halt>
+        ensures text { Gives text_view result (asked_if snap.tree who.now start.now (query_asked self.now.user_at self.now.form self.now.text.now)) }
+        ensures of_bytes { IfErr result IsOfBytes }
+    {
+        match self.select(alloc) {
+            Ok(select) => selected(walkers, alloc, snap, who, start, self.form, select),
+            Err(halt) => {
+                drop(snap);
+                Err(halt)
+            }
+        }
+    }
+}
+
+impl Aggregate<'_> {
+    // The same of an agg.
+    #[tactic(auto, using(crate::proofs::SearchLemmas::aggs))]
+    fn answer<R: Threads + Wait + Sync, G: Gate + Sync>(
+        &self,
+        walkers: &Walkers<'_, R, G>,
+        alloc: Global,
+        users: &Users,
+        snap: Snapshot,
+        who: &Principal,
+        start: &Path,
+    ) -> Result<Output, Halt>
+        ensures text { Gives text_view result (asked_if snap.tree who.now start.now (agg_asking self.now.user_at self.now.names self.now.text.now users.now)) }
+        ensures of_bytes { IfErr result IsOfBytes }
+    {
+        match self.agg(alloc) {
+            Ok(agg) => {
+                let names = named_by(self.names, users);
+                grouped(walkers, alloc, snap, who, start, names, agg)
+            }
+            Err(halt) => {
+                drop(snap);
+                Err(halt)
+            }
+        }
+    }
+}
+
 /// What a command asks of an index for a principal from a start on.
 #[derive(Clone, Copy)]
 pub(crate) enum Question<'a> {
@@ -364,7 +441,7 @@ impl<'a> Question<'a> {
     }
 
     /// What it writes of a snapshot. The query words are judged before the start; sums are made where the question asks for them.
-    #[tactic(auto, using(crate::proofs::ReplyLemmas::asking, crate::proofs::SearchLemmas::expressions, crate::proofs::SearchLemmas::selects, crate::proofs::SearchLemmas::aggs))]
+    #[tactic(auto, using(crate::proofs::ReplyLemmas::asking))]
     pub(crate) fn answer<R: Threads + Wait + Sync, G: Gate + Sync>(
         &self,
         walkers: &Walkers<'_, R, G>,
@@ -378,30 +455,9 @@ impl<'a> Question<'a> {
         ensures of_bytes { IfErr result IsOfBytes }
     {
         match self {
-            Question::Find(find) => match find.expression(alloc, users) {
-                Ok(expression) => found(walkers, alloc, snap, who, start, find.prefix, expression),
-                Err(halt) => {
-                    drop(snap);
-                    Err(halt)
-                }
-            },
-            Question::Query(query) => match query.select(alloc) {
-                Ok(select) => selected(walkers, alloc, snap, who, start, query.form, select),
-                Err(halt) => {
-                    drop(snap);
-                    Err(halt)
-                }
-            },
-            Question::Agg(aggregate) => match aggregate.agg(alloc) {
-                Ok(agg) => {
-                    let names = named_by(aggregate.names, users);
-                    grouped(walkers, alloc, snap, who, start, names, agg)
-                }
-                Err(halt) => {
-                    drop(snap);
-                    Err(halt)
-                }
-            },
+            Question::Find(find) => find.answer(walkers, alloc, users, snap, who, start),
+            Question::Query(query) => query.answer(walkers, alloc, snap, who, start),
+            Question::Agg(aggregate) => aggregate.answer(walkers, alloc, users, snap, who, start),
             Question::Stat => {
                 let reply = record_text(alloc, &snap, who, start);
                 written_over(alloc, snap, reply)

@@ -1,5 +1,5 @@
 //! The files that the words name.
-ghost use Rattle.std.specs.Prelude.{◌≡◌, ◌≤◌, ◌<◌, ◌+◌, [], true, length, IfErr, IfOk, OnOk, IsTrue, Err};
+ghost use Rattle.std.specs.Prelude.{◌≡◌, ◌≤◌, ◌<◌, ℕ, ◌+◌, ◌++◌, List, [], true, length, IfErr, IfOk, OnOk, IsTrue, Err};
 ghost use Rattle.gufi_base.specs.Basics.{result_map_err};
 ghost use Rattle.gufi_base.specs.Limits.{max_dirs, max_entries, max_trace};
 ghost use Rattle.gufi_tree.specs.Build.{tree_of};
@@ -11,7 +11,7 @@ ghost use Rattle.gufi_trace.specs.TraceText.{of_line, of_tree};
 ghost use Rattle.gufi_top.specs.Views.{bytes_view};
 ghost use Rattle.gufi_top.specs.Reasons.{held, file_in, trace_in, tree_within, trace_reason};
 ghost use Rattle.gufi_top.specs.Calls.{Gives, GivesOver, IsOfBytes, IsPastWords, HaltHasCause};
-ghost use Rattle.gufi_top.specs.Fed.{lines_in, HasReadFile, IsFedUpTo};
+ghost use Rattle.gufi_top.specs.Fed.{lines_within, lines_in, HasReadFile, IsFedUpTo, IsCount, HasBytes};
 
 use crate::halt::{Halt, refused};
 use crate::note;
@@ -89,24 +89,34 @@ fn reader_of(alloc: Global, delim: u8, front: &[u8]) -> Result<TraceReader, Memo
     Ok(reader)
 }
 
+/// Counts a piece of a file. The count stays at the greatest u64 once it comes to it.
+pub(crate) fn count_piece(count: u64, piece: &[u8]) -> u64
+    ensures { (bytes : List ℕ) → IsCount count bytes → IsCount result (bytes ++ piece.now) }
+{
+    count.saturating_add(piece.len() as u64)
+}
+
 // A reader of a trace that takes a file. A faulty line waits in it, since that the file is too long comes before it.
 #[derive(Drop)]
 struct Feed {
     reader: TraceReader,
+    /// How many bytes it has taken.
+    count: u64,
 }
 
 impl TakeBytes for Feed {
-    ghost has_taken = { λ first feed bytes. HasRead feed.reader bytes × (feed.reader.delim ≡ first.reader.delim) };
+    ghost has_taken = { λ first feed bytes. HasRead feed.reader bytes × (feed.reader.delim ≡ first.reader.delim) × IsCount feed.count bytes };
 
     fn take_piece(&mut self, alloc: Global, piece: &[u8]) -> Result<(), AllocError> {
         let _ = self.reader.feed(alloc, piece);
+        self.count = count_piece(self.count, piece);
         Ok(())
     }
 }
 
 // Feeds the rest of the file in hand to a reader that has read so many bytes of it, to its end or until it is longer than
-// a trace may be.
-#[tactic(auto, using(crate::proofs::ReadingLemmas::file_too_long))]
+// a trace may be, and tells how many bytes there are.
+#[tactic(auto, using(crate::proofs::ReadingLemmas::file_too_long, crate::proofs::ReadingLemmas::counted))]
 fn feed_rest<F: Shelf>(
     alloc: Global,
     shelf: &mut F,
@@ -114,20 +124,26 @@ fn feed_rest<F: Shelf>(
     room: &mut [u8],
     reader: TraceReader,
     size: usize,
+    bytes: &mut u64,
 ) -> Result<TraceReader, Halt>
     requires in_hand { IsTrue (F.in_hand shelf.old) }
     requires room { 0 < length room.old }
     requires fed { IsFedUpTo (F.files shelf.old) name.now (F.left shelf.old) reader size }
     ensures fed { IfOk result (HasReadFile (F.files shelf.old) name.now) }
     ensures delim { IfOk result (λ fed. fed.delim ≡ reader.delim) }
+    ensures bytes { OnOk result (HasBytes (F.files shelf.old) name.now bytes.new) }
     ensures refused { IfErr result (λ e. GivesOver (F.files shelf.old) bytes_view (Err e) (file_in max_trace name.now)) }
     ensures past_words { IfErr result IsPastWords }
     ensures cause { IfErr result (HaltHasCause F.Shelf shelf.old shelf.new) }
     ensures kept { Keeps F.Shelf shelf.old shelf.new }
 {
-    let mut feed = Feed { reader };
+    let count = size as u64;
+    let mut feed = Feed { reader, count };
     match read_rest(alloc, shelf, name, room, MAX_TRACE, size, &mut feed) {
-        Ok(()) => Ok(feed.reader),
+        Ok(()) => {
+            *bytes = feed.count;
+            Ok(feed.reader)
+        }
         Err(RestError::ReadFault) => {
             drop(feed);
             Err(Halt::ReadFault)
@@ -143,8 +159,24 @@ fn feed_rest<F: Shelf>(
     }
 }
 
-// The lines of the trace in hand by their stanzas, of which this front was read. Its bytes are never all in memory.
-#[tactic(auto, using(crate::proofs::ReadingLemmas::lines))]
+// The lines of all that a reader has read, by their stanzas.
+#[tactic(auto, using(crate::proofs::ReadingLemmas::lines_refused))]
+fn lines_of(alloc: Global, name: &str, reader: TraceReader) -> Result<Stanzas, Halt>
+    ensures lines { (stream : List ℕ) → HasRead reader stream → Gives (λ lines. lines) result (lines_within reader.delim name.now stream) }
+    ensures of_bytes { IfErr result IsOfBytes }
+    ensures past_words { IfErr result IsPastWords }
+    ensures few { IfOk result (λ lines. length lines ≤ max_dirs + max_entries) }
+{
+    match reader.finish_stanzas() {
+        Ok(lines) => Ok(lines),
+        Err(TraceError::Fault(fault)) => refuse_line(alloc, name, fault),
+        Err(TraceError::Memory) => Err(Halt::Memory),
+    }
+}
+
+// The lines of the trace in hand by their stanzas, of which this front was read, and how many bytes there are. These are never all
+// in memory.
+#[tactic(auto, using(crate::proofs::ReadingLemmas::lines, crate::proofs::StepLemmas::cause_of_bytes))]
 fn rest_of_lines<F: Shelf>(
     alloc: Global,
     shelf: &mut F,
@@ -152,23 +184,21 @@ fn rest_of_lines<F: Shelf>(
     delim: u8,
     room: &mut [u8],
     front: &[u8],
+    bytes: &mut u64,
 ) -> Result<Stanzas, Halt>
     requires in_hand { IsTrue (F.in_hand shelf.old) }
     requires room { 0 < length room.old }
     requires upto { IsReadUpTo (F.files shelf.old) name.now front.now (F.left shelf.old) }
     ensures lines { GivesOver (F.files shelf.old) (λ lines. lines) result (lines_in delim name.now) }
+    ensures bytes { OnOk result (HasBytes (F.files shelf.old) name.now bytes.new) }
     ensures past_words { IfErr result IsPastWords }
     ensures cause { IfErr result (HaltHasCause F.Shelf shelf.old shelf.new) }
     ensures kept { Keeps F.Shelf shelf.old shelf.new }
     ensures few { IfOk result (λ lines. length lines ≤ max_dirs + max_entries) }
 {
     let reader = reader_of(alloc, delim, front)?;
-    let reader = feed_rest(alloc, shelf, name, room, reader, front.len())?;
-    match reader.finish_stanzas() {
-        Ok(lines) => Ok(lines),
-        Err(TraceError::Fault(fault)) => refuse_line(alloc, name, fault),
-        Err(TraceError::Memory) => Err(Halt::Memory),
-    }
+    let reader = feed_rest(alloc, shelf, name, room, reader, front.len(), bytes)?;
+    lines_of(alloc, name, reader)
 }
 
 // The tree of the lines.
@@ -186,7 +216,7 @@ fn build_tree(alloc: Global, name: &str, lines: Stanzas) -> Result<Tree, Halt>
     }
 }
 
-/// The tree of the trace in hand, of which this front was read.
+/// The tree of the trace in hand, of which this front was read, and how many bytes it has.
 #[tactic(auto, using(crate::proofs::ReadingLemmas::traces))]
 pub(crate) fn rest_of_trace<F: Shelf>(
     alloc: Global,
@@ -195,16 +225,18 @@ pub(crate) fn rest_of_trace<F: Shelf>(
     delim: u8,
     room: &mut [u8],
     front: &[u8],
+    bytes: &mut u64,
 ) -> Result<Tree, Halt>
     requires in_hand { IsTrue (F.in_hand shelf.old) }
     requires room { 0 < length room.old }
     requires upto { IsReadUpTo (F.files shelf.old) name.now front.now (F.left shelf.old) }
     ensures tree { GivesOver (F.files shelf.old) (λ tree. tree) result (trace_in delim name.now) }
+    ensures bytes { OnOk result (HasBytes (F.files shelf.old) name.now bytes.new) }
     ensures past_words { IfErr result IsPastWords }
     ensures cause { IfErr result (HaltHasCause F.Shelf shelf.old shelf.new) }
     ensures kept { Keeps F.Shelf shelf.old shelf.new }
 {
-    match rest_of_lines(alloc, shelf, name, delim, room, front) {
+    match rest_of_lines(alloc, shelf, name, delim, room, front, bytes) {
         Ok(lines) => build_tree(alloc, name, lines),
         Err(halt) => Err(halt),
     }
@@ -225,7 +257,8 @@ pub(crate) fn read_trace_file<F: Shelf>(
 {
     open_named(alloc, shelf, name)?;
     let mut buffer = piece_buffer(alloc)?;
-    rest_of_trace(alloc, shelf, name, delim, buffer.as_mut_slice(), &[])
+    let room = buffer.as_mut_slice();
+    rest_of_trace(alloc, shelf, name, delim, room, &[], &mut 0)
 }
 
 /// The tree of a trace that comes whole, as of a file of this name.

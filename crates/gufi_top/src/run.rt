@@ -62,6 +62,7 @@ fn run_one_shot<R: Threads + Wait + Sync, F: Shelf, K: Sink, G: Gate + Sync>(
     match answer_command(&walkers, alloc, command, shelf) {
         Ok(output) => {
             let status = write_output(&output, out, notes);
+            drop(output);
             let numbers = Vec::new(alloc);
             Outcome { status, numbers }
         }
@@ -164,7 +165,11 @@ pub fn gufi_run<R: Threads + Wait + Sync, F: Shelf, K: Sink, G: Gate + Sync>(
     ensures memory { result.status ≡ 7 → BrokenOff K.Sink Anywhere (F.files shelf.old) (texts words.now) result out.old out.new notes.old notes.new memory_note }
 {
     match read_command(alloc, words) {
-        Ok(command) => run_command(rt, alloc, &command, shelf, out, notes, gate),
+        Ok(command) => {
+            let outcome = run_command(rt, alloc, &command, shelf, out, notes, gate);
+            drop(command);
+            outcome
+        }
         Err(halt) => halted(alloc, halt, notes),
     }
 }

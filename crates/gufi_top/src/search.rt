@@ -53,7 +53,11 @@ fn ask_by<R: Threads + Wait + Sync, G: Gate + Sync>(
     ensures of_bytes { IfErr result IsOfBytes }
 {
     match principal_of(alloc, common, users) {
-        Ok(who) => question.answer(walkers, alloc, users, snap, &who, &common.start),
+        Ok(who) => {
+            let output = question.answer(walkers, alloc, users, snap, &who, &common.start);
+            drop(who);
+            output
+        }
         Err(halt) => {
             drop(snap);
             Err(halt)
@@ -99,7 +103,11 @@ pub(crate) fn ask<R: Threads + Wait + Sync, F: Shelf, G: Gate + Sync>(
     ensures kept { Keeps F.Shelf shelf.old shelf.new }
 {
     match read_users(alloc, shelf, &common.passwd, &common.group) {
-        Ok(users) => ask_index(walkers, alloc, shelf, common, question, &users),
+        Ok(users) => {
+            let output = ask_index(walkers, alloc, shelf, common, question, &users);
+            drop(users);
+            output
+        }
         Err(halt) => Err(halt),
     }
 }

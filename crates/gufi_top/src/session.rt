@@ -157,7 +157,9 @@ fn read_plan<F: Shelf>(
                 now: session.moment,
                 delim: session.delim,
             };
-            read_script_plan(alloc, shelf, session.script.as_str(), &setup)
+            let plan = read_script_plan(alloc, shelf, session.script.as_str(), &setup);
+            drop(users);
+            plan
         }
         Err(halt) => Err(halt),
     }
@@ -285,7 +287,9 @@ pub(crate) fn run<R: Threads + Wait + Sync, F: Shelf, K: Sink, G: Gate + Sync>(
     match read_plan(alloc, shelf, session) {
         Ok(plan) => {
             let Session { workers, cache, .. } = *session;
-            run_plan(rt, alloc, &plan, workers, cache, shelf, out, notes, gate)
+            let outcome = run_plan(rt, alloc, &plan, workers, cache, shelf, out, notes, gate);
+            drop(plan);
+            outcome
         }
         Err(halt) => halted(alloc, halt, notes),
     }

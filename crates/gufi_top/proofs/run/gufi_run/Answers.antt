@@ -10,14 +10,14 @@ use Rattle.gufi_top.proofs.run.gufi_run.Goals as goal
 pub returns-in-Ok : goal.returns-in-Ok
 returns-in-Ok g c =
     let words = texts c.args.words.now in
-    let run = words_run g.F.Shelf g.K.Sink _ words c.in-Ok.command c.in-Ok.ensures.command c.run_command.ensures.run in
+    let run = words_run g.F.Shelf g.K.Sink _ words c.in-Ok.command c.in-Ok.ensures.command c.run_command-outcome.ensures.run in
     record {
       ended = run.ended;
       complete = completes g.F.Shelf g.K.Sink words _ _ _ _ _ _ _ _ run;
       refused = none_refused words c.in-Ok.command _ c.in-Ok.ensures.command;
-      words = λ is. words_ok g.K.Sink words c.in-Ok.command _ _ c.in-Ok.ensures.command (c.run_command.ensures.words is);
+      words = λ is. words_ok g.K.Sink words c.in-Ok.command _ _ c.in-Ok.ensures.command (c.run_command-outcome.ensures.words is);
       known = run.known;
-      silent = rw (one_shot_ok _ _ c.in-Ok.ensures.command) c.run_command.ensures.silent;
+      silent = rw (one_shot_ok _ _ c.in-Ok.ensures.command) c.run_command-outcome.ensures.silent;
       kept = run.kept;
       absent = run.absent;
       read_fault = run.read_fault;

@@ -5,7 +5,7 @@ use Rattle.gufi_top.proofs.session.run.Goals as goal
 
 pub returns-in-Ok-clause-run : goal.returns-in-Ok-clause-run
 returns-in-Ok-clause-run g c =
-    rw (session_of _ _ _ _ _ _ _ c.in-Ok.plan c.in-Ok.ensures.plan, sym c.in-Ok.ensures.kept.files) (run_later g.F.Shelf g.K.Sink c.in-Ok.ensures.kept c.in-Ok.ensures.opens c.run_plan.ensures.run)
+    rw (session_of _ _ _ _ _ _ _ c.in-Ok.plan c.in-Ok.ensures.plan, sym c.in-Ok.ensures.kept.files) (run_later g.F.Shelf g.K.Sink c.in-Ok.ensures.kept c.in-Ok.ensures.opens c.run_plan-outcome.ensures.run)
 
 pub returns-in-Err-clause-run : goal.returns-in-Err-clause-run
 returns-in-Err-clause-run g c =
