@@ -123,7 +123,5 @@ pub fn usage_text<P: Pred, S: Skip>(
     ensures refusal { IfErr result (λ refusal. refusal ≢ Refusal.Memory → refusal_of (resolve snap.now.tree who.now start.now) ≡ Some refusal) }
 {
     let id = found_start(snap, who, start)?;
-    let blank = Blank::new(1);
-    let text = lines_from::<P, S, Brand>(alloc, snap, who, id, depth, pred, skip, blank)?;
-    Ok(text)
+    Ok(lines_from::<P, S, Brand>(alloc, snap, who, id, depth, pred, skip, Blank::new(1))?)
 }

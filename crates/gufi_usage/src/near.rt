@@ -1,6 +1,6 @@
 //! The directories near a start, with what the rows at and below each take up.
 
-ghost use Rattle.std.specs.Prelude.{◌≡◌, ℕ, ◌<◌, ◌≤◌, true, not, List, ◌++◌, length, map, filter, slice_index_or, IfOk, OnOk};
+ghost use Rattle.std.specs.Prelude.{◌≡◌, ℕ, ◌<◌, ◌≤◌, true, not, List, [], ◌∷◌, ◌++◌, length, map, filter, slice_index_or, IfOk, OnOk, if◌then◌else◌};
 ghost use Rattle.gufi_base.specs.declared.record.Row.{Row};
 ghost use Rattle.gufi_tree.specs.Tree.{Directory, own_rows};
 ghost use Rattle.gufi_tree.specs.Places.{path_at};
@@ -28,6 +28,22 @@ pub(crate) struct DirUsage {
     pub(crate) usage: Usage,
 }
 
+/// Adds a directory where it may be listed, apart from those above it.
+fn add_if_open(
+    kids: &mut Vec<DirId>,
+    snap: &Snapshot,
+    who: &Principal,
+    id: DirId,
+) -> Result<(), AllocError>
+    requires { id.0 < length snap.now.tree }
+    ensures { OnOk result (kids.new.items ≡ kids.old.items ++ (if lists_at snap.now.tree who.now (path_at snap.now.tree id.0) then id ∷ [] else [])) }
+{
+    if lists(who, &snap.tree().guard(id)) {
+        kids.push(id)?;
+    }
+    Ok(())
+}
+
 /// The subdirectories that may be listed.
 fn open_subdirs(
     alloc: Global,
@@ -38,14 +54,11 @@ fn open_subdirs(
     requires { id.0 < length snap.now.tree }
     ensures { IfOk result (λ ids. ids.items ≡ open_ids snap.now.tree who.now (path_at snap.now.tree id.0)) }
 {
-    let tree = snap.tree();
-    let mut open = Vec::new(alloc);
-    for kid in tree.subdirs(id) {
-        if lists(who, &tree.guard(*kid)) {
-            open.push(*kid)?;
-        }
+    let mut kids = Vec::new(alloc);
+    for kid in snap.tree().subdirs(id) {
+        add_if_open(&mut kids, snap, who, *kid)?;
     }
-    Ok(open)
+    Ok(kids)
 }
 
 /// What the chosen rows of one directory take up: its own and its entries'.
