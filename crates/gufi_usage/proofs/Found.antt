@@ -90,44 +90,38 @@ module _ (tree : List Directory) (who : Principal) (shape : HasTreeShape tree) w
       near-in_tree levels kid w.within))
       (in_tree, tt)
 
+  near-kids : (id : DirId) (cut : ℕ) → id.0 < length tree → lists_at tree who (path_at tree id.0) ≡ true → length (path_at tree id.0) ≤ cut
+      → IsPermutation (within tree who cut (path_at tree id.0)) (path_at tree id.0 ∷ flat_map (λ (i : DirId). within tree who cut (path_at tree i.0)) (open_ids tree who (path_at tree id.0)))
+  near-kids id cut in_tree listed few =
+      let h = here tree who shape id.0 in_tree listed in
+      let p : Components = path_at tree id.0 in
+      let N : Components → List Components = within tree who cut in
+      let at_path : IsPermutation (N p) (p ∷ flat_map (λ (k : Directory). N k.path) (open_dirs tree who p)) =
+      subst (λ q. IsPermutation (N q) (q ∷ flat_map (λ (k : Directory). N k.path) (open_dirs tree who q))) h.3 (within-step tree who shape h.0 h.1 h.2 cut (omega (arith, few, ap length h.3))) in
+      let same : flat_map (λ (k : Directory). N k.path) (open_dirs tree who p) ≡ flat_map (λ (i : DirId). N (path_at tree i.0)) (open_ids tree who p) =
+      sym (flat_map-map N (λ (dir : Directory). dir.path) (open_dirs tree who p)) ∙ ap (flat_map N) (sym (open_at tree who shape id.0 in_tree)) ∙ flat_map-map N (λ (i : DirId). path_at tree i.0) (open_ids tree who p) in
+      subst (λ l. IsPermutation (N p) (p ∷ l)) same at_path
+
   pub near-within : (levels : ℕ) (id : DirId) (cut : ℕ) → id.0 < length tree → lists_at tree who (path_at tree id.0) ≡ true → length (path_at tree id.0) + levels ≡ cut
       → IsPermutation (map (λ (i : DirId). path_at tree i.0) (near tree who levels id)) (within tree who cut (path_at tree id.0))
-  near-within levels id cut in_tree listed len = by levels len where
-    p : Components
-    p = path_at tree id.0
-
-    P : DirId → Components
-    P i = path_at tree i.0
-
-    kids : IsPermutation (within tree who cut (path_at tree id.0)) (path_at tree id.0 ∷ flat_map (λ (i : DirId). within tree who cut (path_at tree i.0)) (open_ids tree who (path_at tree id.0)))
-    kids =
-        let h = here tree who shape id.0 in_tree listed in
-        let N : Components → List Components = within tree who cut in
-        let at_path : IsPermutation (N (path_at tree id.0)) (path_at tree id.0 ∷ flat_map (λ (k : Directory). N k.path) (open_dirs tree who (path_at tree id.0))) =
-        subst (λ q. IsPermutation (N q) (q ∷ flat_map (λ (k : Directory). N k.path) (open_dirs tree who q))) h.3 (within-step tree who shape h.0 h.1 h.2 cut (omega (arith, len, ap length h.3))) in
-        let same : flat_map (λ (k : Directory). N k.path) (open_dirs tree who (path_at tree id.0)) ≡ flat_map (λ (i : DirId). N (path_at tree i.0)) (open_ids tree who (path_at tree id.0)) =
-        sym (flat_map-map N (λ (dir : Directory). dir.path) (open_dirs tree who (path_at tree id.0))) ∙ ap (flat_map N) (sym (open_at tree who shape id.0 in_tree)) ∙ flat_map-map N (λ (i : DirId). path_at tree i.0) (open_ids tree who (path_at tree id.0)) in
-        subst (λ l. IsPermutation (N (path_at tree id.0)) (path_at tree id.0 ∷ l)) same at_path
-
-    by : (levels : ℕ) → length (path_at tree id.0) + levels ≡ cut → IsPermutation (map (λ (i : DirId). path_at tree i.0) (near tree who levels id)) (within tree who cut (path_at tree id.0))
-    by zero e =
-        let ids : List DirId = open_ids tree who (path_at tree id.0) in
-        let none : flat_map (λ (i : DirId). within tree who cut (path_at tree i.0)) ids ≡ [] = flat_map-none (λ (i : DirId). within tree who cut (path_at tree i.0)) ids (λ kid h.
-        let w = All-Has (IsKid tree who shape id.0 in_tree) ids kid (are_kids tree who shape id.0 in_tree) h in
-        within-none tree who cut (path_at tree kid.0) (omega (arith, e, w.deeper))) in
-        IsPermutation-sym _ _ (subst (λ l. IsPermutation (within tree who cut (path_at tree id.0)) (path_at tree id.0 ∷ l)) none kids)
-    by (suc levels) e =
-        let ids : List DirId = open_ids tree who (path_at tree id.0) in
-        let below : List DirId = flat_map (near tree who levels) ids in
-        let M : DirId → Components = λ i. path_at tree i.0 in
-        let each : IsPermutation (map M below) (flat_map (λ (i : DirId). within tree who cut (path_at tree i.0)) ids) =
-        subst (λ l. IsPermutation l (flat_map (λ (i : DirId). within tree who cut (path_at tree i.0)) ids)) (sym (map-flat_map (near tree who levels) M ids))
-        (flat_map-moved (λ i. map M (near tree who levels i)) (λ i. within tree who cut (path_at tree i.0)) ids (λ kid h.
-        let w = All-Has (IsKid tree who shape id.0 in_tree) ids kid (are_kids tree who shape id.0 in_tree) h in
-        near-within levels kid cut w.within w.listed (omega (arith, e, w.deeper)))) in
-        subst (λ l. IsPermutation l (within tree who cut (path_at tree id.0))) (sym (map-append M below (id ∷ [])))
-        (IsPermutation-trans _ _ _ (IsPermutation-to_front (map M below) (path_at tree id.0))
-        (IsPermutation-trans _ _ _ (IsPermutation-cons (path_at tree id.0) _ _ each) (IsPermutation-sym _ _ kids)))
+  near-within zero id cut in_tree listed e =
+      let ids : List DirId = open_ids tree who (path_at tree id.0) in
+      let none : flat_map (λ (i : DirId). within tree who cut (path_at tree i.0)) ids ≡ [] = flat_map-none (λ (i : DirId). within tree who cut (path_at tree i.0)) ids (λ kid h.
+      let w = All-Has (IsKid tree who shape id.0 in_tree) ids kid (are_kids tree who shape id.0 in_tree) h in
+      within-none tree who cut (path_at tree kid.0) (omega (arith, e, w.deeper))) in
+      IsPermutation-sym _ _ (subst (λ l. IsPermutation (within tree who cut (path_at tree id.0)) (path_at tree id.0 ∷ l)) none (near-kids id cut in_tree listed (omega (arith, e))))
+  near-within (suc levels) id cut in_tree listed e =
+      let ids : List DirId = open_ids tree who (path_at tree id.0) in
+      let below : List DirId = flat_map (near tree who levels) ids in
+      let M : DirId → Components = λ i. path_at tree i.0 in
+      let each : IsPermutation (map M below) (flat_map (λ (i : DirId). within tree who cut (path_at tree i.0)) ids) =
+      subst (λ l. IsPermutation l (flat_map (λ (i : DirId). within tree who cut (path_at tree i.0)) ids)) (sym (map-flat_map (near tree who levels) M ids))
+      (flat_map-moved (λ i. map M (near tree who levels i)) (λ i. within tree who cut (path_at tree i.0)) ids (λ kid h.
+      let w = All-Has (IsKid tree who shape id.0 in_tree) ids kid (are_kids tree who shape id.0 in_tree) h in
+      near-within levels kid cut w.within w.listed (omega (arith, e, w.deeper)))) in
+      subst (λ l. IsPermutation l (within tree who cut (path_at tree id.0))) (sym (map-append M below (id ∷ [])))
+      (IsPermutation-trans _ _ _ (IsPermutation-to_front (map M below) (path_at tree id.0))
+      (IsPermutation-trans _ _ _ (IsPermutation-cons (path_at tree id.0) _ _ each) (IsPermutation-sym _ _ (near-kids id cut in_tree listed (omega (arith, e))))))
 
   -- ---- by rows
 
@@ -211,3 +205,8 @@ module _ (tree : List Directory) (who : Principal) (shape : HasTreeShape tree) w
         (All-from_recursion _ _ (All-map (λ (d : DirUsage). line_of tree d ≡ T (P d)) U (near tree who depth id) (all_true _ (λ i. refl) (near tree who depth id))))) in
         flat_map-agree (line_of tree) (λ d. T (P d)) sorted (λ d h. All-Has (λ (d : DirUsage). line_of tree d ≡ T (P d)) sorted d each h)
         ∙ sym (flat_map-map T P sorted) ∙ ap (flat_map T) same ∙ sym (lines-within start depth sat) ∙ ap (usage_lines depth sat start) (sym (filter-all (listed_rows tree who start)))
+
+-- what was found, as the code tells it
+pub found-as : (tree : List Directory) (who : Principal) (sat m : Row → ℕ → Bool) (id : DirId) (depth above : ℕ) (none found : List DirUsage) → none ≡ [] → m ≡ sat → above ≡ length (path_at tree id.0)
+    → found ≡ none ++ map (usage_at tree who (meets m above)) (near tree who depth id) → found ≡ map (usage_at tree who (meets sat (length (path_at tree id.0)))) (near tree who depth id)
+found-as tree who sat m id depth above none found empty same deep e = e ∙ (λ i. empty i ++ map (usage_at tree who (meets (same i) (deep i))) (near tree who depth id))
