@@ -1,18 +1,16 @@
 -- The rows of the directories that are listed from one on: its own rows, and those from its subdirectories that may be listed.
-use Rattle.std.proofs.Common.{◌≡◌, ℕ, zero, suc, ◌+◌, ◌≤◌, inl, inr, ◌⊎◌, Bool, true, false, not, ◌&&◌, ◌||◌, cond, List, [], ◌∷◌, ◌++◌, map, length, refl, sym, ap, ◌∙◌, subst, arith, length-append}
-use Rattle.std.specs.Prelude.{nat_le, bytes_eq}
+use Rattle.std.proofs.Common.{◌≡◌, inl, inr, ◌⊎◌, Bool, true, false, not, ◌&&◌, ◌||◌, List, [], ◌∷◌, ◌++◌, map, refl, sym, ap, ◌∙◌, subst}
 use Rattle.std.specs.Cmp.Lexicographic.{bytes_decides}
-use Rattle.std.specs.List.{filter, flat_map, list_all}
+use Rattle.std.specs.List.{filter, flat_map}
 use Rattle.std.specs.List.Sorted.{IsPermutation}
 use Rattle.std.proofs.lemmas.Bool.{false≢true, false_from_ne_true, and_parts, and_from}
-use Rattle.std.proofs.lemmas.Grind.{flat_map-append}
-use Rattle.std.proofs.lemmas.List.{append-nil, map-append}
+use Rattle.std.proofs.lemmas.List.{map-append}
 use Rattle.std.proofs.lemmas.List.Elements.{filter-append}
-use Rattle.std.proofs.lemmas.List.Sorted.{IsPermutation-refl, IsPermutation-trans, IsPermutation-sym, IsPermutation-map, IsPermutation-append_right, length_permutation}
+use Rattle.std.proofs.lemmas.List.Sorted.{IsPermutation-map}
 use Rattle.gufi_base.specs.declared.record.Row.{Row}
 use Rattle.gufi_base.specs.Paths.{Components, is_prefix}
 use Rattle.gufi_base.specs.Rows.{home}
-use Rattle.gufi_base.proofs.Permutations.{IsPermutation-filter, IsPermutation-flat_map}
+use Rattle.gufi_base.proofs.Permutations.{IsPermutation-flat_map}
 use Rattle.gufi_access.specs.declared.class.Principal.{Principal}
 use Rattle.gufi_tree.specs.Tree.{Directory, own_rows, all_rows, may_list, has_dir, HasTreeShape}
 use Rattle.gufi_tree.specs.Listed.{is_between, is_listed}
@@ -20,7 +18,6 @@ use Rattle.gufi_tree.proofs.Built.{Has}
 use Rattle.gufi_tree.proofs.Filters.{filter-agree, Has-filter}
 use Rattle.gufi_tree.proofs.Flat.{all_at, all-true}
 use Rattle.gufi_tree.proofs.Fronts.{listed_dirs, open_dirs, listed_dirs-step}
-use Rattle.gufi_tree.proofs.RowHomes.{rows_of_homes, home_there}
 use Rattle.gufi_roll.proofs.Tops.{prefix_trans}
 use Rattle.gufi_walk.proofs.Passed.{filter-wider}
 use Rattle.gufi_walk.proofs.Pieces.{flat_map-flat_map, map-flat_map}

@@ -31,7 +31,7 @@ use Rattle.gufi_snap.specs.Pieces.{front}
 use Rattle.gufi_snap.proofs.Pieces.{own-length}
 use Rattle.gufi_sums.specs.declared.summary.Summary.{Summary}
 use Rattle.gufi_walk.specs.Answer.{shown, listed_rows}
-use Rattle.gufi_walk.specs.Walk.{lists_at, open_ids, kid_ids, lies_within, meets, shown_piece}
+use Rattle.gufi_walk.specs.Walk.{lists_at, open_ids, kid_ids, lies_within, meets}
 use Rattle.gufi_walk.proofs.Pieces.{plain_rows}
 use Rattle.gufi_walk.proofs.Passed.{IsTest}
 use Rattle.gufi_walk.proofs.Bounded.{all_too_deep, task_too_deep}

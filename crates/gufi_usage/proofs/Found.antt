@@ -1,13 +1,13 @@
 -- The directories that are found near a start are those whose rows have a line, and what each takes up is that of its line.
 use Rattle.std.proofs.Common.{◌≡◌, ℕ, zero, suc, ◌+◌, ◌<◌, ◌≤◌, inl, inr, Bool, true, false, cond, List, [], ◌∷◌, ◌++◌, map, length, refl, sym, ap, ◌∙◌, subst, arith}
-use Rattle.std.specs.Prelude.{◌&&◌, nat_le, All}
+use Rattle.std.specs.Prelude.{◌&&◌, nat_le}
 use Rattle.std.specs.List.{AllByRecursion, filter, flat_map}
 use Rattle.std.specs.List.Sorted.{IsPermutation, IsSortedBy}
 use Rattle.std.specs.Ordering.{nat_cmp, is_lt}
-use Rattle.std.proofs.lemmas.List.{append-nil, map-append}
+use Rattle.std.proofs.lemmas.List.{map-append}
 use Rattle.std.proofs.lemmas.List.Elements.{All-from_recursion, recursion_from_All}
 use Rattle.std.proofs.lemmas.List.Folds.{flat_map-map}
-use Rattle.std.proofs.lemmas.List.Sorted.{IsPermutation-refl, IsPermutation-trans, IsPermutation-sym, IsPermutation-map, IsPermutation-cons, IsPermutation-to_front, All-permutation}
+use Rattle.std.proofs.lemmas.List.Sorted.{IsPermutation-trans, IsPermutation-sym, IsPermutation-map, IsPermutation-cons, IsPermutation-to_front, All-permutation}
 use Rattle.gufi_base.specs.declared.record.Row.{Row}
 use Rattle.gufi_base.specs.Basics.{ascends}
 use Rattle.gufi_base.specs.Kinds.{is_dir}
@@ -18,10 +18,10 @@ use Rattle.gufi_base.proofs.Prefixes.{rows_total}
 use Rattle.gufi_base.proofs.SortedOnce.{ascends-filter}
 use Rattle.gufi_access.specs.declared.class.Principal.{Principal}
 use Rattle.gufi_tree.specs.declared.tree.DirId.{DirId}
-use Rattle.gufi_tree.specs.Tree.{Directory, dir_cmp, all_rows, HasTreeShape}
+use Rattle.gufi_tree.specs.Tree.{Directory, dir_cmp, HasTreeShape}
 use Rattle.gufi_tree.specs.Listed.{is_listed}
 use Rattle.gufi_tree.specs.Places.{path_at}
-use Rattle.gufi_tree.proofs.Built.{Has, All-Has, All-from_Has, dir_cmp-total}
+use Rattle.gufi_tree.proofs.Built.{Has, All-Has, dir_cmp-total}
 use Rattle.gufi_tree.proofs.Filters.{Has-filter}
 use Rattle.gufi_tree.proofs.Fronts.{flat_map-agree, listed_dirs, open_dirs}
 use Rattle.gufi_walk.specs.Answer.{answer, shown, listed_rows}
@@ -31,7 +31,7 @@ use Rattle.gufi_walk.proofs.Pieces.{Has-map, answer-ascends, filter-map, flat_ma
 use Rattle.gufi_walk.proofs.Walked.{All-append, filter-all}
 use Rattle.gufi_usage.specs.declared.near.DirUsage.{DirUsage}
 use Rattle.gufi_usage.specs.Laws.{usage_of-IsPermutation}
-use Rattle.gufi_usage.specs.Near.{rows_from, met_from, usage_at, near, line_of}
+use Rattle.gufi_usage.specs.Near.{met_from, usage_at, near, line_of}
 use Rattle.gufi_usage.specs.UsageLines.{lies_below, has_line, counts_for, usage_line, usage_lines}
 use Rattle.gufi_usage.specs.Usages.{usage_of}
 use Rattle.gufi_usage.proofs.Below.{listed_below}

@@ -1,10 +1,9 @@
 -- Laws of what rows take up: one row more, two lists joined, any order.
-use Rattle.std.proofs.Common.{◌≡◌, ℕ, ◌+◌, List, [], ◌∷◌, ◌++◌, length, refl, sym, ap, ◌∙◌, arith, length-append}
+use Rattle.std.proofs.Common.{◌≡◌, ◌+◌, List, [], ◌∷◌, ◌++◌, length, refl, sym, ap, ◌∙◌, arith, length-append}
 use Rattle.std.specs.List.Sorted.{IsPermutation}
 use Rattle.std.proofs.lemmas.List.Sums.{sum_by-append}
 use Rattle.std.proofs.lemmas.List.Sorted.{sum_by-IsPermutation, length_permutation}
 use Rattle.gufi_base.specs.declared.record.Row.{Row}
-use Rattle.gufi_sums.specs.declared.summary.Summary.{Summary}
 use Rattle.gufi_sums.specs.Total.{total}
 use Rattle.gufi_sums.specs.Laws.{total-append, total-add, total-IsPermutation}
 use Rattle.gufi_usage.specs.declared.usage.Usage.{Usage}
