@@ -39,11 +39,12 @@ CALLS = r"""
 2 nearest: find; gufi fnd lab.index 0 /
 2 nearest: query; gufi Query lab.index 0 / 'SELECT name FROM rows'
 2 nearest: stats; gufi sttats lab.index 0 / levels
-2 the commands are walk find query agg ls stat stats trace2index rollup index2trace info refresh session gen; gufi search lab.index 0 /
+2 the commands are walk find du query agg ls stat stats diff trace2index rollup index2trace info refresh session gen; gufi search lab.index 0 /
 2 nearest: --workers; gufi find --wrokers=4 lab.index 0 /
 2 nearest: --passwd; gufi find --paswd=lab.passwd lab.index ana /
 2 nearest: --limit; gufi rollup --limt=3 lab.index
 2 nearest: --header; gufi query --headers lab.index 0 / 'SELECT name FROM rows'
+2 not an option of du, whose options are --passwd --group --delim --limit --now; gufi du --workers=2 lab.index 0 / 1
 2 walk has no options; gufi walk --delim='|' lab.trace 0 -
 2 not an option of stat, whose options are --passwd --group --delim --limit --workers; gufi stat -l lab.index 0 /
 2 not an option of ls, whose options are -l -A --passwd --group --delim --limit --workers; gufi ls -la lab.index 0 /
@@ -66,6 +67,11 @@ CALLS = r"""
 2 no such name in lab.passwd; gufi find --passwd=lab.passwd lab.index anna /
 2 REPORT is missing: levels, uids, gids or leaves; gufi stats lab.index 0 /
 2 nearest: levels; gufi stats lab.index 0 / level
+2 DEPTH is missing: how deep below START directories have a line: a number to 4294967295; gufi du lab.index 0 /
+2 DEPTH is how deep below START directories have a line: a number to 4294967295; gufi du lab.index 0 / -name '*.h5'
+2 START is missing: the path of the directory to begin at, without ..; / is the root; gufi diff lab.index lab.index 0
+2 NEW is missing: a trace or an image; gufi diff lab.index
+2 diff takes [OPTION].. OLD NEW USER START; gufi diff lab.index lab.index 0 / 1
 2 UID is a number; gufi walk lab.trace ana -
 2 GIDS is - for none, or numbers separated by commas; gufi walk lab.trace 0 1,
 2 N is the number of directories, 1 to 200,000; gufi gen 0
@@ -76,6 +82,7 @@ CALLS = r"""
 2 stat takes [OPTION].. INDEX USER START; gufi stat lab.index 0 / levels
 # expressions
 2 nearest: -name; gufi find lab.index 0 / -nmae '*.h5'
+2 nearest: -name; gufi du lab.index 0 / 1 -nmae '*.h5'
 2 nearest: -mtime; gufi find lab.index 0 / -mtme 1
 2 the words end where a primary or its argument is wanted; gufi find lab.index 0 / -name
 2 a number is wanted there, perhaps with + or - before it; behind -size perhaps with c, k, M or G behind it; behind -perm four octal digits or fewer; gufi find lab.index 0 / -size 1x
@@ -93,6 +100,8 @@ CALLS = r"""
 2 GROUP BY and the same key are wanted at the end; gufi agg lab.index 0 / 'SELECT uid FROM rows'
 # starts
 1 at /private; gufi find lab.index 1002 /private
+1 at /private; gufi du lab.index 1002 /private 1
+1 at /nosuch; gufi diff lab.index lab.index 0 /nosuch/below
 1 at /nosuch; gufi find lab.index 0 /nosuch/below
 1 what stands there has nothing below it; gufi find lab.index 0 /README/below
 1 no directory of that path is in the index; PATH begins at its root; gufi refresh --limit=3 --delim='|' lab.index /README lab.trace

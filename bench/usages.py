@@ -29,7 +29,7 @@ EXPRESSIONS = (
     ("!", "-type", "d"),
     ("-size", "+3"),
     ("-name", "*run*"),
-    ("-uid", "1001", "-o", "-uid", "0"),
+    ("-user", "1001", "-o", "-user", "0"),
     ("-maxdepth", "1"),
     ("-mindepth", "2"),
     ("-links", "+900"),

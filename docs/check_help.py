@@ -82,8 +82,10 @@ def behind_readers():
     select = words_of("gufi_select/Names", "starred", "columns", "tables", "keywords")
     groups = words_of("gufi_agg/AggTokens", "words", where=r", agg_tokens\.(?:Key|Select|From|Group|By)")
     operators = set(words_of("gufi_find/Reading", "wants_primary", "wants_operator")) - {")"}
+    expression = (words_of("gufi_find/Operands", "primary_named") + sorted(operators - {"("}), ["("])
     return {
-        "find": (words_of("gufi_find/Operands", "primary_named") + sorted(operators - {"("}), ["("]),
+        "find": expression,
+        "du": expression,
         "query": (select, signs()),
         "agg": (groups + items() + select, signs()),
         "stats": (words_of("gufi_words/WordValues", "read_report"), []),

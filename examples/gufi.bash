@@ -1,13 +1,16 @@
 # Completions of gufi for bash. Made by: gufi --completions
 _gufi_words() {
     case $1:$2 in
-    names:*) echo 'walk find query agg ls stat stats trace2index rollup index2trace info refresh session gen --help --version --man --completions --completions=zsh --completions=fish ' ;;
+    names:*) echo 'walk find du query agg ls stat stats diff trace2index rollup index2trace info refresh session gen --help --version --man --completions --completions=zsh --completions=fish ' ;;
     options:walk) echo '--help' ;;
     values:walk) echo '' ;;
     behind:walk) echo '' ;;
     options:find) echo '--prefix --passwd --group --delim --limit --workers --now --help' ;;
     values:find) echo '--prefix=TEXT --passwd=FILE --group=FILE --delim=BYTE --limit=N --workers=N --now=SECONDS ' ;;
     behind:find) echo '-name -path -type -size -atime -mtime -ctime -links -perm -user -group -nouser -nogroup -mindepth -maxdepth ! -a -o ' ;;
+    options:du) echo '--passwd --group --delim --limit --now --help' ;;
+    values:du) echo '--passwd=FILE --group=FILE --delim=BYTE --limit=N --now=SECONDS ' ;;
+    behind:du) echo '-name -path -type -size -atime -mtime -ctime -links -perm -user -group -nouser -nogroup -mindepth -maxdepth ! -a -o ' ;;
     options:query) echo '--escape --header --json --passwd --group --delim --limit --workers --help' ;;
     values:query) echo '--escape --header --json --passwd=FILE --group=FILE --delim=BYTE --limit=N --workers=N ' ;;
     behind:query) echo 'path name type inode mode nlink uid gid size blksize blocks atime mtime ctime linkname level xattrs entries summary rows select from where regexp not and or ' ;;
@@ -23,6 +26,9 @@ _gufi_words() {
     options:stats) echo '--names --passwd --group --delim --limit --workers --help' ;;
     values:stats) echo '--names --passwd=FILE --group=FILE --delim=BYTE --limit=N --workers=N ' ;;
     behind:stats) echo 'levels uids gids leaves ' ;;
+    options:diff) echo '--passwd --group --delim --limit --workers --help' ;;
+    values:diff) echo '--passwd=FILE --group=FILE --delim=BYTE --limit=N --workers=N ' ;;
+    behind:diff) echo '' ;;
     options:trace2index) echo '--delim --help' ;;
     values:trace2index) echo '--delim=BYTE ' ;;
     behind:trace2index) echo '' ;;
@@ -71,11 +77,11 @@ _gufi() {
     elif [[ $place == 0 && -z $ended && $current == -* ]]; then
         compopt +o default
         COMPREPLY=($(compgen -W "$(_gufi_words options "$command")" -- "$current"))
-    elif [[ $place == 0 && $command != gen || $command:$place == refresh:2 ]]; then
+    elif [[ $place == 0 && $command != gen || $command:$place == refresh:2 || $command:$place == diff:1 ]]; then
         return
     else
         compopt +o default
-        [[ $place -lt 3 ]] || _gufi_behind "$command" "$current"
+        [[ $place -lt 3 || $command:$place == du:3 ]] || _gufi_behind "$command" "$current"
     fi
 }
 # What stands behind START: words, or the last one of a SELECT.

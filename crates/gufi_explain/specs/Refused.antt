@@ -1,5 +1,5 @@
 -- Why the words of a command are refused at one of them.
-use Rattle.std.specs.Prelude.{ℕ, ◌-◌, Bool, false, not, ◌&&◌, ◌==◌, nat_le, nat_lt, List, [], ◌∷◌, ◌++◌, take, drop, Option, Some, None, if◌then◌else◌, bytes_eq, codes}
+use Rattle.std.specs.Prelude.{ℕ, ◌-◌, Bool, false, not, ◌&&◌, ◌==◌, nat_le, nat_lt, List, [], ◌∷◌, ◌++◌, length, take, drop, Option, Some, None, if◌then◌else◌, bytes_eq, codes}
 use Rattle.std.specs.List.{slice_get, list_any}
 use Rattle.gufi_base.specs.Basics.{is_empty}
 use Rattle.gufi_words.specs.WordOptions.{before_equals, has_equals, after_equals}
@@ -96,9 +96,13 @@ abbrev pub why_named : Wrapped → List Entry → List (List ℕ) → Option (Li
 why_named wrapped names before None entry = told (entry.name.now ++ (codes " is missing: " ++ entry.rule.now))
 why_named wrapped names before (Some word) entry = why_given wrapped names before word entry
 
-abbrev pub why_behind : Rules → Wrapped → CommandForm → List (List ℕ) → Option (List ℕ) → Option Entry → List ℕ
-why_behind rules wrapped command before word None = told (command.name.now ++ (codes " takes " ++ command.synopsis.now))
-why_behind rules wrapped command before word (Some entry) = why_named wrapped (names_behind rules.behind.now command.name.now) before word entry
+-- the names that may stand in place of the word of a command that so many stand before: they stand behind the words, and in place of the last
+abbrev pub names_at : Rules → CommandForm → ℕ → List Entry
+names_at rules command at = if length command.words.now - at == 1 then names_behind rules.behind.now command.name.now else []
+
+abbrev pub why_behind : Rules → Wrapped → CommandForm → List (List ℕ) → Option (List ℕ) → ℕ → Option Entry → List ℕ
+why_behind rules wrapped command before word at None = told (command.name.now ++ (codes " takes " ++ command.synopsis.now))
+why_behind rules wrapped command before word at (Some entry) = why_named wrapped (names_at rules command at) before word entry
 
 -- ---- all
 
@@ -114,7 +118,7 @@ why_role rules wrapped command words place Choice =
 why_role rules wrapped command words place Value =
     if is_hidden wrapped place then [] else why_value rules (slice_get words place) (entry_of command.options.now (before_equals (option_word (slice_get words (place - 1)))))
 why_role rules wrapped command words place (Behind first) =
-    why_behind rules wrapped command (drop 1 (take place words)) (slice_get words place) (slice_get command.words.now (place - first))
+    why_behind rules wrapped command (drop 1 (take place words)) (slice_get words place) (place - first) (slice_get command.words.now (place - first))
 
 -- what is told of the word at a place of a command, or that there is none of that name
 abbrev pub why_word : Rules → Wrapped → List (List ℕ) → ℕ → List ℕ → Option CommandForm → List ℕ

@@ -1,5 +1,5 @@
 -- What is told of a start that can't be listed.
-use Rattle.std.specs.Prelude.{ℕ, ◌+◌, ◌-◌, ◌^◌, ◌==◌, min, List, [], ◌++◌, length, take, drop, Option, Some, None, Result, Ok, Err, if◌then◌else◌, bytes_eq, codes}
+use Rattle.std.specs.Prelude.{ℕ, ◌+◌, ◌-◌, ◌^◌, ◌==◌, min, List, [], ◌++◌, length, take, drop, Option, Some, None, position, Result, Ok, Err, if◌then◌else◌, bytes_eq, codes}
 use Rattle.std.specs.List.{slice_get}
 use Rattle.gufi_base.specs.Numbers.{read_u32}
 use Rattle.gufi_base.specs.Paths.{Components, read_path, path_text}
@@ -15,15 +15,20 @@ use Rattle.gufi_explain.specs.Notes.{first_word, behind_word, behind_marks}
 use Rattle.gufi_explain.specs.Refused.{option_word}
 use Rattle.gufi_explain.specs.Roles.{role_from}
 
--- the place of the third word behind the options, which is START where a command has one
-abbrev pub third_place : Role → ℕ
-third_place Choice = 0
-third_place Value = 0
-third_place (Behind first) = min (first + 2) (2 ^ 64 - 1)
+-- how many words of a command stand between its options and START, where it has one
+abbrev pub before_start : CommandForm → Option ℕ
+before_start command = position (λ entry. bytes_eq entry.name.now (codes "START")) command.words.now
+
+-- the place of the word behind the options that so many stand before; the command's own where there is none
+abbrev pub place_behind : Option ℕ → Role → ℕ
+place_behind None role = 0
+place_behind (Some before) Choice = 0
+place_behind (Some before) Value = 0
+place_behind (Some before) (Behind first) = min (first + before) (2 ^ 64 - 1)
 
 abbrev pub start_place : Option CommandForm → List (List ℕ) → ℕ
 start_place None words = 0
-start_place (Some command) words = third_place (role_from command.options.now 1 Choice (drop 1 words))
+start_place (Some command) words = place_behind (before_start command) (role_from command.options.now 1 Choice (drop 1 words))
 
 -- the text of a path up to the slash behind so many names
 abbrev pub front_before : List ℕ → Option (List ℕ) → List ℕ

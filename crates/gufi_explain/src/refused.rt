@@ -7,7 +7,7 @@ ghost use Rattle.gufi_words.specs.WordOptions.{before_equals};
 ghost use Rattle.gufi_explain.specs.Rules.{entry_of, command_of, listed, value_rule};
 ghost use Rattle.gufi_explain.specs.Nearest.{nearest_line};
 ghost use Rattle.gufi_explain.specs.Shown.{told};
-ghost use Rattle.gufi_explain.specs.Refused.{commands_line, missing_line, unknown_line, why_command, options_line, is_given, value_line, why_known, why_option, why_value, passwd_of, passwd_line, begins_with_digit, name_lines, why_given, why_named, why_behind, why_role, why_word, refused_at, option_word};
+ghost use Rattle.gufi_explain.specs.Refused.{commands_line, missing_line, unknown_line, why_command, options_line, is_given, value_line, why_known, why_option, why_value, passwd_of, passwd_line, begins_with_digit, name_lines, why_given, why_named, names_at, why_behind, why_role, why_word, refused_at, option_word};
 
 use crate::nearest::put_nearest;
 use crate::role::{Role, has_equals, name_of};
@@ -324,6 +324,16 @@ fn put_named(
     }
 }
 
+// The names that may stand in place of the word of a command that so many stand before.
+fn names_at(rules: &Rules, command: &CommandForm, at: usize) -> &'static [Entry]
+    ensures { result.now ≡ names_at rules.now command.now at }
+{
+    if command.words.len().saturating_sub(at) == 1 {
+        return names_behind(rules.behind, command.name.as_bytes());
+    }
+    &[]
+}
+
 // Why a word behind the options isn't taken.
 fn put_behind(
     alloc: Global,
@@ -336,11 +346,11 @@ fn put_behind(
     at: usize,
 ) -> Result<(), Memory>
     ensures { OnOk result (out.new.items ≡ out.old.items
-        ++ why_behind rules.now wrapped command.now (texts before.now) (option_map (λ word. word.now) word.entry) (slice_get command.now.words.now at)) }
+        ++ why_behind rules.now wrapped command.now (texts before.now) (option_map (λ word. word.now) word.entry) at (slice_get command.now.words.now at)) }
 {
     match command.words.get(at) {
         Some(entry) => {
-            let names = names_behind(rules.behind, command.name.as_bytes());
+            let names = names_at(rules, command, at);
             put_named(alloc, out, wrapped, names, before, word, entry)
         }
         None => put_pair(out, command.name, b" takes ", command.synopsis),

@@ -5,14 +5,31 @@ ghost use Rattle.gufi_explain.specs.Refused.{option_word};
 ghost use Rattle.gufi_words.specs.WordTexts.{texts};
 ghost use Rattle.gufi_base.specs.Paths.{read_path};
 ghost use Rattle.gufi_explain.specs.Rules.{command_of};
-ghost use Rattle.gufi_explain.specs.Starts.{third_place, start_place, down_text, path_told, down_to, depth_word, start_kind, start_told};
+ghost use Rattle.gufi_explain.specs.Starts.{before_start, place_behind, start_place, down_text, path_told, down_to, depth_word, start_kind, start_told};
 
 use crate::note::{behind_marks, behind_word, first_word};
 use crate::role::Role;
-use crate::rules::{Rules, command_of, put_rule};
+use crate::rules::{CommandForm, Rules, command_of, put_rule};
 use crate::shown::{Wrapped, front, put_escaped, word_at};
 use gufi_base::{Memory, Path, PathFault, behind, put, read_u32};
 use std::alloc::Global;
+
+// How many words of a command stand between its options and START, where it has one.
+fn before_start(command: &CommandForm) -> Option<usize>
+    ensures { result ≡ before_start command.now }
+{
+    command.words.iter().position(|entry| entry.name == "START")
+}
+
+// The place of the word behind the options that so many stand before.
+fn place_behind(before: Option<usize>, role: Role) -> usize
+    ensures { result ≡ place_behind before role }
+{
+    match (before, role) {
+        (Some(before), Role::Behind(first)) => first.saturating_add(before),
+        _ => 0,
+    }
+}
 
 // The place of START, where the command has one.
 fn start_place(rules: &Rules, words: &[String]) -> usize
@@ -20,10 +37,10 @@ fn start_place(rules: &Rules, words: &[String]) -> usize
 {
     let name = word_at(words, 0).unwrap_or("");
     match command_of(rules.commands, name.as_bytes()) {
-        Some(command) => match Role::behind(command.options, behind(words, 1)) {
-            Role::Behind(first) => first.saturating_add(2),
-            _ => 0,
-        },
+        Some(command) => {
+            let role = Role::behind(command.options, behind(words, 1));
+            place_behind(before_start(command), role)
+        }
         None => 0,
     }
 }

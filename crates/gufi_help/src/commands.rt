@@ -10,15 +10,36 @@ macro_rules! table {
         table! {
             $page
             trace ("TRACE" "a line for each file and directory; docs/guide.md has its fields")
-            index ("INDEX" "a trace, or an index image, which trace2index and rollup write")
+            index ("INDEX" "a trace or an image")
             user ("USER" "a name of the passwd file, or UID, or UID:GID,..")
             start ("START" "the path of the directory to begin at, without ..; / is the root")
             passwd ("--passwd" "=FILE" "the passwd file, for names in USER; left out: no names")
             group ("--group" "=FILE" "the group file; left out: no groups")
             delim ("--delim" "=BYTE" "the byte between the fields of a trace; left out: 0x1E")
-            limit ("--limit" "=N" "how many rows of a trace may be rolled up into one piece; left out: 0")
+            limit ("--limit" "=N" "the limit of a trace's roll-up, in rows; left out: 0")
             workers ("--workers" "=N" "how many walkers share a query, 1 to 32; left out: 1")
             now ("--now" "=SECONDS" "the moment from which -atime, -mtime and -ctime count; left out: they are refused")
+            primaries ("primaries, where N is a number to equal, +N for more, -N for less"
+                ("-name" " PATTERN" "the base name matches; that of the root is /")
+                ("-path" " PATTERN" "the whole path matches")
+                ("-type" " T" "the type is d directory, f file, l link, b or c device, p pipe, s socket")
+                ("-size" " N" "the size in blocks of 512 bytes, rounded up; Nc: in bytes; Nk, NM, NG: in KiB, MiB, GiB")
+                ("-atime" " N" "whole days from the last access to --now")
+                ("-mtime" " N" "whole days from the last modification to --now")
+                ("-ctime" " N" "whole days from the last change to --now")
+                ("-links" " N" "the number of links")
+                ("-perm" " M" "the 12 bits of the mode are M, in octal; -M: all bits of M are set")
+                ("-user" " NAME" "the owner; a number that is no name is itself")
+                ("-group" " NAME" "the group; a number that is no name is itself")
+                ("-nouser" "" "the owner has no name")
+                ("-nogroup" "" "the group has no name")
+                ("-mindepth" " DEPTH" "rows less deep below START are left out")
+                ("-maxdepth" " DEPTH" "rows deeper below START are left out"))
+            operators ("operators, from high to low"
+                ("!" " E" "E isn't true")
+                ("-a" "" "between two, or nothing: both are true")
+                ("-o" "" "between two: one is true"))
+            parentheses ("parentheses, to be quoted" ("(" " E )" "E, before what stands around it"))
             columns ("columns"
                 ("path" "" "the path, a text")
                 ("name" "" "the base name, a text; that of the root is /")
@@ -60,6 +81,7 @@ macro_rules! table {
         $page:ident
         trace $trace:tt index $index:tt user $user:tt start $start:tt
         passwd $passwd:tt group $group:tt delim $delim:tt limit $limit:tt workers $workers:tt now $now:tt
+        primaries $primaries:tt operators $operators:tt parentheses $parentheses:tt
         columns $columns:tt tables $tables:tt conditions $conditions:tt compares $compares:tt
     ) => {
         $page! {
@@ -94,27 +116,16 @@ macro_rules! table {
                 "paths of the rows for which the expression is true"
                 [$index $user $start ("EXPRESSION" "primaries and operators, as -name '*.rs'; left out: all rows")]
                 [("--prefix" "=TEXT" "what stands in front of each path; the root is TEXT alone") $passwd $group $delim $limit $workers $now]
-                [("primaries, where N is a number to equal, +N for more, -N for less"
-                    ("-name" " PATTERN" "the base name matches; that of the root is /")
-                    ("-path" " PATTERN" "the whole path matches")
-                    ("-type" " T" "the type is d directory, f file, l link, b or c device, p pipe, s socket")
-                    ("-size" " N" "the size in blocks of 512 bytes, rounded up; Nc: in bytes; Nk, NM, NG: in KiB, MiB, GiB")
-                    ("-atime" " N" "whole days from the last access to --now")
-                    ("-mtime" " N" "whole days from the last modification to --now")
-                    ("-ctime" " N" "whole days from the last change to --now")
-                    ("-links" " N" "the number of links")
-                    ("-perm" " M" "the 12 bits of the mode are M, in octal; -M: all bits of M are set")
-                    ("-user" " NAME" "the owner; a number that is no name is itself")
-                    ("-group" " NAME" "the group; a number that is no name is itself")
-                    ("-nouser" "" "the owner has no name")
-                    ("-nogroup" "" "the group has no name")
-                    ("-mindepth" " DEPTH" "rows less deep below START aren't printed")
-                    ("-maxdepth" " DEPTH" "rows deeper below START aren't printed"))
-                ("operators, from high to low"
-                    ("!" " E" "E isn't true")
-                    ("-a" "" "between two, or nothing: both are true")
-                    ("-o" "" "between two: one is true"))]
-                [("parentheses, to be quoted" ("(" " E )" "E, before what stands around it"))]
+                [$primaries $operators]
+                [$parentheses]
+            "du" "[OPTION].. INDEX USER START DEPTH [EXPRESSION]"
+                "bytes of files, blocks, files and directories at and below each directory; hard links count each time that a name is listed"
+                [$index $user $start
+                    ("DEPTH" "how deep below START directories have a line: a number to 4294967295")
+                    ("EXPRESSION" "which rows count, by primaries and operators, as of find; left out: all rows")]
+                [$passwd $group $delim $limit $now]
+                [$primaries $operators]
+                [$parentheses]
             "query" "[OPTION].. INDEX USER START TEXT"
                 "columns of the rows that a SELECT chooses"
                 [$index $user $start ("TEXT" "one word: SELECT COLUMN,.. FROM TABLE [WHERE CONDITION] [;], or * for the columns")]
@@ -170,6 +181,10 @@ macro_rules! table {
                     ("gids" "" "a line for each group")
                     ("leaves" "" "the paths of the directories below which there is none"))]
                 []
+            "diff" "[OPTION].. OLD NEW USER START"
+                "paths of the rows that differ between two indexes, behind - in OLD alone, + in NEW alone, ~ in both, with another record"
+                [("OLD" "a trace or an image") ("NEW" "a trace or an image") $user $start]
+                [$passwd $group $delim $limit $workers] [] []
             "trace2index" "[OPTION].. TRACE" "the image of the index of a trace" [$trace] [$delim] [] []
             "rollup" "--limit=N [OPTION].. INDEX"
                 "the image under a limit, and on standard error what is rolled up"

@@ -110,16 +110,41 @@ macro_rules! manual {
 
 const COMMANDS: &[CommandPage] = &table!(command_pages);
 
+// A call for each text, so that no proof goes through more than one of them.
+fn usage_text() -> &'static str {
+    table!(usage)
+}
+
+fn manual_text() -> &'static str {
+    table!(manual)
+}
+
+fn bash_text() -> &'static str {
+    table!(bash)
+}
+
+fn zsh_text() -> &'static str {
+    table!(zsh)
+}
+
+fn fish_text() -> &'static str {
+    table!(fish)
+}
+
+fn command_pages() -> &'static [CommandPage] {
+    COMMANDS
+}
+
 /// The program's own pages, of one table. A call, so that no proof of a caller goes through their texts.
 pub fn own_pages() -> Pages {
     Pages {
-        usage: table!(usage),
+        usage: usage_text(),
         version: "gufi 0.2.0\n",
-        manual: table!(manual),
-        completions: table!(bash),
-        zsh_completions: table!(zsh),
-        fish_completions: table!(fish),
-        commands: COMMANDS,
+        manual: manual_text(),
+        completions: bash_text(),
+        zsh_completions: zsh_text(),
+        fish_completions: fish_text(),
+        commands: command_pages(),
         rules: own_rules(),
     }
 }

@@ -1,7 +1,7 @@
 //! The completions of the three shells, of the table of commands.
 //!
 //! In each, one function tells the words of the table: the commands, the options of a command, the same with their values, and what stands
-//! behind START. Another one looks how many words stand before the one that is completed.
+//! behind START, or behind DEPTH. Another one looks how many words stand before the one that is completed.
 
 macro_rules! bash {
     (
@@ -49,11 +49,11 @@ macro_rules! bash {
             "    elif [[ $place == 0 && -z $ended && $current == -* ]]; then\n",
             "        compopt +o default\n",
             "        COMPREPLY=($(compgen -W \"$(_gufi_words options \"$command\")\" -- \"$current\"))\n",
-            "    elif [[ $place == 0 && $command != gen || $command:$place == refresh:2 ]]; then\n",
+            "    elif [[ $place == 0 && $command != gen || $command:$place == refresh:2 || $command:$place == diff:1 ]]; then\n",
             "        return\n",
             "    else\n",
             "        compopt +o default\n",
-            "        [[ $place -lt 3 ]] || _gufi_behind \"$command\" \"$current\"\n",
+            "        [[ $place -lt 3 || $command:$place == du:3 ]] || _gufi_behind \"$command\" \"$current\"\n",
             "    fi\n",
             "}\n",
             "# What stands behind START: words, or the last one of a SELECT.\n",
@@ -122,9 +122,9 @@ macro_rules! zsh {
             "        _files\n",
             "    elif [[ $place == 0 && -z $ended && $PREFIX == -* ]]; then\n",
             "        compadd -- ${=$(_gufi_words options $command)}\n",
-            "    elif [[ $place == 0 && $command != gen || $command:$place == refresh:2 ]]; then\n",
+            "    elif [[ $place == 0 && $command != gen || $command:$place == refresh:2 || $command:$place == diff:1 ]]; then\n",
             "        _files\n",
-            "    elif [[ $place -ge 3 ]]; then\n",
+            "    elif [[ $place -ge 3 && $command:$place != du:3 ]]; then\n",
             "        if [[ $command == query || $command == agg ]]; then\n",
             "            compset -q\n",
             "            compset -P '*,'\n",
@@ -196,9 +196,9 @@ macro_rules! fish {
             "        else\n",
             "            __gufi_words options $command\n",
             "        end\n",
-            "    else if test $place = 0 -o \"$command:$place\" = refresh:2\n",
+            "    else if test $place = 0; or contains -- \"$command:$place\" refresh:2 diff:1\n",
             "        test \"$command\" = gen; or __fish_complete_path \"$current\"\n",
-            "    else if test $place -ge 3\n",
+            "    else if test $place -ge 3 -a \"$command:$place\" != du:3\n",
             "        set -l front ''\n",
             "        if contains -- $command query agg\n",
             "            set front (string replace -r -- '^[\\'\"]' '' $current | string replace -r -- '[^ ,]*$' '')\n",

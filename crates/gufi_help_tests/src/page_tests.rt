@@ -9,7 +9,7 @@ use std::thread::Threads;
 
 // Words, in which _ is a blank; the number of the write that fails, `n` before one of the note, or nothing; the status; how the text
 // begins, nothing where it is empty; the note. The files are FILES.
-const RUNS: [&str; 45] = [
+const RUNS: [&str; 47] = [
     "--help;;0;usage: gufi COMMAND;",
     "-h;;0;usage: gufi COMMAND;",
     "help;;0;usage: gufi COMMAND;",
@@ -17,6 +17,8 @@ const RUNS: [&str; 45] = [
     "find --help;;0;usage: gufi find ;",
     "session -h;;0;usage: gufi session ;",
     "refresh --help;;0;usage: gufi refresh --limit=N [OPTION].. INDEX PATH TRACE\n;",
+    "du --help;;0;usage: gufi du [OPTION].. INDEX USER START DEPTH [EXPRESSION]\n;",
+    "diff -h;;0;usage: gufi diff [OPTION].. OLD NEW USER START\n;",
     "--man;;0;.\\\" Made by: gufi --man\n;",
     "--completions;;0;# Completions of gufi for bash. ;",
     "--completions=zsh;;0;#compdef gufi\n;",
@@ -83,9 +85,11 @@ const FILES: [(&str, &str); 18] = [
 ];
 
 // Each word that a page lists behind START, or in a script, is taken. The lists are compared with the readers' by docs/check_help.py.
-const LISTED: [&str; 12] = [
+const LISTED: [&str; 13] = [
     "find --delim=| --now=0 i 0 / -name x -path x -type d -size 1 -atime 1 -mtime 1 -ctime 1 -links 1 -perm 7 -user 0 -group 0 -nouser \
         -nogroup -maxdepth 1 ! -type d -a -type d -o -mindepth 0 ( -type d );;0;/\n;",
+    "du --delim=| --now=0 i 0 / 0 -name x -path x -type d -size 1 -atime 1 -mtime 1 -ctime 1 -links 1 -perm 7 -user 0 -group 0 -nouser \
+        -nogroup -maxdepth 1 ! -type d -a -type d -o -mindepth 0 ( -type d );;0;0\t0\t0\t1\t/\n;",
     "query --delim=| i 0 / SELECT_path,name,type,inode,mode,nlink,uid,gid,size,blksize,blocks,atime,mtime,ctime,linkname,level,xattrs_FROM_rows;\
         ;0;/\t/\td\t1\t493\t2\t0\t0\t0\t0\t0\t0\t0\t0\t\t0\t\n;",
     "query --delim=| i 0 / SELECT_path_FROM_entries;;0;;",
@@ -102,7 +106,7 @@ const LISTED: [&str; 12] = [
 ];
 
 // The words of runs that are explained, in which _ is a blank, as above; and all that standard error gets.
-const EXPLAINED: [[&str; 3]; 42] = [
+const EXPLAINED: [[&str; 3]; 48] = [
     [
         "--explain stat --wrokers=4 i ann /",
         "2",
@@ -170,18 +174,41 @@ const EXPLAINED: [[&str; 3]; 42] = [
         "--explain fnd i",
         "2",
         "gufi: word 1 refused\n  fnd i\n  ^^^\n  no command\n\
-         \x20 the commands are walk find query agg ls stat stats trace2index rollup index2trace info refresh session gen\n  nearest: find\n",
+         \x20 the commands are walk find du query agg ls stat stats diff trace2index rollup index2trace info refresh session gen\n  nearest: find\n",
     ],
     [
         "--explain",
         "2",
-        "gufi: word 1 refused\n  COMMAND is missing\n  the commands are walk find query agg ls stat stats trace2index rollup index2trace info refresh session gen\n",
+        "gufi: word 1 refused\n  COMMAND is missing\n  the commands are walk find du query agg ls stat stats diff trace2index rollup index2trace info refresh session gen\n",
     ],
     [
         "--explain find --delim=| i 0 / -nmae x",
         "2",
         "gufi: word 6 UnknownPrimary\n  find --delim=| i 0 / -nmae x\n                       ^^^^^\n\
          \x20 a primary is wanted there, as -name, or !, or (\n  nearest: -name\n",
+    ],
+    [
+        "--explain du --delim=| i 0 / 1 -nmae x",
+        "2",
+        "gufi: word 7 UnknownPrimary\n  du --delim=| i 0 / 1 -nmae x\n                       ^^^^^\n\
+         \x20 a primary is wanted there, as -name, or !, or (\n  nearest: -name\n",
+    ],
+    [
+        "--explain du i 0 / -nmae x",
+        "2",
+        "gufi: word 5 refused\n  du i 0 / -nmae x\n           ^^^^^\n\
+         \x20 DEPTH is how deep below START directories have a line: a number to 4294967295\n",
+    ],
+    [
+        "--explain find i 0 ..",
+        "2",
+        "gufi: word 4 refused\n  find i 0 ..\n           ^^\n\
+         \x20 START is the path of the directory to begin at, without ..; / is the root\n",
+    ],
+    [
+        "--explain diff i",
+        "2",
+        "gufi: word 3 refused\n  diff i\n         ^\n  NEW is missing: a trace or an image\n",
     ],
     [
         "--explain query --delim=| i 0 / SELECT_nope_FROM_rows",
@@ -202,6 +229,17 @@ const EXPLAINED: [[&str; 3]; 42] = [
         "--explain stat --delim=| i 0 /x/y",
         "1",
         "gufi: no such at depth 1\n  at /x\n  nothing of that name is there; START begins at the root of the index\n",
+    ],
+    [
+        "--explain diff --delim=| i i 0 /x/y",
+        "1",
+        "gufi: no such at depth 1\n  at /x\n  nothing of that name is there; START begins at the root of the index\n",
+    ],
+    [
+        "--explain diff --delim=| i i eve /",
+        "2",
+        "gufi: word 5 refused\n  diff --delim=| i i eve /\n                     ^^^\n\
+         \x20 USER is a name of the passwd file, or UID, or UID:GID,..\n  names need --passwd\n",
     ],
     [
         "--explain refresh --delim=| i / i",

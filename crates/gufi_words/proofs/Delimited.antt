@@ -9,7 +9,7 @@ use Rattle.gufi_words.specs.WordNumbers.{refused_at}
 use Rattle.gufi_words.specs.WordValues.{Word, read_delimiter, read_count, read_report, read_file, read_start, read_gids, read_any}
 use Rattle.gufi_words.specs.WordPositionals.{needed, perhaps, no_more}
 use Rattle.gufi_words.specs.WordOptions.{has_option, put, delim_or_default, limit_or_default, workers_or_default, cache_or_default, start, before_equals, after_equals, is_positional, step_with, step_named, step_option, step_free, step_waiting, step_at, read_options}
-use Rattle.gufi_words.specs.CommandWords.{common_of, walk_of, trace2index_of, rollup_of, index2trace_of, info_of, refresh_of, query_of, agg_of, find_of, ls_of, stat_of, stats_of, session_of, gen_of, command_of, read_words, is_delimited}
+use Rattle.gufi_words.specs.CommandWords.{common_of, walk_of, trace2index_of, rollup_of, index2trace_of, info_of, refresh_of, query_of, agg_of, find_of, du_of, ls_of, stat_of, stats_of, diff_of, session_of, gen_of, command_of, read_words, is_delimited}
 use Rattle.gufi_words.specs.declared.word.WordError.{WordError}
 use Rattle.gufi_words.specs.declared.name.CommandName.{CommandName}
 use Rattle.gufi_words.specs.declared.name.CommandName.TheVariants as names
@@ -162,7 +162,7 @@ refresh_delimits words a =
     (λ path. of_limited (needed read_file words (a.first + 2)) (no_more words (a.first + 3)) limit (λ trace n. commands.Refresh index delim n path trace) (λ trace n. refl)))
 
 command_delimits : (name : CommandName) (words : List Word) (arguments : Arguments) → Delimits arguments.options → IsDelimitedRead (command_of name words arguments)
-unfolding trace2index_of rollup_of index2trace_of info_of query_of agg_of find_of ls_of stat_of stats_of session_of gen_of
+unfolding trace2index_of rollup_of index2trace_of info_of query_of agg_of find_of du_of ls_of stat_of stats_of diff_of session_of gen_of
 command_delimits names.Walk words a h = walk_delimits words a
 command_delimits names.Trace2index words a h = of_one (needed read_file words a.first) (no_more words (a.first + 1)) (λ trace. commands.Trace2index trace (delim_or_default a.options)) (λ trace. refl)
 command_delimits names.Rollup words a h =
@@ -176,9 +176,14 @@ command_delimits names.Query words a h =
 command_delimits names.Agg words a h = of_two (common_of words a.first a.options) (needed read_any words (a.first + 3)) (no_more words (a.first + 4)) (λ common. commands.Agg common a.options.names) (λ common text. refl)
 command_delimits names.Find words a h =
     on (common_of words a.first a.options) (λ common. Ok (commands.Find common a.options.time a.options.prefix (drop (a.first + 3) words))) (λ common. refl)
+command_delimits names.Du words a h =
+    on (common_of words a.first a.options) (λ common. needed read_u32 words (a.first + 3) >>= λ depth. Ok (commands.Du common a.options.time depth (drop (a.first + 4) words)))
+    (λ common. on (needed read_u32 words (a.first + 3)) (λ depth. Ok (commands.Du common a.options.time depth (drop (a.first + 4) words))) (λ depth. refl))
 command_delimits names.Ls words a h = of_one (common_of words a.first a.options) (no_more words (a.first + 3)) (λ common. commands.Ls common a.options.long a.options.all) (λ common. refl)
 command_delimits names.Stat words a h = of_one (common_of words a.first a.options) (no_more words (a.first + 3)) commands.Stat (λ common. refl)
 command_delimits names.Stats words a h = of_two (common_of words a.first a.options) (needed read_report words (a.first + 3)) (no_more words (a.first + 4)) (λ common. commands.Stats common a.options.names) (λ common report. refl)
+command_delimits names.Diff words a h =
+    of_two (needed read_file words a.first) (common_of words (a.first + 1) a.options) (no_more words (a.first + 4)) commands.Diff (λ old common. refl)
 command_delimits names.Session words a h =
     of_one (needed read_file words a.first) (no_more words (a.first + 1))
     (commands.Session a.options.passwd a.options.group (delim_or_default a.options) (workers_or_default a.options) a.options.time (cache_or_default a.options)) (λ script. refl)

@@ -7,7 +7,7 @@ use Rattle.gufi_words.specs.declared.command.ReportWord.TheVariants.{Uids}
 use Rattle.gufi_words.specs.declared.command.Command.TheVariants as commands
 use Rattle.gufi_words.specs.WordOptions.{read_options, step_at, step_free}
 use Rattle.gufi_words.specs.CommandNames.{command_named, option_named}
-use Rattle.gufi_words.specs.CommandWords.{read_words, common_of, walk_of, rollup_of, index2trace_of, info_of, refresh_of, query_of, agg_of, find_of, ls_of, stats_of, session_of, gen_of}
+use Rattle.gufi_words.specs.CommandWords.{read_words, common_of, walk_of, rollup_of, index2trace_of, info_of, refresh_of, query_of, agg_of, find_of, du_of, ls_of, stats_of, diff_of, session_of, gen_of}
 
 walk_by_number : read_words (codes "walk" ∷ codes "A" ∷ codes "102" ∷ codes "-" ∷ codes "|" ∷ []) ≡ Ok (commands.Walk (codes "A") 102 [] 124)
 unfolding read_words command_named walk_of read_options step_at step_free
@@ -136,3 +136,33 @@ names_of_agg : read_words (codes "agg" ∷ codes "--names" ∷ codes "E" ∷ cod
     ≡ Ok (commands.Agg (record { passwd = None; group = None; delim = 30; limit = 0; workers = 1; index = codes "E"; user = codes "102"; user_at = 4; start = [] }) true (codes "SELECT"))
 unfolding read_words command_named option_named agg_of common_of read_options step_at step_free read_path
 names_of_agg = refl
+
+words_of_du : read_words (codes "du" ∷ codes "--limit=3" ∷ codes "E" ∷ codes "102" ∷ codes "/p" ∷ codes "2" ∷ codes "-size" ∷ codes "1" ∷ [])
+    ≡ Ok (commands.Du (record { passwd = None; group = None; delim = 30; limit = 3; workers = 1; index = codes "E"; user = codes "102"; user_at = 4; start = codes "p" ∷ [] }) None 2 (codes "-size" ∷ codes "1" ∷ []))
+unfolding read_words command_named option_named du_of common_of read_options step_at step_free read_path
+words_of_du = refl
+
+no_workers_of_du : read_words (codes "du" ∷ codes "--workers=2" ∷ codes "E" ∷ codes "102" ∷ codes "/" ∷ codes "2" ∷ []) ≡ Err (Refused 2)
+unfolding read_words command_named option_named du_of read_options step_at step_free
+no_workers_of_du = refl
+
+no_depth : read_words (codes "du" ∷ codes "E" ∷ codes "102" ∷ codes "/" ∷ []) ≡ Err (Refused 5)
+unfolding read_words command_named du_of common_of read_options step_at step_free read_path
+no_depth = refl
+
+depth_of_33_bits : read_words (codes "du" ∷ codes "E" ∷ codes "102" ∷ codes "/" ∷ codes "4294967296" ∷ []) ≡ Err (Refused 5)
+unfolding read_words command_named du_of common_of read_options step_at step_free read_path
+depth_of_33_bits = refl
+
+words_of_diff : read_words (codes "diff" ∷ codes "--delim=|" ∷ codes "D" ∷ codes "E" ∷ codes "102" ∷ codes "/p" ∷ [])
+    ≡ Ok (commands.Diff (codes "D") (record { passwd = None; group = None; delim = 124; limit = 0; workers = 1; index = codes "E"; user = codes "102"; user_at = 5; start = codes "p" ∷ [] }))
+unfolding read_words command_named option_named diff_of common_of read_options step_at step_free read_path
+words_of_diff = refl
+
+no_start_of_diff : read_words (codes "diff" ∷ codes "D" ∷ codes "E" ∷ codes "102" ∷ []) ≡ Err (Refused 5)
+unfolding read_words command_named diff_of common_of read_options step_at step_free
+no_start_of_diff = refl
+
+extra_behind_diff : read_words (codes "diff" ∷ codes "D" ∷ codes "E" ∷ codes "102" ∷ codes "/" ∷ codes "/" ∷ []) ≡ Err (Refused 6)
+unfolding read_words command_named diff_of common_of read_options step_at step_free read_path
+extra_behind_diff = refl

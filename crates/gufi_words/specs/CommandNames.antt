@@ -2,7 +2,7 @@
 use Rattle.std.specs.Prelude.{Bool, true, false, Option, Some, None, if◌then◌else◌, bytes_eq, codes}
 use Rattle.gufi_words.specs.WordValues.{Word}
 use Rattle.gufi_words.specs.declared.name.CommandName.{CommandName}
-use Rattle.gufi_words.specs.declared.name.CommandName.TheVariants.{Walk, Trace2index, Rollup, Index2trace, Info, Refresh, Query, Agg, Find, Ls, Stat, Stats, Session, Gen}
+use Rattle.gufi_words.specs.declared.name.CommandName.TheVariants.{Walk, Trace2index, Rollup, Index2trace, Info, Refresh, Query, Agg, Find, Du, Ls, Stat, Stats, Diff, Session, Gen}
 use Rattle.gufi_words.specs.declared.name.OptionName.{OptionName}
 use Rattle.gufi_words.specs.declared.name.OptionName.TheVariants.{Passwd, Group, Delim, Limit, Workers, Now, Cache, Prefix, Long, All, Summary, Names, Escape, Header, Json}
 
@@ -17,9 +17,11 @@ command_named word =
     else if bytes_eq word (codes "query") then Some Query
     else if bytes_eq word (codes "agg") then Some Agg
     else if bytes_eq word (codes "find") then Some Find
+    else if bytes_eq word (codes "du") then Some Du
     else if bytes_eq word (codes "ls") then Some Ls
     else if bytes_eq word (codes "stat") then Some Stat
     else if bytes_eq word (codes "stats") then Some Stats
+    else if bytes_eq word (codes "diff") then Some Diff
     else if bytes_eq word (codes "session") then Some Session
     else if bytes_eq word (codes "gen") then Some Gen
     else None
@@ -88,12 +90,19 @@ allows Agg option = is_common option
 allows Find Now = true
 allows Find Prefix = true
 allows Find option = is_common option
+allows Du Passwd = true
+allows Du Group = true
+allows Du Delim = true
+allows Du Limit = true
+allows Du Now = true
+allows Du option = false
 allows Ls Long = true
 allows Ls All = true
 allows Ls option = is_common option
 allows Stat option = is_common option
 allows Stats Names = true
 allows Stats option = is_common option
+allows Diff option = is_common option
 allows Session Passwd = true
 allows Session Group = true
 allows Session Delim = true

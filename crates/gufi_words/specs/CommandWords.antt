@@ -11,7 +11,7 @@ use Rattle.gufi_words.specs.WordOptions.{delim_or_default, limit_or_default, wor
 use Rattle.gufi_words.specs.WordPositionals.{needed, perhaps, no_more}
 use Rattle.gufi_words.specs.declared.word.WordError.{WordError}
 use Rattle.gufi_words.specs.declared.name.CommandName.{CommandName}
-use Rattle.gufi_words.specs.declared.name.CommandName.TheVariants.{Walk, Trace2index, Rollup, Index2trace, Info, Refresh, Query, Agg, Find, Ls, Stat, Stats, Session, Gen}
+use Rattle.gufi_words.specs.declared.name.CommandName.TheVariants.{Walk, Trace2index, Rollup, Index2trace, Info, Refresh, Query, Agg, Find, Du, Ls, Stat, Stats, Diff, Session, Gen}
 use Rattle.gufi_words.specs.declared.option.Options.{Options}
 use Rattle.gufi_words.specs.declared.option.Arguments.{Arguments}
 use Rattle.gufi_words.specs.declared.command.Common.{Common}
@@ -107,6 +107,13 @@ find_of words arguments = do
   common ← common_of words arguments.first arguments.options
   Ok (commands.Find common arguments.options.time arguments.options.prefix (drop (arguments.first + 3) words))
 
+-- INDEX USER START DEPTH and any further words
+unfoldable pub du_of : List Word → Arguments → Result Command WordError
+du_of words arguments = do
+  common ← common_of words arguments.first arguments.options
+  depth ← needed read_u32 words (arguments.first + 3)
+  Ok (commands.Du common arguments.options.time depth (drop (arguments.first + 4) words))
+
 -- INDEX USER START
 unfoldable pub ls_of : List Word → Arguments → Result Command WordError
 ls_of words arguments = do
@@ -128,6 +135,14 @@ stats_of words arguments = do
   report ← needed read_report words (arguments.first + 3)
   no_more words (arguments.first + 4)
   Ok (commands.Stats common arguments.options.names report)
+
+-- OLD INDEX USER START
+unfoldable pub diff_of : List Word → Arguments → Result Command WordError
+diff_of words arguments = do
+  old ← needed read_file words arguments.first
+  common ← common_of words (arguments.first + 1) arguments.options
+  no_more words (arguments.first + 4)
+  Ok (commands.Diff old common)
 
 -- SCRIPT
 unfoldable pub session_of : List Word → Arguments → Result Command WordError
@@ -153,9 +168,11 @@ command_of Refresh = refresh_of
 command_of Query = query_of
 command_of Agg = agg_of
 command_of Find = find_of
+command_of Du = du_of
 command_of Ls = ls_of
 command_of Stat = stat_of
 command_of Stats = stats_of
+command_of Diff = diff_of
 command_of Session = session_of
 command_of Gen = gen_of
 
@@ -176,8 +193,10 @@ is_delimited (commands.Refresh index delim limit path trace) = true
 is_delimited (commands.Query common escape header json text) = true
 is_delimited (commands.Agg common names text) = true
 is_delimited (commands.Find common now prefix words) = true
+is_delimited (commands.Du common now depth words) = true
 is_delimited (commands.Ls common long all) = true
 is_delimited (commands.Stat common) = true
 is_delimited (commands.Stats common names report) = true
+is_delimited (commands.Diff old common) = true
 is_delimited (commands.Session passwd group delim workers now cache script) = true
 is_delimited (commands.Gen n delim workers summary) = true

@@ -91,6 +91,14 @@ pub enum Command {
         prefix: Option<Text>,
         words: Items<Text>,
     },
+    /// What the rows at and below each directory take up, down to a depth below the start.
+    Du {
+        common: Common,
+        /// In seconds.
+        now: Option<i64>,
+        depth: u32,
+        words: Items<Text>,
+    },
     Ls {
         common: Common,
         long: bool,
@@ -104,6 +112,11 @@ pub enum Command {
         /// Owners and groups are named, not numbered.
         names: bool,
         report: ReportWord,
+    },
+    /// The rows of one of two indexes, and those that differ; the index asked with the rest is the newer one.
+    Diff {
+        old: Text,
+        common: Common,
     },
     Session {
         passwd: Option<Text>,

@@ -1,9 +1,9 @@
 //! The form of each command: its positionals, and what it is made of.
 
-ghost use Rattle.std.specs.Prelude.{◌≡◌, ◌≤◌, length};
+ghost use Rattle.std.specs.Prelude.{◌≡◌, ◌+◌, ◌≤◌, length};
 ghost use Rattle.gufi_base.specs.Basics.{GivesUnless};
 ghost use Rattle.gufi_words.specs.WordTexts.{texts};
-ghost use Rattle.gufi_words.specs.CommandWords.{common_of, walk_of, trace2index_of, rollup_of, index2trace_of, info_of, refresh_of, query_of, agg_of, find_of, ls_of, stat_of, stats_of, session_of, gen_of, command_of, read_words};
+ghost use Rattle.gufi_words.specs.CommandWords.{common_of, walk_of, trace2index_of, rollup_of, index2trace_of, info_of, refresh_of, query_of, agg_of, find_of, du_of, ls_of, stat_of, stats_of, diff_of, session_of, gen_of, command_of, read_words};
 
 use crate::command::{Command, Common};
 use crate::name::CommandName;
@@ -24,7 +24,7 @@ fn common_of(
     place: usize,
     options: Options,
 ) -> Result<Common, WordError>
-    requires { place ≤ length words.now }
+    requires { place ≤ 1 + length words.now }
     ensures { GivesUnless WordError.Memory result (common_of (texts words.now) place options) }
 {
     let index = file_at(alloc, words, place)?;
@@ -199,6 +199,24 @@ fn find_of(alloc: Global, words: &[String], arguments: Arguments) -> Result<Comm
     })
 }
 
+#[tactic(auto, unfolding(crate::specs::CommandWords::du_of))]
+fn du_of(alloc: Global, words: &[String], arguments: Arguments) -> Result<Command, WordError>
+    requires { arguments.first ≤ length words.now }
+    ensures { GivesUnless WordError.Memory result (du_of (texts words.now) arguments) }
+{
+    let Arguments { options, first } = arguments;
+    let now = options.time;
+    let common = common_of(alloc, words, first, options)?;
+    let depth = u32_at(words, first + 3)?;
+    let words = words_from(alloc, words, first + 4)?;
+    Ok(Command::Du {
+        common,
+        now,
+        depth,
+        words,
+    })
+}
+
 #[tactic(auto, unfolding(crate::specs::CommandWords::ls_of))]
 fn ls_of(alloc: Global, words: &[String], arguments: Arguments) -> Result<Command, WordError>
     requires { arguments.first ≤ length words.now }
@@ -238,6 +256,18 @@ fn stats_of(alloc: Global, words: &[String], arguments: Arguments) -> Result<Com
         names,
         report,
     })
+}
+
+#[tactic(auto, unfolding(crate::specs::CommandWords::diff_of))]
+fn diff_of(alloc: Global, words: &[String], arguments: Arguments) -> Result<Command, WordError>
+    requires { arguments.first ≤ length words.now }
+    ensures { GivesUnless WordError.Memory result (diff_of (texts words.now) arguments) }
+{
+    let Arguments { options, first } = arguments;
+    let old = file_at(alloc, words, first)?;
+    let common = common_of(alloc, words, first + 1, options)?;
+    no_more(words, first + 4)?;
+    Ok(Command::Diff { old, common })
 }
 
 #[tactic(auto, unfolding(crate::specs::CommandWords::session_of))]
@@ -294,9 +324,11 @@ fn command_of(
         CommandName::Query => query_of(alloc, words, arguments),
         CommandName::Agg => agg_of(alloc, words, arguments),
         CommandName::Find => find_of(alloc, words, arguments),
+        CommandName::Du => du_of(alloc, words, arguments),
         CommandName::Ls => ls_of(alloc, words, arguments),
         CommandName::Stat => stat_of(alloc, words, arguments),
         CommandName::Stats => stats_of(alloc, words, arguments),
+        CommandName::Diff => diff_of(alloc, words, arguments),
         CommandName::Session => session_of(alloc, words, arguments),
         CommandName::Gen => gen_of(words, arguments),
     }

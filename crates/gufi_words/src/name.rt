@@ -15,9 +15,11 @@ pub(crate) enum CommandName {
     Query,
     Agg,
     Find,
+    Du,
     Ls,
     Stat,
     Stats,
+    Diff,
     Session,
     Gen,
 }
@@ -112,9 +114,11 @@ impl CommandName {
             "query" => Some(CommandName::Query),
             "agg" => Some(CommandName::Agg),
             "find" => Some(CommandName::Find),
+            "du" => Some(CommandName::Du),
             "ls" => Some(CommandName::Ls),
             "stat" => Some(CommandName::Stat),
             "stats" => Some(CommandName::Stats),
+            "diff" => Some(CommandName::Diff),
             "session" => Some(CommandName::Session),
             "gen" => Some(CommandName::Gen),
             _ => None,
@@ -142,10 +146,18 @@ impl CommandName {
             CommandName::Agg | CommandName::Stats => {
                 matches!(option, OptionName::Names) || option.is_common()
             }
-            CommandName::Stat => option.is_common(),
+            CommandName::Stat | CommandName::Diff => option.is_common(),
             CommandName::Find => {
                 matches!(option, OptionName::Now | OptionName::Prefix) || option.is_common()
             }
+            CommandName::Du => matches!(
+                option,
+                OptionName::Passwd
+                    | OptionName::Group
+                    | OptionName::Delim
+                    | OptionName::Limit
+                    | OptionName::Now
+            ),
             CommandName::Ls => {
                 matches!(option, OptionName::Long | OptionName::All) || option.is_common()
             }

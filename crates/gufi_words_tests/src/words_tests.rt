@@ -21,9 +21,11 @@ fn unseen(alloc: Global, command: &Command) -> Result<String, AllocError> {
         Command::Query { common, .. } => common,
         Command::Agg { common, .. } => common,
         Command::Find { common, .. } => common,
+        Command::Du { common, .. } => common,
         Command::Ls { common, .. } => common,
         Command::Stat { common } => common,
         Command::Stats { common, .. } => common,
+        Command::Diff { common, .. } => common,
         _ => return Ok(String::new(alloc)),
     };
     format!(in alloc; "{} {}", common.limit, common.workers)
@@ -44,9 +46,11 @@ fn what_no_run_shows_is_read(rt: HostRuntime) -> Result<(), Fail> {
         ("query H ana / SELECT", "0 1"),
         ("agg --limit=2 H ana / SELECT", "2 1"),
         ("find --now=-1 --group g H ana / -size 1", "0 1"),
+        ("du --limit=2 H ana / 1 -size 1", "2 1"),
         ("ls -A H ana /", "0 1"),
         ("stat --limit 3 H ana /p", "3 1"),
         ("stats H ana / uids", "0 1"),
+        ("diff --limit=3 --workers 4 G H ana /", "3 4"),
         ("session --workers 4 --passwd=p S", "4 0"),
         ("session --cache=256 S", "1 256"),
         ("gen --summary 5", "30 1"),
