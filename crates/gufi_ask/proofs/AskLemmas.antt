@@ -1,6 +1,6 @@
 -- Lemmas on what is asked of one tree.
 use Rattle.std.proofs.Common.{◌≡◌, ◌≢◌, ℕ, ◌≤◌, true, false, not, cond, List, [], ◌∷◌, length, get_or, refl, sym, ap, ◌∙◌, subst, arith}
-use Rattle.std.specs.Prelude.{Bool, Option, Some, None, Result, Ok, Err, filter, Vec}
+use Rattle.std.specs.Prelude.{Bool, Option, Some, None, Result, Ok, Err, IfOk, OnOk, IfErr, filter, Vec}
 use Rattle.std.specs.declared.alloc.Global.{Global}
 use Rattle.std.specs.List.{flat_map}
 use Rattle.std.proofs.lemmas.List.{append-nil, length-map}
@@ -24,14 +24,16 @@ use Rattle.gufi_tree.proofs.Kids.{Has-get_or}
 use Rattle.gufi_tree.proofs.Linked.{path_at-get}
 use Rattle.gufi_sums.specs.declared.summary.Summary.{Summary}
 use Rattle.gufi_sums.specs.Total.{total}
+use Rattle.gufi_find.specs.Expressions.{Find, find_holds}
 use Rattle.gufi_list.specs.Texts.{stat_text}
+use Rattle.gufi_usage.specs.UsageLines.{usage_lines}
 use Rattle.gufi_walk.specs.declared.refusal.Refusal.{Refusal}
 use Rattle.gufi_walk.specs.Answer.{answer, listed_rows, nameless, refusal_of, rows_or, shown}
 use Rattle.gufi_walk.proofs.Isolation.{alike_replies}
 use Rattle.gufi_walk.proofs.StartRow.{start_row}
 use Rattle.gufi_walk.specs.declared.refusal.Refusal.TheVariants as refusals
 use Rattle.gufi_ask.specs.Replies.{Replies}
-use Rattle.gufi_ask.specs.Asks.{Ask, stat_ask, ask_holds, ask_text, ask_reply, AsksArePrivate}
+use Rattle.gufi_ask.specs.Asks.{Ask, stat_ask, usage_ask, ask_holds, ask_text, ask_reply, AsksArePrivate}
 
 -- where the start is found, the text of the answer
 pub reply_found : (tree : List Directory) (who : Principal) (start : Components) (ask : Ask) → refusal_of (resolve tree who start) ≡ None
@@ -85,6 +87,14 @@ replies_found tree who start ask text found is = reply_found tree who start ask 
 pub replies_refused : (tree : List Directory) (who : Principal) (start : Components) (ask : Ask) (refusal : Refusal)
     → (refusal ≢ refusals.Memory → refusal_of (resolve tree who start) ≡ Some refusal) → Replies (Err refusal) (ask_reply tree who start ask)
 replies_refused tree who start ask refusal is = λ other. reply_refused tree who start ask refusal (is other)
+
+-- so with the lines of du
+pub usages_replied : (tree : List Directory) (who : Principal) (start : Components) (depth : ℕ) (expression : Find) (chosen : Row → ℕ → Bool) → chosen ≡ find_holds expression → (r : Result (Vec ℕ Global) Refusal)
+    → IfOk r (λ text. text.items ≡ usage_lines depth chosen start (answer tree who start (λ _ _. true))) → OnOk r (refusal_of (resolve tree who start) ≡ None)
+    → IfErr r (λ refusal. refusal ≢ refusals.Memory → refusal_of (resolve tree who start) ≡ Some refusal) → Replies r (ask_reply tree who start (usage_ask depth expression))
+usages_replied tree who start depth expression chosen same (Ok text) is found refused =
+    replies_found tree who start (usage_ask depth expression) text found (is ∙ ap (λ f. usage_lines depth f start (answer tree who start (λ _ _. true))) same)
+usages_replied tree who start depth expression chosen same (Err refusal) is found refused = replies_refused tree who start (usage_ask depth expression) refusal refused
 
 -- an answer has no more rows than its tree
 filter-few : (p : Row → Bool) (rows : List Row) → length (filter p rows) ≤ length rows

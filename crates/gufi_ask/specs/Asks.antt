@@ -20,14 +20,16 @@ use Rattle.gufi_list.specs.Texts.{stat_text, total_text}
 use Rattle.gufi_list.specs.Listings.{ls_text, ls_asks}
 use Rattle.gufi_stats.specs.declared.report.Report.{Report}
 use Rattle.gufi_stats.specs.Reports.{stats_text}
+use Rattle.gufi_usage.specs.UsageLines.{usage_lines}
 use Rattle.gufi_walk.specs.declared.refusal.Refusal.{Refusal}
 use Rattle.gufi_walk.specs.Answer.{reply_rows, Alike}
 
--- find has what stands before each path, if anything; ls has the names of owners, and whether it is long and shows all; reports and
+-- find has what stands before each path, if anything; du has the depth to which directories have a line; ls has the names of owners, and whether it is long and shows all; reports and
 -- groups have such names, if they are to tell them; a total has the words before it
 pub data Ask : Type 0 where
   walk_ask : Ask
   find_ask : Option (List ℕ) → Find → Ask
+  usage_ask : ℕ → Find → Ask
   ls_ask : UserTables → Bool → Bool → Ask
   stat_ask : Ask
   stats_ask : Option UserTables → Report → Ask
@@ -35,10 +37,11 @@ pub data Ask : Type 0 where
   query_ask : Form → Select → Ask
   agg_ask : Option UserTables → Agg → Ask
 
--- whether an ask admits a row at a depth below its start
+-- whether an ask admits a row at a depth below its start; du admits all, since what its expression is false of may have a line
 abbrev pub ask_holds : Ask → Row → ℕ → Bool
 ask_holds walk_ask row depth = true
 ask_holds (find_ask prefix expression) row depth = find_holds expression row depth
+ask_holds (usage_ask lines expression) row depth = true
 ask_holds (ls_ask tables long all) row depth = ls_asks all row depth
 ask_holds stat_ask row depth = true
 ask_holds (stats_ask names report) row depth = true
@@ -66,6 +69,7 @@ total_line name sum = line (name ++ codes " " ++ total_text sum)
 abbrev pub ask_text : Ask → Components → List Row → List ℕ
 ask_text walk_ask start rows = path_lines rows
 ask_text (find_ask prefix expression) start rows = found_lines prefix rows
+ask_text (usage_ask depth expression) start rows = usage_lines depth (find_holds expression) start rows
 ask_text (ls_ask tables long all) start rows = ls_text rows tables long all
 ask_text stat_ask start rows = stat_lines start rows
 ask_text (stats_ask names report) start rows = stats_text names rows start report

@@ -12,6 +12,7 @@ mod reports;
 mod rows;
 mod snapshots;
 mod sums;
+mod usages;
 
 pub use groups::groups_text;
 pub use laws::asks_are_private;
@@ -20,3 +21,4 @@ pub use reports::report_text;
 pub use rows::{listing_text, query_text};
 pub use snapshots::{ready_to_find, ready_to_select};
 pub use sums::{record_text, total_for};
+pub use usages::usages_text;

@@ -1,0 +1,4 @@
+pub mod Usages
+pub mod Laws
+pub mod UsageLines
+pub mod Near
