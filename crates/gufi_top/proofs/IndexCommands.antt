@@ -33,7 +33,7 @@ use Rattle.gufi_top.specs.declared.index.Indexed.{Indexed}
 use Rattle.gufi_top.specs.Views.{text_view}
 use Rattle.gufi_top.specs.Calls.{Gives, GivesOver}
 use Rattle.gufi_top.specs.Reasons.{Reason, not_found as no_file, unwritten_reason, refresh_reason, trace_in, is_image, index_in, told_in}
-use Rattle.gufi_top.specs.Verdict.{Verdict, writes_only, trace_written, index2trace_over, info_over, refreshed_image, refresh_by, refresh_over}
+use Rattle.gufi_top.specs.Verdict.{writes_only, trace_written, index2trace_over, info_over, refreshed_image, refresh_by, refresh_over}
 use Rattle.gufi_top.specs.Complete.{RefreshIsAnswerable}
 use Rattle.gufi_top.proofs.ReadingLemmas.{given_as}
 use Rattle.gufi_top.proofs.StepLemmas.{over_ok, over_err, given_over}
