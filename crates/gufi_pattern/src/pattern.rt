@@ -36,7 +36,9 @@ impl Model for Pattern {
 }
 
 impl Pattern {
-    /// Reads a pattern by the syntax of the `regex` crate over bytes.
+    /// Reads a pattern by the syntax of the `regex` crate over bytes, in the time that `regex` takes to build it.
+    ///
+    /// One that `regex` refuses for another cause than its syntax, such as its size, is answered as `Memory`.
     pub fn of(alloc: Global, pattern: &[u8]) -> Result<Pattern, PatternFault>
         ensures built { IfOk result (λ p. p ≡ pattern.now) }
         ensures good { IfOk result (λ _. is_bad_pattern pattern.now ≡ false) }
@@ -52,7 +54,7 @@ impl Pattern {
         }
     }
 
-    /// A search for it.
+    /// A search for it, with memory of its own.
     pub fn search(&self, alloc: Global) -> Result<Search<'_>, Memory>
         ensures { IfOk result (λ s. s ≡ self.now) }
     {
@@ -85,7 +87,7 @@ impl<'p> Model for Search<'p> {
 }
 
 impl<'p> Search<'p> {
-    /// Whether the pattern is found in the text.
+    /// Whether the pattern is found in the text, at any place.
     pub fn is_found(&mut self, text: &[u8]) -> bool
         ensures found { result ≡ is_pattern_found self.old text.now }
         ensures same { self.new ≡ self.old }
