@@ -23,7 +23,7 @@ use Rattle.gufi_base.specs.Paths.{Components}
 use Rattle.gufi_info.specs.Info.{info_text}
 use Rattle.gufi_trace.specs.TraceWriting.{written_trace}
 use Rattle.gufi_top.specs.Reasons.{Reason, unwritten_reason, trace_in, index_in, told_in}
-use Rattle.gufi_top.specs.Verdict.{Written, Verdict, writes, runs, Asking, stat_asking, find_asking, ls_asking, stats_asking, report_of, form_of, query_asking, agg_asking, replied, ask_over, diff_over, trace2index_over, rollup_over, index2trace_over, info_over, refresh_over, session_plan, max_cache, run_over, session_over, summary_of, generated_tree, summary_over, gen_verdict, command_over, verdict}
+use Rattle.gufi_top.specs.Verdict.{Written, Verdict, writes, runs, Asking, stat_asking, find_asking, usage_asking, ls_asking, stats_asking, report_of, form_of, query_asking, agg_asking, replied, ask_over, diff_over, trace2index_over, rollup_over, index2trace_over, info_over, refresh_over, session_plan, max_cache, run_over, session_over, summary_of, generated_tree, summary_over, gen_verdict, command_over, verdict}
 use Rattle.gufi_top.specs.Ends.{told_verdict, RunEnds, EndsWith, EndedBy, IsVerdictStatus}
 use Rattle.gufi_top.specs.Endings.{HasRun}
 use Rattle.gufi_top.specs.Complete.{AskIsAnswerable, DiffIsAnswerable, TraceIsAnswerable, RefreshIsAnswerable, SessionIsAnswerable, IsAnswerable, IsAnswered, Completes}
@@ -90,7 +90,7 @@ command_answered (commands.Refresh index delim limit path trace) files can = ref
 command_answered (commands.Query common escape header json text) files can = ask_answered common (query_asking common.user_at (form_of escape header json) text) files can
 command_answered (commands.Agg common names text) files can = ask_answered common (agg_asking common.user_at names text) files can
 command_answered (commands.Find common now prefix words) files can = ask_answered common (find_asking common.user_at now prefix words) files can
-command_answered (commands.Du common now depth words) files can = ask_answered common stat_asking files can -- STUB OF DU
+command_answered (commands.Du common now depth words) files can = ask_answered common (usage_asking (common.user_at + 1) now depth words) files can
 command_answered (commands.Ls common long all) files can = ask_answered common (ls_asking long all) files can
 command_answered (commands.Stat common) files can = ask_answered common stat_asking files can
 command_answered (commands.Stats common names report) files can = ask_answered common (stats_asking names (report_of report)) files can

@@ -1,6 +1,6 @@
 -- Lemmas on what changed from one index to another.
 use Rattle.std.proofs.Common.{◌≡◌, ◌≢◌, ℕ, true, List, refl, sym, ap, ◌∙◌}
-use Rattle.std.specs.Prelude.{Option, Some, None, Result, Ok, Err, IfErr, ok_or}
+use Rattle.std.specs.Prelude.{Option, Some, Result, Ok, Err, IfErr, ok_or}
 use Rattle.gufi_io.specs.Files.{Files}
 use Rattle.gufi_base.specs.declared.record.Row.{Row}
 use Rattle.gufi_base.specs.Basics.{◌>>=◌, result_map_err, GivesUnless}

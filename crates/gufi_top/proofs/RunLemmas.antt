@@ -27,7 +27,7 @@ use Rattle.gufi_tree.specs.Graft.{graft}
 use Rattle.gufi_trace.specs.TraceWriting.{written_trace}
 use Rattle.gufi_top.specs.Reasons.{Reason, word_refused, words_reason, unwritten_reason, refresh_reason, tables_in, trace_in, index_in, told_in}
 use Rattle.gufi_image.specs.Image.{image_text}
-use Rattle.gufi_top.specs.Verdict.{Verdict, writes, runs, writes_only, replied, asked, asked_if, walk_over, user_in, Asking, listed_in, diff_from, diff_by, diff_over, asked_by, index_over, ask_over, stat_asking, find_asking, ls_asking, stats_asking, report_of, form_of, query_asking, agg_asking, trace2index_over, rolled_up, rollup_over, trace_written, index2trace_over, info_over, refreshed_image, refresh_by, refresh_over, summary_of, generated_tree, summary_over, gen_verdict, command_over, command_in, verdict, MayRefuse, MayRefuseWords, are_one_shot, is_one_shot, files_ahead, files_ahead_of}
+use Rattle.gufi_top.specs.Verdict.{Verdict, writes, runs, writes_only, replied, asked, asked_if, walk_over, user_in, Asking, listed_in, diff_from, diff_by, diff_over, asked_by, index_over, ask_over, stat_asking, find_asking, usage_asking, ls_asking, stats_asking, report_of, form_of, query_asking, agg_asking, trace2index_over, rolled_up, rollup_over, trace_written, index2trace_over, info_over, refreshed_image, refresh_by, refresh_over, summary_of, generated_tree, summary_over, gen_verdict, command_over, command_in, verdict, MayRefuse, MayRefuseWords, are_one_shot, is_one_shot, files_ahead, files_ahead_of}
 use Rattle.gufi_top.specs.Calls.{Gives, GivesOver, IsOfBytes, IsOfWords, OfWordsOnlyBy}
 use Rattle.gufi_top.specs.Views.{text_view}
 use Rattle.gufi_top.specs.Ends.{told_verdict}
@@ -128,7 +128,7 @@ command_writes (variants.Refresh index delim limit path trace) files one =
 command_writes (variants.Query common escape header json text) files one = ask_writes common (query_asking common.user_at (form_of escape header json) text) files
 command_writes (variants.Agg common names text) files one = ask_writes common (agg_asking common.user_at names text) files
 command_writes (variants.Find common now prefix words) files one = ask_writes common (find_asking common.user_at now prefix words) files
-command_writes (variants.Du common now depth words) files one = ask_writes common stat_asking files -- STUB OF DU
+command_writes (variants.Du common now depth words) files one = ask_writes common (usage_asking (common.user_at + 1) now depth words) files
 command_writes (variants.Ls common long all) files one = ask_writes common (ls_asking long all) files
 command_writes (variants.Stat common) files one = ask_writes common stat_asking files
 command_writes (variants.Stats common names report) files one = ask_writes common (stats_asking names (report_of report)) files

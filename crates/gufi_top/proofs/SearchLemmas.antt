@@ -16,7 +16,7 @@ use Rattle.gufi_select.specs.Columns.{Select}
 use Rattle.gufi_forms.specs.declared.form.Form.{Form}
 use Rattle.gufi_agg.specs.Aggs.{Agg}
 use Rattle.gufi_base.specs.Paths.{Components}
-use Rattle.gufi_ask.specs.Asks.{Ask, find_ask, query_ask, agg_ask}
+use Rattle.gufi_ask.specs.Asks.{Ask, find_ask, usage_ask, query_ask, agg_ask}
 use Rattle.gufi_top.specs.Calls.{Gives, GivesOver, IsPastWords, OfWordsOnlyBy}
 use Rattle.gufi_top.specs.Views.{text_view}
 use Rattle.gufi_top.specs.declared.halt.Output.{Output}
@@ -62,6 +62,17 @@ pub expression_err : (prefix : Option (List ℕ)) (tree : List Directory) (who :
 expression_err prefix = query_err (find_ask prefix)
 
 pub ruleset expressions = (expression_ok, expression_err)
+
+pub usages_ok : (depth : ℕ) (tree : List Directory) (who : Principal) (start : Components) (read : Result Find Reason) (expression : Find) (r : Result Output Halt)
+    → Gives {A = Find} (λ f. f) (Ok expression) read → Gives text_view r (asked tree who start (usage_ask depth expression))
+    → Gives text_view r (asked_if tree who start (read >>= λ f. Ok (usage_ask depth f)))
+usages_ok depth = query_ok (usage_ask depth)
+
+pub usages_err : (depth : ℕ) (tree : List Directory) (who : Principal) (start : Components) (read : Result Find Reason) (e : Halt)
+    → Gives {A = Find} (λ f. f) (Err e) read → Gives text_view (Err e) (asked_if tree who start (read >>= λ f. Ok (usage_ask depth f)))
+usages_err depth = query_err (usage_ask depth)
+
+pub ruleset usages = (usages_ok, usages_err)
 
 -- a SELECT that is read, and then taken in a form
 pub select_read : (read : Result Select SelectError) (select : Select) (user_at : ℕ) (form : Form) (r : Result Select Halt)

@@ -1,5 +1,5 @@
 -- What leaves a run nothing to refuse, and how it ends then.
-use Rattle.std.specs.Prelude.{◌≡◌, ◌≤◌, ◌⊎◌, ℕ, not, IsTrue, List, [], is_ok, ⊤, Some, None, Result, Ok, Err}
+use Rattle.std.specs.Prelude.{◌≡◌, ◌+◌, ◌≤◌, ◌⊎◌, ℕ, not, IsTrue, List, [], is_ok, ⊤, Some, None, Result, Ok, Err}
 use Rattle.gufi_io.specs.Causes.{Rose}
 use Rattle.gufi_io.specs.Files.{Files}
 use Rattle.gufi_io.specs.declared.shelf.Shelf.{Ghosts as ShelfOf}
@@ -23,7 +23,7 @@ use Rattle.gufi_words.specs.declared.command.Command.{Command}
 use Rattle.gufi_words.specs.declared.command.Command.TheVariants as commands
 use Rattle.gufi_top.specs.Reasons.{Reason, tables_in, trace_in, index_in}
 use Rattle.gufi_ask.specs.Asks.{Ask}
-use Rattle.gufi_top.specs.Verdict.{Verdict, writes, runs, Asking, stat_asking, find_asking, ls_asking, stats_asking, report_of, form_of, query_asking, agg_asking, session_plan, verdict}
+use Rattle.gufi_top.specs.Verdict.{Verdict, writes, runs, Asking, stat_asking, find_asking, usage_asking, ls_asking, stats_asking, report_of, form_of, query_asking, agg_asking, session_plan, verdict}
 use Rattle.gufi_top.specs.Ends.{EndedBy}
 
 -- ---- of the words and the files
@@ -88,7 +88,7 @@ IsAnswerable (commands.Refresh index delim limit path trace) files = RefreshIsAn
 IsAnswerable (commands.Query common escape header json text) files = AskIsAnswerable common (query_asking common.user_at (form_of escape header json) text) files
 IsAnswerable (commands.Agg common names text) files = AskIsAnswerable common (agg_asking common.user_at names text) files
 IsAnswerable (commands.Find common now prefix words) files = AskIsAnswerable common (find_asking common.user_at now prefix words) files
-IsAnswerable (commands.Du common now depth words) files = AskIsAnswerable common stat_asking files -- STUB OF DU
+IsAnswerable (commands.Du common now depth words) files = AskIsAnswerable common (usage_asking (common.user_at + 1) now depth words) files
 IsAnswerable (commands.Ls common long all) files = AskIsAnswerable common (ls_asking long all) files
 IsAnswerable (commands.Stat common) files = AskIsAnswerable common stat_asking files
 IsAnswerable (commands.Stats common names report) files = AskIsAnswerable common (stats_asking names (report_of report)) files

@@ -41,7 +41,7 @@ use Rattle.gufi_words.specs.declared.command.Common.{Common}
 use Rattle.gufi_words.specs.declared.command.Command.{Command}
 use Rattle.gufi_words.specs.declared.command.Command.TheVariants as commands
 use Rattle.gufi_top.specs.Reasons.{Reason, word_refused, words_reason, find_reason, select_reason, column_twice, agg_reason, script_reason, start_reason, unwritten_reason, refresh_reason, named_count, tables_in, acts_in, trace_in, tree_within, index_in, told_in}
-use Rattle.gufi_ask.specs.Asks.{Ask, walk_ask, find_ask, ls_ask, stat_ask, stats_ask, total_ask, query_ask, agg_ask, ask_reply}
+use Rattle.gufi_ask.specs.Asks.{Ask, walk_ask, find_ask, usage_ask, ls_ask, stat_ask, stats_ask, total_ask, query_ask, agg_ask, ask_reply}
 
 -- what goes to the output, and the note of status 0
 pub record Written : Type 0 where
@@ -96,12 +96,16 @@ ask_over common asking files = tables_in common.passwd common.group files >>= λ
 abbrev pub stat_asking : Asking
 stat_asking tables = Ok stat_ask
 
--- the words of an expression, judged with the users
+-- the words of an expression, judged with the users; a fault tells the number of its word, where the expression begins two words behind that of this number
 abbrev pub expression_in : ℕ → Option ℤ → List (List ℕ) → UserTables → Result Find Reason
-expression_in user_at now words tables = result_map_err (find_reason user_at) (read_find words tables now)
+expression_in before now words tables = result_map_err (find_reason before) (read_find words tables now)
 
 abbrev pub find_asking : ℕ → Option ℤ → Option (List ℕ) → List (List ℕ) → Asking
 find_asking user_at now prefix words tables = expression_in user_at now words tables >>= λ expression. Ok (find_ask prefix expression)
+
+-- START and DEPTH stand between USER and the expression
+abbrev pub usage_asking : ℕ → Option ℤ → ℕ → List (List ℕ) → Asking
+usage_asking before now depth words tables = expression_in before now words tables >>= λ expression. Ok (usage_ask depth expression)
 
 abbrev pub ls_asking : Bool → Bool → Asking
 ls_asking long all tables = Ok (ls_ask tables long all)
@@ -278,7 +282,7 @@ command_over (commands.Refresh index delim limit path trace) = refresh_over inde
 command_over (commands.Query common escape header json text) = ask_over common (query_asking common.user_at (form_of escape header json) text)
 command_over (commands.Agg common names text) = ask_over common (agg_asking common.user_at names text)
 command_over (commands.Find common now prefix words) = ask_over common (find_asking common.user_at now prefix words)
-command_over (commands.Du common now depth words) = ask_over common stat_asking -- STUB OF DU
+command_over (commands.Du common now depth words) = ask_over common (usage_asking (common.user_at + 1) now depth words)
 command_over (commands.Ls common long all) = ask_over common (ls_asking long all)
 command_over (commands.Stat common) = ask_over common stat_asking
 command_over (commands.Stats common names report) = ask_over common (stats_asking names (report_of report))
@@ -340,7 +344,7 @@ MayRefuse (commands.Refresh index delim limit path trace) why = ⊥
 MayRefuse (commands.Query common escape header json text) why = AskMayRefuse common (query_asking common.user_at (form_of escape header json) text) why
 MayRefuse (commands.Agg common names text) why = AskMayRefuse common (agg_asking common.user_at names text) why
 MayRefuse (commands.Find common now prefix words) why = AskMayRefuse common (find_asking common.user_at now prefix words) why
-MayRefuse (commands.Du common now depth words) why = AskMayRefuse common stat_asking why -- STUB OF DU
+MayRefuse (commands.Du common now depth words) why = AskMayRefuse common (usage_asking (common.user_at + 1) now depth words) why
 MayRefuse (commands.Ls common long all) why = AskMayRefuse common (ls_asking long all) why
 MayRefuse (commands.Stat common) why = AskMayRefuse common stat_asking why
 MayRefuse (commands.Stats common names report) why = AskMayRefuse common (stats_asking names (report_of report)) why

@@ -69,13 +69,12 @@ pub(crate) fn workers_of(command: &Command) -> u32 {
         | Command::Stats { common, .. } => common.workers,
         Command::Session { workers, .. } | Command::Gen { workers, .. } => *workers,
         Command::Walk { .. }
+        | Command::Du { .. }
         | Command::Trace2index { .. }
         | Command::Rollup { .. }
         | Command::Index2trace { .. }
         | Command::Info { .. }
-        | Command::Refresh { .. }
-        // STUB OF DU
-        | Command::Du { .. } => 1,
+        | Command::Refresh { .. } => 1,
     }
 }
 
@@ -140,6 +139,15 @@ pub(crate) fn answer_command<R: Threads + Wait + Sync, F: Shelf, G: Gate + Sync>
             let question = Question::find(common, *now, prefix, words);
             ask(walkers, alloc, shelf, common, &question)
         }
+        Command::Du {
+            common,
+            now,
+            depth,
+            words,
+        } => {
+            let question = Question::usages(common, *now, *depth, words);
+            ask(walkers, alloc, shelf, common, &question)
+        }
         Command::Query {
             common,
             escape,
@@ -165,8 +173,6 @@ pub(crate) fn answer_command<R: Threads + Wait + Sync, F: Shelf, G: Gate + Sync>
             };
             ask(walkers, alloc, shelf, common, &question)
         }
-        // STUB OF DU
-        Command::Du { common, .. } => ask(walkers, alloc, shelf, common, &Question::Stat),
         Command::Stat { common } => ask(walkers, alloc, shelf, common, &Question::Stat),
         Command::Stats {
             common,
@@ -176,13 +182,13 @@ pub(crate) fn answer_command<R: Threads + Wait + Sync, F: Shelf, G: Gate + Sync>
             let question = Question::stats(*names, *report);
             ask(walkers, alloc, shelf, common, &question)
         }
+        Command::Diff { old, common } => diff(walkers, alloc, shelf, old.as_str(), common),
         Command::Gen {
             n,
             delim,
             summary,
             ..
         } => generate(alloc, *n, *delim, *summary),
-        Command::Diff { old, common } => diff(walkers, alloc, shelf, old.as_str(), common),
         Command::Session { .. } => unreachable!(),
     }
 }

@@ -30,9 +30,8 @@ mod words;
 pub use ending::Outcome;
 pub use laws::{
     answerable_commands_are_answered, diff_writes_the_changes, diffs_are_private,
-    find_writes_the_listed_rows,
-    find_writes_the_listed_rows_behind_its_prefix, gen_is_never_refused,
-    images_come_back_from_traces, indexes_come_back_from_traces,
+    find_writes_the_listed_rows, find_writes_the_listed_rows_behind_its_prefix,
+    gen_is_never_refused, images_come_back_from_traces, indexes_come_back_from_traces,
     refresh_writes_the_image_of_its_tree, traces_come_back_from_images,
     walk_writes_the_listed_rows,
 };

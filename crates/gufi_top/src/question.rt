@@ -8,11 +8,11 @@ ghost use Rattle.gufi_select.specs.Columns.{Select as SeenSelect};
 ghost use Rattle.gufi_select.specs.Faults.{select_kind_text};
 ghost use Rattle.gufi_agg.specs.Aggs.{Agg as SeenAgg};
 ghost use Rattle.gufi_agg.specs.Faults.{agg_kind_text};
-ghost use Rattle.gufi_ask.specs.Asks.{find_ask, query_ask, agg_ask};
+ghost use Rattle.gufi_ask.specs.Asks.{find_ask, usage_ask, query_ask, agg_ask};
 ghost use Rattle.gufi_top.specs.Questions.{asks};
 ghost use Rattle.gufi_top.specs.Reasons.{word_fault, text_fault, column_twice};
 ghost use Rattle.gufi_top.specs.Views.{text_view};
-ghost use Rattle.gufi_top.specs.Verdict.{asked, asked_if, expression_in, find_asking, named_by, stats_asking, report_of, form_of, twice_in, written_in, select_in, query_asked, query_asking, agg_in, agg_asking};
+ghost use Rattle.gufi_top.specs.Verdict.{asked, asked_if, expression_in, find_asking, usage_asking, named_by, stats_asking, report_of, form_of, twice_in, written_in, select_in, query_asked, query_asking, agg_in, agg_asking};
 ghost use Rattle.gufi_top.specs.Calls.{Gives, IsOfBytes};
 
 use crate::halt::{Halt, Output, refused};
@@ -22,9 +22,9 @@ use gufi_access::Principal;
 use gufi_agg::{Agg, AggError, AggKind, read_agg};
 use gufi_ask::{
     find_text, groups_text, listing_text, query_text, ready_to_find, ready_to_select, record_text,
-    report_text,
+    report_text, usages_text,
 };
-use gufi_base::{Bytes, Items, Path, Text};
+use gufi_base::{Bytes, Items, Path, Text, capped_u32};
 use gufi_find::{FindError, FindExpr, FindKind, read_find};
 use gufi_forms::{Form, first_twice};
 use gufi_io::Gate;
@@ -38,23 +38,37 @@ use std::alloc::{AllocError, Global};
 use std::sync::Wait;
 use std::thread::Threads;
 
-/// The rows for which an expression is true.
+/// The words of an expression.
 #[derive(Clone, Copy)]
-pub(crate) struct Find<'a> {
-    /// The number of the word USER, behind which START and the expression stand.
-    user_at: u32,
+struct Expression<'a> {
+    /// The number of the word behind which one more stands, and then the expression.
+    before: usize,
     /// From which times count back, in seconds.
     moment: Option<i64>,
-    /// What stands before each path.
-    prefix: Option<&'a Text>,
     words: &'a [Text],
 }
 
+/// The rows for which an expression is true.
+#[derive(Clone, Copy)]
+pub(crate) struct Find<'a> {
+    expression: Expression<'a>,
+    /// What stands before each path.
+    prefix: Option<&'a Text>,
+}
+
+/// What the rows take up for which an expression is true, in lines of directories.
+#[derive(Clone, Copy)]
+pub(crate) struct Usages<'a> {
+    expression: Expression<'a>,
+    /// How many levels below the start directories have lines.
+    depth: u32,
+}
+
 // The number of a word of an expression; the last that can be told stands for all above it.
-fn expression_word(user_at: u32, word: u32) -> u32
-    ensures { result ≡ capped_number (user_at + 1 + word) }
+fn expression_word(before: usize, word: u32) -> u32
+    ensures { result ≡ capped_number (before + 1 + word) }
 {
-    user_at.saturating_add(1).saturating_add(word)
+    capped_u32(before.saturating_add(1).saturating_add(word as usize))
 }
 
 // An expression isn't read: a word is faulty.
@@ -76,17 +90,17 @@ fn bytes_of(alloc: Global, words: &[Text]) -> Result<Vec<Bytes>, AllocError>
     Ok(copies)
 }
 
-impl Find<'_> {
+impl Expression<'_> {
     // The expression that the words are.
-    fn expression(&self, alloc: Global, users: &Users) -> Result<FindExpr, Halt>
-        ensures expression { Gives (λ (f : SeenFind). f) result (expression_in self.now.user_at self.now.moment self.now.words.now users.now) }
+    fn read(&self, alloc: Global, users: &Users) -> Result<FindExpr, Halt>
+        ensures expression { Gives (λ (f : SeenFind). f) result (expression_in self.now.before self.now.moment self.now.words.now users.now) }
         ensures of_bytes { IfErr result IsOfBytes }
     {
         let words = bytes_of(alloc, self.words)?;
         match read_find(alloc, words.as_slice(), users, self.moment) {
             Ok(expression) => Ok(expression),
             Err(FindError::Fault { word, kind }) => {
-                refuse_word(alloc, expression_word(self.user_at, word), kind)
+                refuse_word(alloc, expression_word(self.before, word), kind)
             }
             Err(FindError::Memory) => Err(Halt::Memory),
         }
@@ -253,6 +267,28 @@ fn found<R: Threads + Wait + Sync, G: Gate + Sync>(
     written(alloc, reply)
 }
 
+// The same of what these rows take up, in lines of directories. One thread sums them.
+#[tactic(auto, using(crate::proofs::ReplyLemmas::asking))]
+fn summed(
+    alloc: Global,
+    snap: Snapshot,
+    who: &Principal,
+    start: &Path,
+    depth: u32,
+    expression: FindExpr,
+) -> Result<Output, Halt>
+    ensures text { Gives text_view result (asked snap.tree who.now start.now (usage_ask depth expression)) }
+    ensures of_bytes { IfErr result IsOfBytes }
+{
+    let Ok(snap) = ready_to_find(alloc, snap, who, &expression) else {
+        drop(expression);
+        return Err(Halt::Memory);
+    };
+    let reply = usages_text(alloc, &snap, who, start, depth, &expression);
+    drop(expression);
+    written_over(alloc, snap, reply)
+}
+
 // The same of the columns of the rows that a SELECT chooses.
 #[tactic(auto, using(crate::proofs::ReplyLemmas::asking))]
 fn selected<R: Threads + Wait + Sync, G: Gate + Sync>(
@@ -311,11 +347,35 @@ impl Find<'_> {
         who: &Principal,
         start: &Path,
     ) -> Result<Output, Halt>
-        ensures text { Gives text_view result (asked_if snap.tree who.now start.now (find_asking self.now.user_at self.now.moment (option_copied self.now.prefix) self.now.words.now users.now)) }
+        ensures text { Gives text_view result (asked_if snap.tree who.now start.now (find_asking self.now.expression.before self.now.expression.moment (option_copied self.now.prefix) self.now.expression.words.now users.now)) }
         ensures of_bytes { IfErr result IsOfBytes }
     {
-        match self.expression(alloc, users) {
+        match self.expression.read(alloc, users) {
             Ok(expression) => found(walkers, alloc, snap, who, start, self.prefix, expression),
+            Err(halt) => {
+                drop(snap);
+                Err(halt)
+            }
+        }
+    }
+}
+
+impl Usages<'_> {
+    // The same of what the rows take up.
+    #[tactic(auto, using(crate::proofs::SearchLemmas::usages))]
+    fn answer(
+        &self,
+        alloc: Global,
+        users: &Users,
+        snap: Snapshot,
+        who: &Principal,
+        start: &Path,
+    ) -> Result<Output, Halt>
+        ensures text { Gives text_view result (asked_if snap.tree who.now start.now (usage_asking self.now.expression.before self.now.expression.moment self.now.depth self.now.expression.words.now users.now)) }
+        ensures of_bytes { IfErr result IsOfBytes }
+    {
+        match self.expression.read(alloc, users) {
+            Ok(expression) => summed(alloc, snap, who, start, self.depth, expression),
             Err(halt) => {
                 drop(snap);
                 Err(halt)
@@ -382,6 +442,7 @@ pub(crate) enum Question<'a> {
     /// The start's record, and the sum of the rows that the user lists from it.
     Stat,
     Find(Find<'a>),
+    Usages(Usages<'a>),
     /// The rows one level below the start.
     Ls { long: bool, all: bool },
     /// A report over all rows that the user lists from the start.
@@ -399,12 +460,32 @@ impl<'a> Question<'a> {
     ) -> Question<'a>
         ensures { asks result ≡ find_asking common.now.user_at moment prefix.now words.now }
     {
-        Question::Find(Find {
-            user_at: common.user_at,
+        let expression = Expression {
+            before: common.user_at as usize,
             moment,
-            prefix: prefix.as_ref(),
             words: words.as_slice(),
+        };
+        Question::Find(Find {
+            expression,
+            prefix: prefix.as_ref(),
         })
+    }
+
+    /// DEPTH stands before its expression.
+    pub(crate) fn usages(
+        common: &Common,
+        moment: Option<i64>,
+        depth: u32,
+        words: &'a Items<Text>,
+    ) -> Question<'a>
+        ensures { asks result ≡ usage_asking (common.now.user_at + 1) moment depth words.now }
+    {
+        let expression = Expression {
+            before: common.user_at as usize + 1,
+            moment,
+            words: words.as_slice(),
+        };
+        Question::Usages(Usages { expression, depth })
     }
 
     pub(crate) fn query(
@@ -456,6 +537,7 @@ impl<'a> Question<'a> {
     {
         match self {
             Question::Find(find) => find.answer(walkers, alloc, users, snap, who, start),
+            Question::Usages(usages) => usages.answer(alloc, users, snap, who, start),
             Question::Query(query) => query.answer(walkers, alloc, snap, who, start),
             Question::Agg(aggregate) => aggregate.answer(walkers, alloc, users, snap, who, start),
             Question::Stat => {

@@ -24,11 +24,7 @@ use std::thread::Threads;
 
 // The principal that the word USER names.
 #[tactic(auto, unfolding(crate::specs::Verdict::user_in))]
-pub(crate) fn principal_of(
-    alloc: Global,
-    common: &Common,
-    users: &Users,
-) -> Result<Principal, Halt>
+pub(crate) fn principal_of(alloc: Global, common: &Common, users: &Users) -> Result<Principal, Halt>
     ensures who { Gives (λ (who : SeenPrincipal). who) result (user_in common.now users.now) }
     ensures of_bytes { IfErr result IsOfBytes }
 {
