@@ -1,5 +1,5 @@
 -- Lemmas on how a run goes.
-use Rattle.std.proofs.Common.{◌≡◌, ℕ, Bool, true, false, List, [], refl, ◌∙◌, subst, inl, inr}
+use Rattle.std.proofs.Common.{◌≡◌, ◌+◌, ℕ, Bool, true, false, List, [], refl, ◌∙◌, subst, inl, inr}
 use Rattle.std.specs.Prelude.{⊤, Option, Some, None, option_map, Result, Ok, Err, IfErr, Vec}
 use Rattle.std.specs.declared.alloc.Global.{Global}
 use Rattle.std.proofs.lemmas.Bool.{false≢true}
