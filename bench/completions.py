@@ -34,7 +34,7 @@ CASES = [
     ("gufi find --delim x i ana / -m", ["-mtime", "-mindepth"], ["-name"]),
     ("gufi find i ana ", [], ["lab.passwd", "-name"]),
     ("gufi du i ana / ", [], ["lab.passwd", "-name"]),
-    ("gufi du i ana / 2 ", ["-name", "-maxdepth", "-nogroup"], ["--now", "lab.passwd"]),
+    ("gufi du i ana / 2 ", ["-name", "-maxdepth", "-nogroup"], ["--passwd", "lab.passwd"]),
     ("gufi du --", ["--now", "--limit"], ["--workers", "--prefix"]),
     ("gufi diff tr", ["trace.lab"], []),
     ("gufi diff --limit=2 i tr", ["trace.lab"], ["lab.passwd"]),
